@@ -1,0 +1,4 @@
+pub mod Control
+pub mod Bytes
+pub mod Fields
+pub mod Parity

@@ -1,0 +1,119 @@
+// A packet from bytes, and back to bytes.
+use super::Packed;
+use super::Packet;
+use super::Taken;
+use super::control::kind_of;
+ghost use mathlib.Core.Path.{_≡_};
+ghost use mathlib.Core.Bool.{cond};
+ghost use lib.ListN.{length};
+ghost use Prim.Native.Nat.{_+_, _≤_, _<_};
+ghost use Rattle.packet.specs.Bytes.{wordAt, packetAt, usedType, notTaken, takenOf, packedAs, packedBytes};
+
+// The packet that stands in the bytes: 2 for a length other than 5 or 9, then 3 for type 11.
+pub fn take(s: &[u8]) -> Taken
+    ensures { λ r. ⌜ r ≡ takenOf (now (s .entry)) ⌝ }
+{
+    let n = s.len();
+    if n == 5 {
+        return used(five(s));
+    }
+    if n == 9 {
+        return used(nine(s));
+    }
+    not_taken(2)
+}
+
+// The packet's bytes again.
+pub fn bytes_of(p: Packet) -> Packed
+    ensures { λ r. ⌜ r ≡ packedBytes p ⌝ }
+{
+    if p.nine == 0 {
+        packed(p, 5, 0)
+    } else {
+        packed(p, 9, p.payload)
+    }
+}
+
+// A byte as a number.
+fn wide(b: u8) -> u32
+    ensures { λ r. ⌜ (r ≡ b) × (r < 256) ⌝ }
+{
+    b as u32
+}
+
+fn word_at(s: &[u8], at: usize) -> u32
+    requires { ⌜ at + 4 ≤ length (now s) ⌝ }
+    ensures { λ r. ⌜ r ≡ wordAt (now (s .entry)) at ⌝ }
+{
+    wide(s[at]) * 16777216 + wide(s[at + 1]) * 65536 + wide(s[at + 2]) * 256 + wide(s[at + 3])
+}
+
+fn five(s: &[u8]) -> Packet
+    requires { ⌜ length (now s) ≡ 5 ⌝ }
+    ensures { λ r. ⌜ r ≡ packetAt (now (s .entry)) ⌝ }
+{
+    Packet {
+        control: wide(s[0]),
+        nine: 0,
+        word: word_at(s, 1),
+        payload: 0,
+    }
+}
+
+fn nine(s: &[u8]) -> Packet
+    requires { ⌜ length (now s) ≡ 9 ⌝ }
+    ensures { λ r. ⌜ r ≡ packetAt (now (s .entry)) ⌝ }
+{
+    Packet {
+        control: wide(s[0]),
+        nine: 1,
+        word: word_at(s, 1),
+        payload: word_at(s, 5),
+    }
+}
+
+// The packet where its type is used, 3 where it is not.
+fn used(p: Packet) -> Taken
+    ensures { λ r. ⌜ r ≡ cond (usedType (p .control)) (record { refusal = 0; packet = p }) (notTaken 3) ⌝ }
+{
+    if kind_of(p.control) < 3 {
+        Taken {
+            refusal: 0,
+            packet: p,
+        }
+    } else {
+        not_taken(3)
+    }
+}
+
+fn not_taken(refusal: u32) -> Taken
+    ensures { λ r. ⌜ r ≡ notTaken refusal ⌝ }
+{
+    let packet = Packet {
+        control: 0,
+        nine: 0,
+        word: 0,
+        payload: 0,
+    };
+    Taken { refusal, packet }
+}
+
+fn packed(p: Packet, length: u32, payload: u32) -> Packed
+    ensures { λ r. ⌜ r ≡ packedAs p length payload ⌝ }
+{
+    Packed {
+        refusal: 0,
+        length,
+        bytes: [
+            (p.control % 256) as u8,
+            (p.word / 16777216) as u8,
+            (p.word / 65536 % 256) as u8,
+            (p.word / 256 % 256) as u8,
+            (p.word % 256) as u8,
+            (payload / 16777216) as u8,
+            (payload / 65536 % 256) as u8,
+            (payload / 256 % 256) as u8,
+            (payload % 256) as u8,
+        ],
+    }
+}
