@@ -1,2 +1,7 @@
+pub mod Determined
 pub mod Masks
 pub mod Ranges
+pub mod Refusals
+pub mod Rewrite
+pub mod RoundTrip
+pub mod Small

@@ -12,6 +12,7 @@ pub record EndRanges (f : Fields) : Type 0 where
   pub carries : f .carries < 2
   pub parity : f .parity < 2
   pub nine : f .nine < 2
+  pub absent : f .nine ≡ 0 → f .payload ≡ 0
 
 pub record McRanges (f : Fields) : Type 0 where
   pub mark : f .mark < 4
@@ -42,7 +43,15 @@ pub record NnRanges (f : Fields) : Type 0 where
   pub destination : f .destination ≡ 0
 
 pub end-ranges : (f : Fields) → inRange f ≡ true → EndRanges f
-end-ranges f h = omega (arith, ltb-true, eqb-true, simp and-eq-true-iff at h)
+end-ranges f h =
+    let t : _ = simp and-eq-true-iff at h in
+    record {
+      kind = omega (arith, ltb-true, t);
+      carries = omega (arith, ltb-true, t);
+      parity = omega (arith, ltb-true, t);
+      nine = omega (arith, ltb-true, t);
+      absent = λ e. omega (arith, eqb-true, simp (e, and-eq-true-iff) at h);
+    }
 
 pub mc-ranges : (f : Fields) → inRange f ≡ true → (f .kind ≡ 1 → ⊥) → (f .kind ≡ 2 → ⊥) → McRanges f
 mc-ranges f h not-p2p not-nn = omega (arith, ltb-true, eqb-true, simp (ne-eqb _ _ not-p2p, ne-eqb _ _ not-nn, and-eq-true-iff) at h)

@@ -1,5 +1,5 @@
 -- A packet as bytes: "Five bytes, or nine with a payload: a control byte, a 32-bit word, a 32-bit payload, both big-endian."
-use Prim.Native.Nat.{ℕ, _+_, _*_, _/_, _%_}
+use Prim.Native.Nat.{ℕ, _+_, _*_, _/_, _%_, _<_}
 use mathlib.Core.List.{List, [], _∷_, _++_}
 use mathlib.Core.Bool.{Bool, true, false, cond, _||_}
 use lib.ListN.{length, getD, take}
@@ -58,3 +58,7 @@ packedBytes p = cond (eqb (p .nine) 0) (packedAs p 5 0) (packedAs p 9 (p .payloa
 -- The bytes that an answer of packing holds.
 abbrev pub bytesIn : Packed → List ℕ
 bytesIn r = take (r .length) (r .bytes)
+
+-- Every number of the list is a byte (past its end `getD` gives 0).
+pub record AllBytes (s : List ℕ) : Type 0 where
+  pub byte : (i : ℕ) → getD s i 0 < 256

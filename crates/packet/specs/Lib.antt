@@ -2,3 +2,5 @@ pub mod Control
 pub mod Bytes
 pub mod Fields
 pub mod Parity
+pub mod Refusal
+pub mod Whole

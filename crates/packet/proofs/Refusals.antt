@@ -1,0 +1,51 @@
+-- Refusals are exact: the number that taking, reading and packing give is the first that applies. Assumes nothing.
+use mathlib.Core.Path.{_≡_, refl, sym, _∙_}
+use mathlib.Core.Bool.{Bool, true, false, cond, not}
+use mathlib.Core.List.{List}
+use Prim.Native.Nat.{ℕ}
+use lib.ListN.{getD}
+use lib.Dec.{eqb}
+use borrow.Author.Tests.{eqb-true}
+use Rattle.packet.specs.declared.Fields.{Fields}
+use Rattle.packet.specs.declared.Packet.{Packet}
+use Rattle.packet.specs.declared.Packed.{Packed}
+use Rattle.packet.specs.declared.Taken.{Taken}
+use Rattle.packet.specs.declared.FieldsRead.{FieldsRead}
+use Rattle.packet.specs.Bytes.{rightLength, usedType, packetAt, notTaken, takenOf, packedBytes, packedAs}
+use Rattle.packet.specs.Fields.{fieldsOf, noFields, readFrom, readOf, inRange, packetOf, notPacked, packedOf}
+use Rattle.packet.specs.Refusal.{firstOf, readRefusals, packRefusals}
+
+pub take-refuses : (s : List ℕ) → takenOf s .refusal ≡ firstOf (readRefusals s)
+take-refuses s = go (rightLength s) (usedType (getD s 0 0))
+  where
+    go : (a b : Bool)
+        → _≡_ {A = ℕ} ((cond a (cond b (record { refusal = 0; packet = packetAt s }) (notTaken 3)) (notTaken 2)) .refusal) (cond (not a) 2 (cond (not b) 3 0))
+    go true true = refl
+    go true false = refl
+    go false b = refl
+
+read-from-refuses : (t : Taken) → readFrom t .refusal ≡ t .refusal
+read-from-refuses t = go (eqb (t .refusal) 0) refl
+  where
+    go : (b : Bool) → eqb (t .refusal) 0 ≡ b
+        → (cond {A = FieldsRead} b (record { refusal = 0; fields = fieldsOf (t .packet) }) (record { refusal = t .refusal; fields = noFields })) .refusal ≡ t .refusal
+    go true e = sym (eqb-true _ _ e)
+    go false e = refl
+
+pub read-refuses : (s : List ℕ) → readOf s .refusal ≡ firstOf (readRefusals s)
+unfolding readOf
+read-refuses s = read-from-refuses (takenOf s) ∙ take-refuses s
+
+pub pack-refuses : (f : Fields) → packedOf f .refusal ≡ firstOf (packRefusals f)
+unfolding packedOf
+pack-refuses f = go (inRange f) (eqb (f .kind) 3) (eqb (f .nine) 0)
+  where
+    bytes : Bool → Packed
+    bytes c = cond c (packedAs (packetOf f) 5 0) (packedAs (packetOf f) 9 (f .payload))
+
+    go : (a b c : Bool)
+        → _≡_ {A = ℕ} ((cond a (cond b (notPacked 3) (bytes c)) (notPacked 6)) .refusal) (cond (not a) 6 (cond b 3 0))
+    go true true c = refl
+    go true false true = refl
+    go true false false = refl
+    go false b c = refl
