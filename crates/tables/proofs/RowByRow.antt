@@ -1,0 +1,67 @@
+-- The search, row by row: what is known of the whole table from the rows that are still to come. Assumes nothing.
+use mathlib.Core.Path.{_≡_, refl, sym, ap, _∙_, subst}
+use mathlib.Core.Bool.{Bool, true, false, cond}
+use mathlib.Core.List.{List, [], _∷_}
+use Prim.Native.Nat.{ℕ, zero, suc, _+_, _*_, _/_, _<_, _≤_}
+use native.Mathlib.Nat.{add-zero}
+use native.Mathlib.Numerals.{add-one}
+use native.Mathlib.Omega.{arith}
+use lib.ListN.{length, getD, drop, length-drop}
+use lib.Seq.{drop-cons}
+use Rattle.tables.specs.declared.Found.{Found}
+use Rattle.tables.specs.declared.Found.the-variants.{At, Nothing}
+use Rattle.tables.specs.Rows.{Entry, matches, rowsOf, next, firstMatch}
+
+-- what a search finds, i rows further on
+abbrev pub later : ℕ → Found → Found
+later i (At n) = At (i + n)
+later i Nothing = Nothing
+
+pub later-zero : (f : Found) → later 0 f ≡ f
+later-zero (At n) = ap At (omega arith)
+later-zero Nothing = refl
+
+later-next : (i : ℕ) (f : Found) → later i (next f) ≡ later (i + 1) f
+later-next i (At n) = ap At (omega arith)
+later-next i Nothing = refl
+
+module _ (s : List ℕ) (i : ℕ) where
+  pub rows-step : i * 3 + 2 < length s
+      → rowsOf (drop (i * 3) s)
+      ≡ record { key = getD s (i * 3) 0; mask = getD s (i * 3 + 1) 0; route = getD s (i * 3 + 2) 0 } ∷ rowsOf (drop ((i + 1) * 3) s)
+  unfolding rowsOf
+  rows-step h =
+      let j : ℕ = i * 3 in
+      let h₀ : j < length s = omega arith in
+      let h₁ : suc j < length s = omega arith in
+      let h₂ : suc (suc j) < length s = omega arith in
+      let e₁ : suc j ≡ j + 1 = omega arith in
+      let e₂ : suc (suc j) ≡ j + 2 = omega arith in
+      let e₃ : suc (suc (suc j)) ≡ (i + 1) * 3 = omega arith in
+      ap rowsOf (drop-cons s j 0 h₀ ∙ ap (λ (l : List ℕ). getD s j 0 ∷ l) (drop-cons s (suc j) 0 h₁ ∙ ap (λ (l : List ℕ). getD s (suc j) 0 ∷ l) (drop-cons s (suc (suc j)) 0 h₂)))
+      ∙ (λ k. record { key = getD s j 0; mask = getD s (e₁ k) 0; route = getD s (e₂ k) 0 } ∷ rowsOf (drop (e₃ k) s))
+
+  pub rows-end : length s / 3 ≤ i → rowsOf (drop (i * 3) s) ≡ []
+  unfolding rowsOf
+  rows-end h = none (drop (i * 3) s) (subst (λ (n : ℕ). n < 3) (sym (length-drop (i * 3) s)) (omega arith))
+    where
+      none : (l : List ℕ) → length l < 3 → rowsOf l ≡ []
+      none [] h = refl
+      none (a ∷ []) h = refl
+      none (a ∷ b ∷ []) h = refl
+      none (a ∷ b ∷ c ∷ l) h = absurd (omega arith)
+
+  module _ (key : ℕ) where
+    pub search-here : i * 3 + 2 < length s → matches key (getD s (i * 3) 0) (getD s (i * 3 + 1) 0) ≡ true
+        → firstMatch key (rowsOf (drop (i * 3) s)) ≡ At 0
+    unfolding firstMatch
+    search-here h m = ap (firstMatch key) (rows-step h) ∙ simp m
+
+    pub search-on : i * 3 + 2 < length s → matches key (getD s (i * 3) 0) (getD s (i * 3 + 1) 0) ≡ false
+        → later i (firstMatch key (rowsOf (drop (i * 3) s))) ≡ later (i + 1) (firstMatch key (rowsOf (drop ((i + 1) * 3) s)))
+    unfolding firstMatch
+    search-on h m = ap (λ (l : List Entry). later i (firstMatch key l)) (rows-step h) ∙ simp m (later-next i (firstMatch key (rowsOf (drop ((i + 1) * 3) s))))
+
+    pub search-end : length s / 3 ≤ i → firstMatch key (rowsOf (drop (i * 3) s)) ≡ Nothing
+    unfolding firstMatch
+    search-end h = ap (firstMatch key) (rows-end h)

@@ -1,0 +1,27 @@
+-- Which lent tables are acceptable. Refusal 5: "over 1,024 rows for a chip, route bit 26 to 31 set"; 11: "P2P table of wrong size, or a code
+-- above 7".
+use Prim.Native.Nat.{ℕ, _/_, _%_, _^_}
+use mathlib.Core.Bool.{Bool, true, _&&_}
+use mathlib.Core.List.{List, [], _∷_}
+use lib.Dec.{eqb, ltb, leb}
+use lib.ListN.{length}
+use Rattle.tables.specs.Rows.{Entry, rowsOf}
+
+-- "Route bits 0 to 5 are links, 6 to 25 are processors 0 to 19."
+unfoldable pub allRoutes : List Entry → Bool
+allRoutes [] = true
+allRoutes (r ∷ rs) = ltb (r .route) 67108864 && allRoutes rs
+
+-- Numbers that are no whole number of rows are no rows.
+abbrev pub routesFine : List ℕ → Bool
+routesFine s = eqb (length s % 3) 0 && allRoutes (rowsOf s)
+
+abbrev pub rowsFine : List ℕ → Bool
+rowsFine s = leb (length s / 3) 1024 && routesFine s
+
+unfoldable pub allCodes : List ℕ → Bool
+allCodes [] = true
+allCodes (c ∷ cs) = ltb c 8 && allCodes cs
+
+abbrev pub codesFine : List ℕ → ℕ → Bool
+codesFine s n = eqb (length s) n && allCodes s

@@ -1,0 +1,3 @@
+pub mod Accept
+pub mod Codes
+pub mod Rows

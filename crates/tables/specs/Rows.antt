@@ -1,0 +1,40 @@
+-- "An MC table is a run of rows, each with key, mask and route. ... A row matches when packet key AND mask equals row key AND mask; the search
+-- stops at the first row that matches."
+use Prim.Native.Nat.{ℕ, suc}
+use mathlib.Core.Bool.{Bool, cond}
+use mathlib.Core.List.{List, [], _∷_}
+use lib.Bits.{bitAnd}
+use lib.Dec.{eqb}
+use lib.ListN.{length, getD}
+use Rattle.tables.specs.declared.Found.{Found}
+use Rattle.tables.specs.declared.Found.the-variants.{At, Nothing}
+
+pub record Entry : Type 0 where
+  pub key : ℕ
+  pub mask : ℕ
+  pub route : ℕ
+
+abbrev pub matches : ℕ → ℕ → ℕ → Bool
+matches key row mask = eqb (bitAnd key mask) (bitAnd row mask)
+
+-- Three numbers a row.
+unfoldable pub rowsOf : List ℕ → List Entry
+rowsOf [] = []
+rowsOf (k ∷ []) = []
+rowsOf (k ∷ m ∷ []) = []
+rowsOf (k ∷ m ∷ r ∷ rest) = record { key = k; mask = m; route = r } ∷ rowsOf rest
+
+-- One row further on.
+abbrev pub next : Found → Found
+next (At n) = At (suc n)
+next Nothing = Nothing
+
+unfoldable pub firstMatch : ℕ → List Entry → Found
+firstMatch key [] = Nothing
+firstMatch key (r ∷ rs) = cond (matches key (r .key) (r .mask)) (At 0) (next (firstMatch key rs))
+
+abbrev pub noRow : Entry
+noRow = record { key = 0; mask = 0; route = 0 }
+
+abbrev pub routeAt : List Entry → ℕ → ℕ
+routeAt rows n = getD rows n noRow .route

@@ -1,0 +1,55 @@
+// What makes lent tables acceptable.
+ghost use mathlib.Core.Path.{_≡_};
+ghost use Rattle.tables.specs.Accept.{routesFine, rowsFine, codesFine};
+
+// The most rows that a chip's table has.
+pub const MOST_ROWS: usize = 1024;
+
+// The lowest route bit that names neither a link nor a processor.
+const ROUTES: u32 = 0x0400_0000;
+
+// One chip's rows: a whole number of them, at most 1,024, no route bit 26 to 31.
+pub fn rows_fine(rows: &[u32]) -> bool
+    ensures { λ r. ⌜ r ≡ rowsFine (now (rows .entry)) ⌝ }
+{
+    if rows.len() / 3 <= MOST_ROWS {
+        routes_fine(rows)
+    } else {
+        false
+    }
+}
+
+// Rows of any number of chips: a whole number of them, no route bit 26 to 31.
+pub fn routes_fine(rows: &[u32]) -> bool
+    ensures { λ r. ⌜ r ≡ routesFine (now (rows .entry)) ⌝ }
+{
+    if rows.len() % 3 != 0 {
+        return false;
+    }
+    let count = rows.len() / 3;
+    let mut i = 0;
+    while i < count {
+        if ROUTES <= rows[i * 3 + 2] {
+            return false;
+        }
+        i += 1;
+    }
+    true
+}
+
+// P2P codes: as many as asked for, none above 7.
+pub fn codes_fine(codes: &[u8], count: usize) -> bool
+    ensures { λ r. ⌜ r ≡ codesFine (now (codes .entry)) count ⌝ }
+{
+    if codes.len() != count {
+        return false;
+    }
+    let mut i = 0;
+    while i < codes.len() {
+        if 8 <= codes[i] {
+            return false;
+        }
+        i += 1;
+    }
+    true
+}

@@ -1,0 +1,10 @@
+// The tables that a caller lends: MC rows and the search through them, P2P codes, and what makes them acceptable.
+pub mod accept;
+pub mod codes;
+pub mod search;
+
+// What a search finds: the number of the first matching row, or nothing.
+pub enum Found {
+    At(usize),
+    Nothing,
+}
