@@ -10,7 +10,7 @@ use lib.ListN.{length, getD, drop, length-drop}
 use lib.Seq.{drop-cons}
 use Rattle.tables.specs.declared.Found.{Found}
 use Rattle.tables.specs.declared.Found.the-variants.{At, Nothing}
-use Rattle.tables.specs.Rows.{Entry, matches, rowsOf, next, firstMatch}
+use Rattle.tables.specs.Rows.{Entry, matches, rowsOf, next, firstMatch, routeAt}
 
 -- what a search finds, i rows further on
 abbrev pub later : ℕ → Found → Found
@@ -65,3 +65,34 @@ module _ (s : List ℕ) (i : ℕ) where
     pub search-end : length s / 3 ≤ i → firstMatch key (rowsOf (drop (i * 3) s)) ≡ Nothing
     unfolding firstMatch
     search-end h = ap (firstMatch key) (rows-end h)
+
+-- ---- the row that a search names is there
+
+next-at : (f : Found) (n : ℕ) → next f ≡ At n → (m : ℕ) × (n ≡ suc m) × (f ≡ At m)
+next-at (At m) n e = (m, cc, refl)
+next-at Nothing n e = let z : _≡_ {A = ℕ} 0 1 = cc in absurd (omega arith)
+
+abbrev Row-there : List ℕ → ℕ → Type 0
+unfolding rowsOf
+Row-there s n = (n * 3 + 2 < length s) × (routeAt (rowsOf s) n ≡ getD s (n * 3 + 2) 0)
+
+pub match-row : (key : ℕ) (s : List ℕ) (n : ℕ) → firstMatch key (rowsOf s) ≡ At n → (n * 3 + 2 < length s) × (routeAt (rowsOf s) n ≡ getD s (n * 3 + 2) 0)
+unfolding rowsOf firstMatch
+match-row key [] n e = let z : _≡_ {A = ℕ} 0 1 = cc in absurd (omega arith)
+match-row key (k ∷ []) n e = let z : _≡_ {A = ℕ} 0 1 = cc in absurd (omega arith)
+match-row key (k ∷ m ∷ []) n e = let z : _≡_ {A = ℕ} 0 1 = cc in absurd (omega arith)
+match-row key (k ∷ m ∷ r ∷ rest) n e = go (matches key k m) refl (λ i h. match-row key rest i h)
+  where
+    here : (i : ℕ) → At 0 ≡ At i → Row-there (k ∷ m ∷ r ∷ rest) i
+    here i z = let o : 0 ≡ i = cc in subst (λ (j : ℕ). Row-there (k ∷ m ∷ r ∷ rest) j) o (omega arith, refl)
+
+    on : (i : ℕ) → Row-there rest i → Row-there (k ∷ m ∷ r ∷ rest) (suc i)
+    on i h =
+        let three : suc i * 3 + 2 ≡ suc (suc (suc (i * 3 + 2))) = omega arith in
+        (omega (arith, h .0), h .1 ∙ ap (λ (j : ℕ). getD (k ∷ m ∷ r ∷ rest) j 0) (sym three))
+
+    go : (b : Bool) → matches key k m ≡ b → ((i : ℕ) → firstMatch key (rowsOf rest) ≡ At i → Row-there rest i) → Row-there (k ∷ m ∷ r ∷ rest) n
+    go true b ih = here n (simp b at e)
+    go false b ih =
+        let found = next-at (firstMatch key (rowsOf rest)) n (simp b at e) in
+        subst (λ (j : ℕ). Row-there (k ∷ m ∷ r ∷ rest) j) (sym (found .1)) (on (found .0) (ih (found .0) (found .2)))

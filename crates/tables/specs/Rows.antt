@@ -8,6 +8,8 @@ use lib.Dec.{eqb}
 use lib.ListN.{length, getD}
 use Rattle.tables.specs.declared.Found.{Found}
 use Rattle.tables.specs.declared.Found.the-variants.{At, Nothing}
+use Rattle.tables.specs.declared.Matched.{Matched}
+use Rattle.tables.specs.declared.Matched.the-variants.{Route, Missed}
 
 pub record Entry : Type 0 where
   pub key : ℕ
@@ -38,3 +40,11 @@ noRow = record { key = 0; mask = 0; route = 0 }
 
 abbrev pub routeAt : List Entry → ℕ → ℕ
 routeAt rows n = getD rows n noRow .route
+
+-- What the table says of a key: the first matching row's route, or that no row matches.
+abbrev pub routeOf : List Entry → Found → Matched
+routeOf rows (At n) = Route (routeAt rows n)
+routeOf rows Nothing = Missed
+
+abbrev pub routeFor : ℕ → List Entry → Matched
+routeFor key rows = routeOf rows (firstMatch key rows)

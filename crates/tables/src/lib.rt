@@ -8,3 +8,9 @@ pub enum Found {
     At(usize),
     Nothing,
 }
+
+// What a key's table says of it: the route of the first matching row, or that no row matches.
+pub enum Matched {
+    Route(u32),
+    Missed,
+}

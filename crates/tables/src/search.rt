@@ -1,8 +1,22 @@
 // The search through an MC table, lent as one slice of numbers, three a row: key, mask, route.
 use super::Found;
+use super::Matched;
 ghost use mathlib.Core.Path.{_≡_};
-ghost use Rattle.tables.specs.Rows.{matches, rowsOf, firstMatch, routeAt};
+ghost use lib.ListN.{length, getD};
+ghost use Prim.Native.Nat.{_+_, _*_, _<_};
+ghost use Rattle.tables.specs.Rows.{matches, rowsOf, firstMatch, routeFor};
 
+// The route of the first row that matches the key.
+pub fn route_for(rows: &[u32], key: u32) -> Matched
+    ensures { λ r. ⌜ r ≡ routeFor key (rowsOf (now (rows .entry))) ⌝ }
+{
+    match first_match(rows, key) {
+        Found::At(n) => Matched::Route(route_at(rows, n)),
+        Found::Nothing => Matched::Missed,
+    }
+}
+
+// The number of the first row that matches the key.
 pub fn first_match(rows: &[u32], key: u32) -> Found
     ensures { λ r. ⌜ r ≡ firstMatch key (rowsOf (now (rows .entry))) ⌝ }
 {
@@ -28,4 +42,11 @@ fn matches_row(key: u32, row_key: u32, mask: u32) -> bool
     ensures { λ r. ⌜ r ≡ matches key «row_key» mask ⌝ }
 {
     (key & mask) == (row_key & mask)
+}
+
+fn route_at(rows: &[u32], n: usize) -> u32
+    requires { ⌜ n * 3 + 2 < length (now rows) ⌝ }
+    ensures { λ r. ⌜ r ≡ getD (now (rows .entry)) (n * 3 + 2) 0 ⌝ }
+{
+    rows[n * 3 + 2]
 }
