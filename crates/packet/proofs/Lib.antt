@@ -1,4 +1,5 @@
 pub mod Determined
+pub mod First
 pub mod Masks
 pub mod Ranges
 pub mod Refusals

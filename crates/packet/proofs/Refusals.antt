@@ -2,7 +2,8 @@
 use mathlib.Core.Path.{_≡_, refl, sym, _∙_}
 use mathlib.Core.Bool.{Bool, true, false, cond, not}
 use mathlib.Core.List.{List}
-use Prim.Native.Nat.{ℕ}
+use Prim.Native.Nat.{ℕ, suc}
+use native.Mathlib.Omega.{arith}
 use lib.ListN.{getD}
 use lib.Dec.{eqb}
 use borrow.Author.Tests.{eqb-true}
@@ -23,6 +24,32 @@ take-refuses s = go (rightLength s) (usedType (getD s 0 0))
     go true true = refl
     go true false = refl
     go false b = refl
+
+-- bytes that are accepted: their length and type are right, and the packet is the one that stands in them
+pub record Accepted (s : List ℕ) : Type 0 where
+  pub length : rightLength s ≡ true
+  pub used : usedType (getD s 0 0) ≡ true
+  pub taken : takenOf s ≡ record { refusal = 0; packet = packetAt s }
+
+pub take-accepts : (s : List ℕ) → takenOf s .refusal ≡ 0 → Accepted s
+take-accepts s h = go (rightLength s) refl (usedType (getD s 0 0)) refl
+  where
+    no : (n m : ℕ) → n ≡ 0 → n ≡ suc m → ⊥
+    no n m e f = omega arith
+
+    go : (a : Bool) → rightLength s ≡ a → (b : Bool) → usedType (getD s 0 0) ≡ b → Accepted s
+    go true e true f = record { length = e; used = f; taken = simp (e, f) }
+    go true e false f = absurd (no (takenOf s .refusal) 2 h (simp (e, f)))
+    go false e b f = absurd (no (takenOf s .refusal) 1 h (simp e))
+
+-- and bytes that are not: nothing is taken
+pub take-refused : (s : List ℕ) → (takenOf s .refusal ≡ 0 → ⊥) → takenOf s ≡ notTaken (takenOf s .refusal)
+take-refused s h = go (rightLength s) refl (usedType (getD s 0 0)) refl
+  where
+    go : (a : Bool) → rightLength s ≡ a → (b : Bool) → usedType (getD s 0 0) ≡ b → takenOf s ≡ notTaken (takenOf s .refusal)
+    go true e true f = absurd (h (simp (e, f)))
+    go true e false f = simp (e, f)
+    go false e b f = simp e
 
 read-from-refuses : (t : Taken) → readFrom t .refusal ≡ t .refusal
 read-from-refuses t = go (eqb (t .refusal) 0) refl

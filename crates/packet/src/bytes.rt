@@ -86,7 +86,8 @@ fn used(p: Packet) -> Taken
     }
 }
 
-fn not_taken(refusal: u32) -> Taken
+// A refusal: its number, and zeros elsewhere.
+pub fn not_taken(refusal: u32) -> Taken
     ensures { λ r. ⌜ r ≡ notTaken refusal ⌝ }
 {
     let packet = Packet {

@@ -1,8 +1,10 @@
 // The ten counters of a chip.
+use super::Counters;
+use super::Outcome;
 use super::errors::flag_of;
 use super::keeping::drop_count;
-use super::{Counters, Outcome};
-use packet::control::{kind_of, mark_of};
+use packet::control::kind_of;
+use packet::control::mark_of;
 use std::num::wrapping_add_u32;
 ghost use mathlib.Core.Path.{_≡_};
 ghost use Prim.Native.Nat.{_≤_};

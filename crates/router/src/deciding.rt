@@ -1,10 +1,19 @@
 // What a pass does with a packet: the steps put together.
-use super::detour::{carry_set, drop_set, plain_drop_set, plain_send_set, send_set};
-use super::errors::{errors_of, stamped_of};
-use super::wants::{bit, wanted_of};
-use super::{Outcome, Setting, Wanted};
+use super::Outcome;
+use super::Setting;
+use super::Wanted;
+use super::detour::carry_set;
+use super::detour::drop_set;
+use super::detour::plain_drop_set;
+use super::detour::plain_send_set;
+use super::detour::send_set;
+use super::errors::errors_of;
+use super::errors::stamped_of;
+use super::wants::bit;
+use super::wants::wanted_of;
 use packet::Packet;
-use packet::control::{kind_of, mark_of};
+use packet::control::kind_of;
+use packet::control::mark_of;
 use packet::parity::with_mark;
 ghost use mathlib.Core.Path.{_≡_};
 ghost use Prim.Native.Nat.{_<_};

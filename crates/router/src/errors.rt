@@ -1,7 +1,11 @@
 // The errors of a packet, and the stamping of a local one.
 use packet::Packet;
-use packet::control::{carries_of, kind_of, mark_of, stamp_of};
-use packet::parity::{is_odd, with_stamp};
+use packet::control::carries_of;
+use packet::control::kind_of;
+use packet::control::mark_of;
+use packet::control::stamp_of;
+use packet::parity::is_odd;
+use packet::parity::with_stamp;
 ghost use mathlib.Core.Path.{_≡_};
 ghost use Prim.Native.Nat.{_≤_};
 ghost use Rattle.router.specs.Errors.{tooOld, wrongLength, badLocal, flag, errorsOf, stampedOf};

@@ -1,6 +1,7 @@
 // The error registers: the first dropped unit, and whether more followed.
+use super::Outcome;
+use super::Registers;
 use super::errors::flag_of;
-use super::{Outcome, Registers};
 ghost use mathlib.Core.Path.{_≡_};
 ghost use Prim.Native.Nat.{_<_, _≤_};
 ghost use Rattle.router.specs.Keeping.{empty, isEmpty, dropCount, lowest, firstDrop, withMore, keptOf};
@@ -13,7 +14,11 @@ pub fn kept_of(r: Registers, o: Outcome) -> Registers
     if drop_count(o) == 0 {
         return r;
     }
-    if is_empty(r) { first_drop(o) } else { with_more(r) }
+    if is_empty(r) {
+        first_drop(o)
+    } else {
+        with_more(r)
+    }
 }
 
 pub fn empty_registers() -> Registers

@@ -1,10 +1,12 @@
 // One pass of one router: errors, the wanted set, detours, the second leg, drops, deliveries, registers and counters;
 // and the call that takes anything and refuses.
+pub mod call;
 pub mod counting;
 pub mod deciding;
 pub mod detour;
 pub mod errors;
 pub mod keeping;
+pub mod showing;
 pub mod wants;
 
 use packet::Packet;
@@ -54,4 +56,22 @@ pub struct Registers {
 #[repr(C)]
 pub struct Counters {
     pub count: [u32; 10],
+}
+
+// What the one-router call answers.
+#[repr(C)]
+pub struct Pass {
+    pub refusal: u32,
+    pub errors: u32,
+    pub wanted: u32,
+    pub sent: u32,
+    pub dropped: u32,
+    pub leg_sent: u32,
+    pub leg_dropped: u32,
+    pub processors: u32,
+    pub delivered: Packet,
+    pub packets: [Packet; 6],
+    pub leg: Packet,
+    pub registers: Registers,
+    pub counters: Counters,
 }

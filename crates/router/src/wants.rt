@@ -1,7 +1,10 @@
 // The wanted set of a packet: by type, then by mark and NN route.
-use super::{Setting, Wanted};
+use super::Setting;
+use super::Wanted;
 use packet::Packet;
-use packet::control::{kind_of, mark_of, route_of};
+use packet::control::kind_of;
+use packet::control::mark_of;
+use packet::control::route_of;
 use tables::Matched;
 use tables::codes::code_for;
 use tables::search::route_for;
@@ -11,7 +14,14 @@ ghost use Prim.Native.Nat.{_*_, _^_, _≤_, _<_};
 ghost use Rattle.router.specs.Links.{monitorBit};
 ghost use Rattle.router.specs.Wants.{wants, missWanted, matchWanted, mcWanted, numberWanted, p2pWanted, nnWanted, wantedOf};
 
-pub fn wanted_of(errors: u32, p: Packet, source: u32, rows: &[u32], codes: &[u8], t: Setting) -> Wanted
+pub fn wanted_of(
+    errors: u32,
+    p: Packet,
+    source: u32,
+    rows: &[u32],
+    codes: &[u8],
+    t: Setting,
+) -> Wanted
     requires { ⌜ (source < 8) × ((t .monitor < 20) × ((t .width ≤ 12) × ((t .height ≤ 12) × (t .height * t .width ≤ length (now codes))))) ⌝ }
     ensures { λ r. ⌜ r ≡ wantedOf errors p source (now (rows .entry)) (now (codes .entry)) t ⌝ }
 {
@@ -66,7 +76,11 @@ fn p2p_wanted(p: Packet, codes: &[u8], t: Setting) -> u32
     requires { ⌜ (t .monitor < 20) × ((t .width ≤ 12) × ((t .height ≤ 12) × (t .height * t .width ≤ length (now codes)))) ⌝ }
     ensures { λ r. ⌜ r ≡ p2pWanted p (now (codes .entry)) t ⌝ }
 {
-    number_wanted(code_for(codes, t.width, t.height, p.word % 65536), 0, t.monitor)
+    number_wanted(
+        code_for(codes, t.width, t.height, p.word % 65536),
+        0,
+        t.monitor,
+    )
 }
 
 fn nn_wanted(p: Packet, source: u32, monitor: u32) -> u32

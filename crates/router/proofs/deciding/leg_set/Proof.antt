@@ -27,10 +27,11 @@ bit-requires c κs = search needs
 -- src/deciding.rt:72:1
 returns : tie.Need-returns
 unfolding every
-returns c = 
-    let e = c .before .before .before .args .source in
-    (c .bit .ensures ∙ simp (sym (c .before .before .has-leg .ensures) ∙ c .before .if1 .taken),
-    rw (c .bit .ensures) (ltb-true _ _ (at 6 (λ i. ltb (2 ^ i) 64) refl ((e + 5) % 6) (mod-lt (e + 5) (lit< tt)))))
+returns c =
+    let e = c .before .before .before .args .source in (
+      c .bit .ensures ∙ simp (sym (c .before .before .has-leg .ensures) ∙ c .before .if1 .taken),
+      rw (c .bit .ensures) (ltb-true _ _ (at 6 (λ i. ltb (2 ^ i) 64) refl ((e + 5) % 6) (mod-lt (e + 5) (lit< tt)))),
+    )
 
 -- src/deciding.rt:72:1
 returns-2 : tie.Need-returns-2

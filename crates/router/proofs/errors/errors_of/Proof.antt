@@ -55,7 +55,7 @@ add-result-3 c = search needs
 
 -- src/errors.rt:9:1
 returns : tie.Need-returns
-returns c = 
+returns c =
     (simp (c .before .before .before .before .before .before .flag-of .ensures .0, c .before .before .before .before .before .before .before .is-odd .ensures, c .before .before .before .before .flag-of2 .ensures .0, c .before .before .before .before .before .too-old .ensures, c .before .before .flag-of3 .ensures .0, c .before .before .before .wrong-length .ensures, c .flag-of4 .ensures .0, c .before .bad-local .ensures), search needs)
 
 pub errors-of-spec : {M : Type 1} → statement M

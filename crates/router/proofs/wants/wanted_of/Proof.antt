@@ -58,7 +58,7 @@ returns-2 c = c .alone .ensures ∙ simp (c .before .p2p-wanted .ensures, eq-eqb
 -- src/wants.rt:14:1
 returns-3 : tie.Need-returns-3
 unfolding wantedOf
-returns-3 c = 
+returns-3 c =
     let k = c .before .before .before .kind-of .ensures in
     let n = c .before .before .match .rest in
     c .alone2 .ensures ∙ simp (c .before .nn-wanted .ensures, eq-eqb _ _ (c .before .before .before .before .if1 .taken), ne-eqb _ _ (rw k at (n .0 .1)), ne-eqb _ _ (rw k at (n .1)))

@@ -1,0 +1,134 @@
+-- What is known of the inputs of the one-router call once nothing is refused. Assumes nothing.
+use mathlib.Core.Path.{_≡_, refl, sym, ap, _∙_, subst}
+use mathlib.Core.Bool.{Bool, true, false, cond, not, _&&_, _||_, and-eq-true-iff}
+use mathlib.Core.List.{List, [], _∷_, _++_}
+use Prim.Native.Nat.{ℕ, zero, suc, _*_, _≤_, _<_}
+use native.Mathlib.Nat.{mul-le-mul, le-of-eq}
+use native.Mathlib.Omega.{arith}
+use lib.Dec.{eqb, ltb, leb}
+use lib.ListN.{length, getD}
+use borrow.Author.Tests.{leb-true, eqb-true, eq-eqb, ne-eqb, not-false}
+use Rattle.packet.specs.declared.Packet.{Packet}
+use Rattle.packet.specs.declared.Taken.{Taken}
+use Rattle.packet.specs.Bytes.{packetAt, notTaken, takenOf}
+use Rattle.packet.specs.Refusal.{Refusal, firstOf, readRefusals}
+use Rattle.packet.proofs.Refusals.{take-refuses, take-refused, take-accepts}
+use Rattle.packet.proofs.First.{first-append, none-applies}
+use Rattle.tables.specs.Accept.{rowsFine, codesFine, allCodes}
+use Rattle.router.specs.declared.Setting.{Setting}
+use Rattle.router.specs.Deciding.{Checked}
+use Rattle.router.specs.Call.{sizeFine, settingFine, sourceFine, isDirect, refuse, settingRefusals, packetRefusals, passRefusals, checkedOf}
+
+pub record Size (width height : ℕ) : Type 0 where
+  pub width-low : 1 ≤ width
+  pub width-high : width ≤ 12
+  pub height-low : 1 ≤ height
+  pub height-high : height ≤ 12
+
+pub size : (width height : ℕ) → sizeFine width height ≡ true → Size width height
+size width height e = omega (arith, leb-true, simp and-eq-true-iff at e)
+
+-- a mesh has at most 144 chips
+pub chips-small : (width height : ℕ) → sizeFine width height ≡ true → height * width ≤ 144
+chips-small width height e = let s : Size width height = size width height e in mul-le-mul (s .height-high) (s .width-high)
+
+source-small : (source : ℕ) → sourceFine source ≡ true → source < 8
+source-small source e = go (leb source 5) refl
+  where
+    go : (b : Bool) → leb source 5 ≡ b → source < 8
+    go true f = omega (arith, leb-true source 5 f)
+    go false f = omega (arith, eqb-true source 7 (simp f at e))
+
+-- each test of the setting has passed
+pub record Fine (source : ℕ) (rows codes : List ℕ) (t : Setting) : Type 0 where
+  pub sized : sizeFine (t .width) (t .height) ≡ true
+  pub setting : settingFine t ≡ true
+  pub tabled : rowsFine rows ≡ true
+  pub coded : codesFine codes (t .height * t .width) ≡ true
+  pub sourced : sourceFine source ≡ true
+
+pub fine : (source : ℕ) (rows codes : List ℕ) (t : Setting) → firstOf (settingRefusals source rows codes t) ≡ 0 → Fine source rows codes t
+fine source rows codes t e =
+    let off = none-applies (settingRefusals source rows codes t) refl e in
+    record {
+      sized = not-false _ (off .0);
+      setting = not-false _ (off .1 .0);
+      tabled = not-false _ (off .1 .1 .0);
+      coded = not-false _ (off .1 .1 .1 .0);
+      sourced = not-false _ (off .1 .1 .1 .1 .0);
+    }
+
+pub checked : (p : Packet) (source : ℕ) (rows codes : List ℕ) (t : Setting) → p .control < 256 → Fine source rows codes t → Checked p source codes t
+checked p source rows codes t hc f =
+    let s : Size (t .width) (t .height) = size (t .width) (t .height) (f .sized) in
+    let h : _ = simp and-eq-true-iff at (f .setting) in
+    let k : length codes ≡ t .height * t .width = eqb-true _ _ (and-eq-true-iff (eqb (length codes) (t .height * t .width)) (allCodes codes) .0 (f .coded) .0) in
+    record {
+      control = hc;
+      from = source-small source (f .sourced);
+      monitor = omega (arith, leb-true, h);
+      phase = omega (arith, leb-true, h);
+      ready = omega (arith, leb-true, h);
+      width = s .width-high;
+      height = s .height-high;
+      enough = le-of-eq (sym k);
+    }
+
+-- ---- what the checks find, one after the other
+
+module _ (bytes : List ℕ) (source : ℕ) (rows codes : List ℕ) (t : Setting) where
+  found : ℕ → Taken
+  found n = cond (eqb n 0) (record { refusal = 0; packet = packetAt bytes }) (notTaken n)
+
+  pub refused-setting : (n : ℕ) → firstOf (settingRefusals source rows codes t) ≡ n → (n ≡ 0 → ⊥) → checkedOf bytes source rows codes t ≡ notTaken n
+  unfolding checkedOf found
+  refused-setting n e some =
+      let first : firstOf (passRefusals bytes source rows codes t) ≡ n =
+      first-append (settingRefusals source rows codes t) (packetRefusals bytes) refl ∙ simp (e, ne-eqb n 0 some) in
+      ap found first ∙ simp (ne-eqb n 0 some)
+
+  module _ (fine-setting : firstOf (settingRefusals source rows codes t) ≡ 0) where
+    by-packet : checkedOf bytes source rows codes t ≡ found (cond (eqb (takenOf bytes .refusal) 0) (cond (isDirect (getD bytes 0 0)) 4 0) (takenOf bytes .refusal))
+    unfolding checkedOf found
+    by-packet =
+        let packet : firstOf (packetRefusals bytes) ≡ cond (eqb (takenOf bytes .refusal) 0) (cond (isDirect (getD bytes 0 0)) 4 0) (takenOf bytes .refusal) =
+        rw (take-refuses bytes) (first-append (readRefusals bytes) (refuse (isDirect (getD bytes 0 0)) 4 ∷ []) refl) in
+        let first : firstOf (passRefusals bytes source rows codes t) ≡ firstOf (packetRefusals bytes) =
+        first-append (settingRefusals source rows codes t) (packetRefusals bytes) refl ∙ simp fine-setting in
+        ap found (first ∙ packet)
+
+    pub refused-packet : (takenOf bytes .refusal ≡ 0 → ⊥) → checkedOf bytes source rows codes t ≡ takenOf bytes
+    unfolding found
+    refused-packet some = by-packet ∙ simp (ne-eqb _ _ some) (sym (take-refused bytes some))
+
+    pub refused-direct : takenOf bytes .refusal ≡ 0 → isDirect (getD bytes 0 0) ≡ true → checkedOf bytes source rows codes t ≡ notTaken 4
+    unfolding found
+    refused-direct e d = by-packet ∙ simp (eq-eqb _ _ e, d)
+
+    pub accepted : takenOf bytes .refusal ≡ 0 → isDirect (getD bytes 0 0) ≡ false → checkedOf bytes source rows codes t ≡ record { refusal = 0; packet = packetAt bytes }
+    unfolding found
+    accepted e d = by-packet ∙ simp (eq-eqb _ _ e, d)
+
+-- a packet that was taken and not refused is the one that stands in the bytes
+pub taken-whole : (bytes : List ℕ) (r : Taken) → r ≡ takenOf bytes → r .refusal ≡ 0 → r ≡ record { refusal = 0; packet = packetAt bytes }
+taken-whole bytes r e z = e ∙ take-accepts bytes (sym (ap (λ (x : Taken). x .refusal) e) ∙ z) .taken
+
+-- where nothing is refused, each test has passed, and the packet is the one that stands in the bytes
+pub record Passed (bytes : List ℕ) (source : ℕ) (rows codes : List ℕ) (t : Setting) : Type 0 where
+  pub tests : Fine source rows codes t
+  pub packet : checkedOf bytes source rows codes t ≡ record { refusal = 0; packet = packetAt bytes }
+
+pub passed : (bytes : List ℕ) (source : ℕ) (rows codes : List ℕ) (t : Setting) → checkedOf bytes source rows codes t .refusal ≡ 0 → Passed bytes source rows codes t
+unfolding checkedOf
+passed bytes source rows codes t e = go (firstOf (settingRefusals source rows codes t)) refl (firstOf (passRefusals bytes source rows codes t)) refl
+  where
+    go : (n : ℕ) → firstOf (settingRefusals source rows codes t) ≡ n → (m : ℕ) → firstOf (passRefusals bytes source rows codes t) ≡ m → Passed bytes source rows codes t
+    go zero f zero g = record { tests = fine source rows codes t f; packet = simp (eq-eqb _ _ g) }
+    go zero f (suc m) g =
+        let some : suc m ≡ 0 → ⊥ = λ z. omega arith in
+        let wrong : checkedOf bytes source rows codes t .refusal ≡ suc m = simp (g, ne-eqb _ _ some) in
+        absurd (omega arith)
+    go (suc n) f m g =
+        let some : suc n ≡ 0 → ⊥ = λ z. omega arith in
+        let wrong : checkedOf bytes source rows codes t .refusal ≡ suc n = ap (λ (x : Taken). x .refusal) (refused-setting bytes source rows codes t (suc n) f some) in
+        absurd (omega arith)

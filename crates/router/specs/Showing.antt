@@ -1,0 +1,64 @@
+-- What the one-router call answers of a pass, and of a refusal.
+use Prim.Native.Nat.{ℕ}
+use mathlib.Core.Bool.{cond}
+use mathlib.Core.List.{List, [], _∷_}
+use lib.Dec.{eqb, ltb}
+use Rattle.packet.specs.declared.Packet.{Packet}
+use Rattle.packet.specs.Bytes.{nothing}
+use Rattle.router.specs.declared.Outcome.{Outcome}
+use Rattle.router.specs.declared.Pass.{Pass}
+use Rattle.router.specs.Links.{has, processorsOf}
+use Rattle.router.specs.Deciding.{packetOn, legPacket}
+use Rattle.router.specs.Keeping.{empty, keptOf}
+use Rattle.router.specs.Counting.{zeros, countedOf}
+
+-- Zeros where a link sends nothing, where no second leg is sent, where there are no processors.
+abbrev pub onLink : Outcome → ℕ → Packet
+onLink o i = cond (has (o .sent) i) (packetOn o i) nothing
+
+abbrev pub packetsOf : Outcome → List Packet
+packetsOf o = onLink o 0 ∷ onLink o 1 ∷ onLink o 2 ∷ onLink o 3 ∷ onLink o 4 ∷ onLink o 5 ∷ []
+
+abbrev pub onLeg : Outcome → Packet
+onLeg o = cond (eqb (o .leg) 0) nothing (legPacket o)
+
+-- "Processors get the packet as it now stands, its mark as it came." No processor is wanted below route bit 6.
+abbrev pub toProcessors : Outcome → Packet
+toProcessors o = cond (ltb (o .wanted) 64) nothing (o .packet)
+
+-- "The one-router call returns registers and counters, begun from zeros."
+abbrev pub passFrom : Outcome → Pass
+passFrom o =
+    record {
+      refusal = 0;
+      errors = o .errors;
+      wanted = o .wanted;
+      sent = o .sent;
+      dropped = o .dropped;
+      «leg_sent» = o .leg;
+      «leg_dropped» = o .lost;
+      processors = processorsOf (o .wanted);
+      delivered = toProcessors o;
+      packets = packetsOf o;
+      leg = onLeg o;
+      registers = keptOf empty o;
+      counters = countedOf zeros o;
+    }
+
+abbrev pub noPass : ℕ → Pass
+noPass n =
+    record {
+      refusal = n;
+      errors = 0;
+      wanted = 0;
+      sent = 0;
+      dropped = 0;
+      «leg_sent» = 0;
+      «leg_dropped» = 0;
+      processors = 0;
+      delivered = nothing;
+      packets = nothing ∷ nothing ∷ nothing ∷ nothing ∷ nothing ∷ nothing ∷ [];
+      leg = nothing;
+      registers = empty;
+      counters = zeros;
+    }

@@ -1,0 +1,105 @@
+// The one-router call: it takes anything, and answers or refuses.
+use super::Pass;
+use super::Setting;
+use super::deciding::outcome_of;
+use super::showing::no_pass;
+use super::showing::pass_from;
+use packet::Taken;
+use packet::bytes::not_taken;
+use packet::bytes::take;
+use packet::control::direct_of;
+use packet::control::kind_of;
+use tables::accept::codes_fine;
+use tables::accept::rows_fine;
+ghost use mathlib.Core.Path.{_≡_};
+ghost use mathlib.Core.Bool.{true};
+ghost use Prim.Native.Nat.{_*_};
+ghost use Rattle.packet.specs.Refusal.{firstOf};
+ghost use Rattle.router.specs.Deciding.{Checked};
+ghost use Rattle.router.specs.Call.{sizeFine, settingFine, sourceFine, isDirect, settingRefusals, checkedOf, answer, passOf};
+
+// One pass of one router. Refusals, the first that applies: 7 size, 6 phase, ready set or monitor, 5 rows, 11 codes,
+// 1 source, 2 length, 3 type 11, 4 NN with T = 1.
+pub fn pass(bytes: &[u8], source: u32, rows: &[u32], codes: &[u8], t: Setting) -> Pass
+    ensures { λ r. ⌜ r ≡ passOf (now (bytes .entry)) source (now (rows .entry)) (now (codes .entry)) t ⌝ }
+{
+    let taken = checked(bytes, source, rows, codes, t);
+    if taken.refusal == 0 {
+        let p = taken.packet;
+        pass_from(outcome_of(p, source, rows, codes, t))
+    } else {
+        no_pass(taken.refusal)
+    }
+}
+
+// The packet where nothing is refused, or the first refusal.
+fn checked(bytes: &[u8], source: u32, rows: &[u32], codes: &[u8], t: Setting) -> Taken
+    ensures { λ r. ⌜ r ≡ checkedOf (now (bytes .entry)) source (now (rows .entry)) (now (codes .entry)) t ⌝ }
+{
+    let refusal = setting_refusal(source, rows, codes, t);
+    if refusal != 0 {
+        return not_taken(refusal);
+    }
+    let taken = take(bytes);
+    if taken.refusal != 0 {
+        return taken;
+    }
+    let p = taken.packet;
+    if is_direct(p.control) {
+        return not_taken(4);
+    }
+    taken
+}
+
+fn setting_refusal(source: u32, rows: &[u32], codes: &[u8], t: Setting) -> u32
+    ensures { λ r. ⌜ r ≡ firstOf (settingRefusals source (now (rows .entry)) (now (codes .entry)) t) ⌝ }
+{
+    if !size_fine(t.width, t.height) {
+        return 7;
+    }
+    if !setting_fine(t) {
+        return 6;
+    }
+    if !rows_fine(rows) {
+        return 5;
+    }
+    if !codes_fine(codes, chips(t.width, t.height)) {
+        return 11;
+    }
+    if !source_fine(source) {
+        return 1;
+    }
+    0
+}
+
+pub fn size_fine(width: u32, height: u32) -> bool
+    ensures { λ r. ⌜ r ≡ sizeFine width height ⌝ }
+{
+    (1 <= width) & (width <= 12) & (1 <= height) & (height <= 12)
+}
+
+fn setting_fine(t: Setting) -> bool
+    ensures { λ r. ⌜ r ≡ settingFine t ⌝ }
+{
+    (t.phase <= 3) & (t.ready <= 63) & (t.monitor <= 19)
+}
+
+fn source_fine(source: u32) -> bool
+    ensures { λ r. ⌜ r ≡ sourceFine source ⌝ }
+{
+    (source <= 5) | (source == 7)
+}
+
+pub fn is_direct(control: u32) -> bool
+    ensures { λ r. ⌜ r ≡ isDirect control ⌝ }
+{
+    (kind_of(control) == 2) & (direct_of(control) == 1)
+}
+
+// How many chips a mesh of this size has.
+pub fn chips(width: u32, height: u32) -> usize
+    requires { ⌜ sizeFine width height ≡ true ⌝ }
+    ensures { λ r. ⌜ r ≡ height * width ⌝ }
+{
+    (height * width) as usize
+}

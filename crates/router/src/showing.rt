@@ -1,0 +1,117 @@
+// What the one-router call shows of a pass.
+use super::Outcome;
+use super::Pass;
+use super::counting::counted_of;
+use super::counting::no_counts;
+use super::deciding::has_link;
+use super::deciding::leg_packet;
+use super::deciding::packet_on;
+use super::keeping::empty_registers;
+use super::keeping::kept_of;
+use packet::Packet;
+ghost use mathlib.Core.Path.{_≡_};
+ghost use Prim.Native.Nat.{_<_};
+ghost use Rattle.packet.specs.Bytes.{nothing};
+ghost use Rattle.router.specs.Showing.{onLink, onLeg, toProcessors, packetsOf, passFrom, noPass};
+
+// All that a pass did, its registers and counters begun from zeros.
+pub fn pass_from(o: Outcome) -> Pass
+    requires { ⌜ (o .dropped < 64) × (o .lost < 64) ⌝ }
+    ensures { λ r. ⌜ r ≡ passFrom o ⌝ }
+{
+    let delivered = to_processors(o);
+    let packets = packets_of(o);
+    let leg = on_leg(o);
+    let registers = kept_of(empty_registers(), o);
+    let counters = counted_of(no_counts(), o);
+    Pass {
+        refusal: 0,
+        errors: o.errors,
+        wanted: o.wanted,
+        sent: o.sent,
+        dropped: o.dropped,
+        leg_sent: o.leg,
+        leg_dropped: o.lost,
+        processors: o.wanted / 64,
+        delivered,
+        packets,
+        leg,
+        registers,
+        counters,
+    }
+}
+
+// A refusal: its number, and zeros elsewhere.
+pub fn no_pass(refusal: u32) -> Pass
+    ensures { λ r. ⌜ r ≡ noPass refusal ⌝ }
+{
+    let none = no_packet();
+    let registers = empty_registers();
+    let counters = no_counts();
+    let packets = [none, none, none, none, none, none];
+    Pass {
+        refusal,
+        errors: 0,
+        wanted: 0,
+        sent: 0,
+        dropped: 0,
+        leg_sent: 0,
+        leg_dropped: 0,
+        processors: 0,
+        delivered: none,
+        packets,
+        leg: none,
+        registers,
+        counters,
+    }
+}
+
+fn no_packet() -> Packet
+    ensures { λ r. ⌜ r ≡ nothing ⌝ }
+{
+    Packet {
+        control: 0,
+        nine: 0,
+        word: 0,
+        payload: 0,
+    }
+}
+
+fn packets_of(o: Outcome) -> [Packet; 6]
+    ensures { λ r. ⌜ r ≡ packetsOf o ⌝ }
+{
+    let a = on_link(o, 0);
+    let b = on_link(o, 1);
+    let c = on_link(o, 2);
+    let d = on_link(o, 3);
+    let e = on_link(o, 4);
+    let f = on_link(o, 5);
+    [a, b, c, d, e, f]
+}
+
+fn on_link(o: Outcome, i: u32) -> Packet
+    requires { ⌜ i < 6 ⌝ }
+    ensures { λ r. ⌜ r ≡ onLink o i ⌝ }
+{
+    if has_link(o.sent, i) {
+        packet_on(o, i)
+    } else {
+        no_packet()
+    }
+}
+
+fn on_leg(o: Outcome) -> Packet
+    ensures { λ r. ⌜ r ≡ onLeg o ⌝ }
+{
+    if o.leg == 0 {
+        no_packet()
+    } else {
+        leg_packet(o)
+    }
+}
+
+fn to_processors(o: Outcome) -> Packet
+    ensures { λ r. ⌜ r ≡ toProcessors o ⌝ }
+{
+    if o.wanted < 64 { no_packet() } else { o.packet }
+}
