@@ -1,2 +1,5 @@
+pub mod Account
 pub mod Bounds
 pub mod Inputs
+pub mod OnePass
+pub mod Ways
