@@ -1,0 +1,81 @@
+-- The places of a directed link: how many packets they hold, and one more put behind them. Assumes nothing.
+use mathlib.Core.Path.{_≡_, refl, sym, ap, _∙_, subst}
+use mathlib.Core.List.{List, [], _∷_, _++_}
+use Prim.Native.Nat.{ℕ, zero, suc, _+_, _*_, _≤_, _<_}
+use native.Mathlib.Nat.{add-zero}
+use native.Mathlib.Numerals.{add-one}
+use lib.Dec.{eqb, lit<}
+use native.Mathlib.Omega.{arith}
+use lib.ListN.{length, getD, drop, set}
+use lib.Seq.{getD-drop, drop-set-lt}
+use Rattle.packet.specs.declared.Packet.{Packet}
+use Rattle.packet.specs.Control.{carriesOf}
+use Rattle.mesh.specs.Mesh.{Flight, Line}
+use Rattle.mesh.specs.Layout.{packetIn, placesIn, lineIn}
+use Rattle.mesh.specs.Lines.{placeAt, putAt, pushed}
+
+-- as many as the count says
+pub length-places : (n : ℕ) (l : List ℕ) → length (placesIn n l) ≡ n
+unfolding placesIn
+length-places zero l = refl
+length-places (suc n) l = ap suc (length-places n (drop 3 l))
+
+-- a packet at a place
+pub packet-at : (l : List ℕ) (at : ℕ) → packetIn (drop at l) ≡ record { control = getD l at 0; nine = carriesOf (getD l at 0); word = getD l (at + 1) 0; payload = getD l (at + 2) 0 }
+packet-at l at =
+    let e : getD (drop at l) 0 0 ≡ getD l at 0 = getD-drop at l 0 0 ∙ ap (λ (i : ℕ). getD l i 0) (add-zero at) in
+    λ i. record { control = e i; nine = carriesOf (e i); word = getD-drop at l 1 0 i; payload = getD-drop at l 2 0 i }
+
+-- ---- one more packet
+
+abbrev flight : Packet → Flight (Unit {0})
+flight p = record { packet = p; tag = tt }
+
+-- a packet whose length is right, as the packets in flight are
+abbrev pub Right : Packet → Type 0
+Right p = p .nine ≡ carriesOf (p .control)
+
+-- past the first three words, a place is three words nearer
+put-on : (x y z : ℕ) (l : List ℕ) (n : ℕ) (p : Packet) → putAt (x ∷ y ∷ z ∷ l) (suc n * 3) p ≡ x ∷ y ∷ z ∷ putAt l (n * 3) p
+put-on x y z l n p =
+    let e₀ : suc n * 3 ≡ suc (suc (suc (n * 3))) = omega arith in
+    let e₁ : suc n * 3 + 1 ≡ suc (suc (suc (n * 3 + 1))) = omega arith in
+    let e₂ : suc n * 3 + 2 ≡ suc (suc (suc (n * 3 + 2))) = omega arith in
+    λ i. set (set (set (x ∷ y ∷ z ∷ l) (e₀ i) (p .control)) (e₁ i) (p .word)) (e₂ i) (p .payload)
+
+places-put : (n : ℕ) (l : List ℕ) (p : Packet) → Right p → n * 3 + 2 < length l → placesIn (suc n) (putAt l (n * 3) p) ≡ placesIn n l ++ flight p ∷ []
+unfolding placesIn
+places-put n [] p r h = absurd (omega arith)
+places-put n (x ∷ []) p r h = absurd (omega arith)
+places-put n (x ∷ y ∷ []) p r h = absurd (omega arith)
+places-put zero (x ∷ y ∷ z ∷ l) p r h = λ i. record { packet = record { control = p .control; nine = sym r i; word = p .word; payload = p .payload }; tag = tt } ∷ []
+places-put (suc n) (x ∷ y ∷ z ∷ l) p r h =
+    ap (placesIn (suc (suc n))) (put-on x y z l n p)
+    ∙ ap (λ (fs : List (Flight (Unit {0}))). flight (packetIn (x ∷ y ∷ z ∷ l)) ∷ fs) (places-put n l p r (omega arith))
+
+-- the words after a push: the count, and the packet's place
+pushed-words : (u v : ℕ) (l : List ℕ) (p : Packet) → pushed (u ∷ v ∷ l) p ≡ u ∷ (v + 1) ∷ putAt l (v * 3) p
+pushed-words u v l p =
+    let e₀ : placeAt v ≡ suc (suc (v * 3)) = omega arith in
+    let e₁ : placeAt v + 1 ≡ suc (suc (v * 3 + 1)) = omega arith in
+    let e₂ : placeAt v + 2 ≡ suc (suc (v * 3 + 2)) = omega arith in
+    λ i. set (set (set (set (u ∷ v ∷ l) (e₀ i) (p .control)) (e₁ i) (p .word)) (e₂ i) (p .payload)) 1 (v + 1)
+
+-- a push puts the packet behind those that the link holds
+pub line-push : (l : List ℕ) (p : Packet) → Right p → length l ≡ 51 → getD l 1 0 ≤ 7
+    → lineIn (pushed l p) ≡ record { up = lineIn l .up; held = lineIn l .held ++ flight p ∷ [] }
+line-push [] p r h k = absurd (omega arith)
+line-push (u ∷ []) p r h k = absurd (omega arith)
+line-push (u ∷ v ∷ l) p r h k =
+    ap lineIn (pushed-words u v l p)
+    ∙ (λ i. record { up = eqb u 0; held = placesIn (add-one v i) (putAt l (v * 3) p) })
+    ∙ (λ i. record { up = eqb u 0; held = places-put v l p r (omega arith) i })
+
+-- and leaves what is set aside as it was
+pub push-aside : (l : List ℕ) (p : Packet) → getD l 1 0 ≤ 7 → drop 26 (pushed l p) ≡ drop 26 l
+push-aside l p k =
+    let i : ℕ = placeAt (getD l 1 0) in
+    drop-set-lt 26 (putAt l i p) 1 (getD l 1 0 + 1) (lit< tt)
+    ∙ drop-set-lt 26 (set (set l i (p .control)) (i + 1) (p .word)) (i + 2) (p .payload) (omega arith)
+    ∙ drop-set-lt 26 (set l i (p .control)) (i + 1) (p .word) (omega arith)
+    ∙ drop-set-lt 26 l i (p .control) (omega arith)

@@ -1,0 +1,4 @@
+pub mod Layout
+pub mod Lines
+pub mod Mesh
+pub mod Steps

@@ -1,0 +1,16 @@
+-- What the functions on a directed link's words do to them, word by word.
+use Prim.Native.Nat.{ℕ, _+_, _*_}
+use mathlib.Core.List.{List}
+use lib.ListN.{getD, set}
+use Rattle.packet.specs.declared.Packet.{Packet}
+
+-- The next place of a link that holds n packets.
+abbrev pub placeAt : ℕ → ℕ
+placeAt n = 2 + n * 3
+
+-- A packet's three words from place i on.
+abbrev pub putAt : List ℕ → ℕ → Packet → List ℕ
+putAt l i p = set (set (set l i (p .control)) (i + 1) (p .word)) (i + 2) (p .payload)
+
+abbrev pub pushed : List ℕ → Packet → List ℕ
+pushed l p = set (putAt l (placeAt (getD l 1 0)) p) 1 (getD l 1 0 + 1)

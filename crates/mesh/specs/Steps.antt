@@ -1,0 +1,152 @@
+-- What happens in a mesh: a pass at a chip, an injection, a round. A pass is that of the router, with the chip's own ready set, tables and phase.
+use Prim.Native.Nat.{ℕ, zero, suc, _+_, _-_, _*_}
+use mathlib.Core.Bool.{Bool, cond}
+use mathlib.Core.List.{List, [], _∷_, _++_, map, foldl}
+use lib.Dec.{eqb, ltb}
+use lib.ListN.{length, getD, take, drop, set}
+use Rattle.packet.specs.declared.Packet.{Packet}
+use Rattle.router.specs.declared.Outcome.{Outcome}
+use Rattle.router.specs.declared.Setting.{Setting}
+use Rattle.router.specs.Links.{has, processorsOf}
+use Rattle.router.specs.Deciding.{outcomeOf, packetOn, legPacket}
+use Rattle.router.specs.Keeping.{keptOf, empty}
+use Rattle.router.specs.Counting.{countedOf}
+use Rattle.mesh.specs.Mesh.{Flight, Line, Chip, Mesh, idle, fresh, readyOf, across, opposite}
+
+-- ---- tables
+
+-- "All rows of the mesh in one slice, a second slice giving where each chip's rows start ..., and the P2P codes chip after chip."
+pub record Tables : Type 0 where
+  pub rows : List ℕ
+  pub starts : List ℕ
+  pub codes : List ℕ
+
+abbrev pub rowsAt : Tables → ℕ → List ℕ
+rowsAt t c = take ((getD (t .starts) (c + 1) 0 - getD (t .starts) c 0) * 3) (drop (getD (t .starts) c 0 * 3) (t .rows))
+
+abbrev pub codesAt : Tables → ℕ → ℕ → List ℕ
+codesAt t chips c = take chips (drop (c * chips) (t .codes))
+
+-- "A pass that hands a packet to at least one processor adds one log record of six 32-bit numbers: chip, processor set, error flags, control
+-- byte, word, payload or 0."
+abbrev pub logOf : ℕ → Outcome → List ℕ
+logOf chip o =
+    cond (ltb (o .wanted) 64) []
+    (chip ∷ processorsOf (o .wanted) ∷ o .errors ∷ o .packet .control ∷ o .packet .word ∷ o .packet .payload ∷ [])
+
+-- "The phase code runs 00, 01, 11, 10 and round again."
+abbrev pub nextPhase : ℕ → ℕ
+nextPhase phase = cond (eqb phase 0) 1 (cond (eqb phase 1) 3 (cond (eqb phase 3) 2 0))
+
+-- A packet that is about to pass: at which chip, from which source.
+pub record Arrival (A : Type 0) : Type 0 where
+  pub chip : ℕ
+  pub source : ℕ
+  pub flight : Flight A
+
+-- A mesh on its way, and the log so far.
+pub record Going (A : Type 0) : Type 0 where
+  pub mesh : Mesh A
+  pub log : List ℕ
+
+module _ {A : Type 0} where
+  -- ---- one pass
+
+  abbrev pub settingAt : Mesh A → Chip A → Setting
+  settingAt m c = record { width = m .width; height = m .height; monitor = m .monitor; phase = m .phase; ready = readyOf c }
+
+  abbrev pub outcomeAt : Tables → Mesh A → ℕ → ℕ → Packet → Outcome
+  outcomeAt t m chip source p =
+      outcomeOf p source (rowsAt t chip) (codesAt t (m .height * m .width) chip) (settingAt m (getD (m .chips) chip fresh))
+
+  -- What a link holds after a pass: "the one from step 5 goes first", then the second leg. A sending turns the tag.
+  abbrev pub sent : Bool → Packet → A → List (Flight A)
+  sent b p tag = cond b (record { packet = p; tag = tag } ∷ []) []
+
+  abbrev pub lineAfter : Outcome → A → ℕ → Line A → Line A
+  lineAfter o tag i l = record { up = l .up; held = l .held ++ sent (has (o .sent) i) (packetOn o i) tag ++ sent (has (o .leg) i) (legPacket o) tag }
+
+  unfoldable pub linesAfter : Outcome → A → ℕ → List (Line A) → List (Line A)
+  linesAfter o tag i [] = []
+  linesAfter o tag i (l ∷ ls) = lineAfter o tag i l ∷ linesAfter o tag (suc i) ls
+
+  abbrev pub chipAfter : Outcome → A → Chip A → Chip A
+  chipAfter o tag c =
+      record { registers = keptOf (c .registers) o; counters = countedOf (c .counters) o; lines = linesAfter o tag 0 (c .lines) }
+
+  abbrev pub withChips : Mesh A → List (Chip A) → Mesh A
+  withChips m chips =
+      record {
+        width = m .width;
+        height = m .height;
+        rounds = m .rounds;
+        monitor = m .monitor;
+        phase = m .phase;
+        elapsed = m .elapsed;
+        chips = chips;
+      }
+
+  abbrev pub withChip : Mesh A → ℕ → Chip A → Mesh A
+  withChip m chip c = withChips m (set (m .chips) chip c)
+
+  -- ---- what a round begins and ends with
+
+  -- "A round takes exactly what was in flight when it began, all of it set aside first".
+  abbrev pub emptied : Line A → Line A
+  emptied l = record { up = l .up; held = [] }
+
+  abbrev pub emptiedChip : Chip A → Chip A
+  emptiedChip c = record { registers = c .registers; counters = c .counters; lines = map emptied (c .lines) }
+
+  abbrev pub setAside : Mesh A → Mesh A
+  setAside m = withChips m (map emptiedChip (m .chips))
+
+  -- What arrives at a chip by a link was sent by the link opposite, from the chip across.
+  abbrev pub arrivingBy : Mesh A → ℕ → ℕ → List (Arrival A)
+  arrivingBy m chip source =
+      map (λ (f : Flight A). record { chip = chip; source = source; flight = f })
+      (getD (getD (m .chips) (across (m .width) (m .height) chip source) fresh .lines) (opposite source) idle .held)
+
+  -- "... chips by number y*W + x, arrival links 0 to 5, oldest first".
+  abbrev pub arrivingAt : Mesh A → ℕ → List (Arrival A)
+  arrivingAt m chip =
+      arrivingBy m chip 0 ++ arrivingBy m chip 1 ++ arrivingBy m chip 2 ++ arrivingBy m chip 3 ++ arrivingBy m chip 4 ++ arrivingBy m chip 5
+
+  unfoldable pub arrivingFrom : Mesh A → ℕ → ℕ → List (Arrival A)
+  arrivingFrom m chip zero = []
+  arrivingFrom m chip (suc n) = arrivingAt m chip ++ arrivingFrom m (suc chip) n
+
+  abbrev pub arrivals : Mesh A → List (Arrival A)
+  arrivals m = arrivingFrom m 0 (m .height * m .width)
+
+  -- "... then, after each F rounds, the phase steps on."
+  abbrev pub roundOver : Mesh A → Mesh A
+  roundOver m =
+      record {
+        width = m .width;
+        height = m .height;
+        rounds = m .rounds;
+        monitor = m .monitor;
+        phase = cond (ltb (m .elapsed + 1) (m .rounds)) (m .phase) (nextPhase (m .phase));
+        elapsed = cond (ltb (m .elapsed + 1) (m .rounds)) (m .elapsed + 1) 0;
+        chips = m .chips;
+      }
+
+  module _ (t : Tables) (turn : A → A) where
+    abbrev pub passAt : Going A → Arrival A → Going A
+    passAt g a =
+        let o = outcomeAt t (g .mesh) (a .chip) (a .source) (a .flight .packet) in
+        record {
+          mesh = withChip (g .mesh) (a .chip) (chipAfter o (turn (a .flight .tag)) (getD (g .mesh .chips) (a .chip) fresh));
+          log = g .log ++ logOf (a .chip) o;
+        }
+
+    -- "Injection passes a local packet at once."
+    abbrev pub injected : Mesh A → ℕ → Flight A → Going A
+    injected m chip f = passAt (record { mesh = m; log = [] }) (record { chip = chip; source = 7; flight = f })
+
+    abbrev pub passed : Mesh A → Going A
+    passed m = foldl passAt (record { mesh = setAside m; log = [] }) (arrivals m)
+
+    abbrev pub rounded : Mesh A → Going A
+    rounded m = record { mesh = roundOver (passed m .mesh); log = passed m .log }
