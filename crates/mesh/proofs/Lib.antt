@@ -1,2 +1,3 @@
+pub mod ChipParts
 pub mod Parts
 pub mod Places

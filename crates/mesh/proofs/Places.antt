@@ -1,18 +1,19 @@
 -- The places of a directed link: how many packets they hold, and one more put behind them. Assumes nothing.
 use mathlib.Core.Path.{_≡_, refl, sym, ap, _∙_, subst}
-use mathlib.Core.List.{List, [], _∷_, _++_}
+use mathlib.Core.Bool.{Bool, true, false, cond}
+use mathlib.Core.List.{List, [], _∷_, _++_, append-nil}
 use Prim.Native.Nat.{ℕ, zero, suc, _+_, _*_, _≤_, _<_}
-use native.Mathlib.Nat.{add-zero}
+use native.Mathlib.Nat.{add-zero, le-of-eq}
 use native.Mathlib.Numerals.{add-one}
 use lib.Dec.{eqb, lit<}
 use native.Mathlib.Omega.{arith}
-use lib.ListN.{length, getD, drop, set}
-use lib.Seq.{getD-drop, drop-set-lt}
+use lib.ListN.{length, getD, drop, set, length-set}
+use lib.Seq.{getD-drop, getD-set-same, drop-set-lt}
 use Rattle.packet.specs.declared.Packet.{Packet}
 use Rattle.packet.specs.Control.{carriesOf}
 use Rattle.mesh.specs.Mesh.{Flight, Line}
 use Rattle.mesh.specs.Layout.{packetIn, placesIn, lineIn}
-use Rattle.mesh.specs.Lines.{placeAt, putAt, pushed}
+use Rattle.mesh.specs.Lines.{placeAt, putAt, pushed, pushedIf}
 
 -- as many as the count says
 pub length-places : (n : ℕ) (l : List ℕ) → length (placesIn n l) ≡ n
@@ -79,3 +80,26 @@ push-aside l p k =
     ∙ drop-set-lt 26 (set (set l i (p .control)) (i + 1) (p .word)) (i + 2) (p .payload) (omega arith)
     ∙ drop-set-lt 26 (set l i (p .control)) (i + 1) (p .word) (omega arith)
     ∙ drop-set-lt 26 l i (p .control) (omega arith)
+
+-- ---- a packet pushed where a test says so
+
+pub length-pushed : (l : List ℕ) (p : Packet) → length (pushed l p) ≡ length l
+length-pushed l p = simp length-set
+
+pub length-pushed-if : (b : Bool) (l : List ℕ) (p : Packet) → length (pushedIf b l p) ≡ length l
+length-pushed-if true l p = length-pushed l p
+length-pushed-if false l p = refl
+
+-- the count is one more, or as it was
+pub count-pushed-if : (b : Bool) (l : List ℕ) (p : Packet) → length l ≡ 51 → getD (pushedIf b l p) 1 0 ≤ getD l 1 0 + 1
+count-pushed-if true l p h = le-of-eq (getD-set-same (putAt l (placeAt (getD l 1 0)) p) 1 (getD l 1 0 + 1) 0 (simp length-set (omega arith)))
+count-pushed-if false l p h = omega arith
+
+pub line-push-if : (b : Bool) (l : List ℕ) (p : Packet) → Right p → length l ≡ 51 → getD l 1 0 ≤ 7
+    → lineIn (pushedIf b l p) ≡ record { up = lineIn l .up; held = lineIn l .held ++ cond b (flight p ∷ []) [] }
+line-push-if true l p r h k = line-push l p r h k
+line-push-if false l p r h k = λ i. record { up = lineIn l .up; held = sym (append-nil (lineIn l .held)) i }
+
+pub aside-push-if : (b : Bool) (l : List ℕ) (p : Packet) → getD l 1 0 ≤ 7 → drop 26 (pushedIf b l p) ≡ drop 26 l
+aside-push-if true l p k = push-aside l p k
+aside-push-if false l p k = refl

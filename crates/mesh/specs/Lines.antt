@@ -1,8 +1,12 @@
 -- What the functions on a directed link's words do to them, word by word.
 use Prim.Native.Nat.{ℕ, _+_, _*_}
+use mathlib.Core.Bool.{Bool, cond}
 use mathlib.Core.List.{List}
 use lib.ListN.{getD, set}
 use Rattle.packet.specs.declared.Packet.{Packet}
+use Rattle.router.specs.declared.Outcome.{Outcome}
+use Rattle.router.specs.Links.{has}
+use Rattle.router.specs.Deciding.{packetOn, legPacket}
 
 -- The next place of a link that holds n packets.
 abbrev pub placeAt : ℕ → ℕ
@@ -14,3 +18,11 @@ putAt l i p = set (set (set l i (p .control)) (i + 1) (p .word)) (i + 2) (p .pay
 
 abbrev pub pushed : List ℕ → Packet → List ℕ
 pushed l p = set (putAt l (placeAt (getD l 1 0)) p) 1 (getD l 1 0 + 1)
+
+-- A packet pushed where a test says so.
+abbrev pub pushedIf : Bool → List ℕ → Packet → List ℕ
+pushedIf b l p = cond b (pushed l p) l
+
+-- "So one link may carry two packets of one pass: the one from step 5 goes first."
+abbrev pub sentWords : List ℕ → Outcome → ℕ → List ℕ
+sentWords l o i = pushedIf (has (o .leg) i) (pushedIf (has (o .sent) i) l (packetOn o i)) (legPacket o)

@@ -2,13 +2,17 @@
 // aside, eight places for those.
 use packet::Packet;
 use packet::control::carries_of;
+use router::Outcome;
+use router::deciding::{has_link, leg_packet, packet_on};
 ghost use mathlib.Core.Path.{_≡_};
 ghost use mathlib.Core.List.{_++_, _∷_, []};
 ghost use lib.ListN.{length, getD, take, drop};
 ghost use Prim.Native.Nat.{_+_, _*_, _≤_, _<_};
+ghost use Rattle.router.specs.Links.{has};
+ghost use Rattle.router.specs.Deciding.{packetOn, legPacket};
 ghost use Rattle.mesh.specs.Mesh.{isReady};
 ghost use Rattle.mesh.specs.Layout.{packetIn, lineIn};
-ghost use Rattle.mesh.specs.Lines.{pushed};
+ghost use Rattle.mesh.specs.Lines.{pushed, pushedIf, sentWords};
 
 // Whether the link is ready: up, and at most 6 held.
 pub fn is_ready(line: &[u32]) -> bool
@@ -29,6 +33,33 @@ pub fn push(line: &mut [u32], p: Packet)
     line[at + 1] = p.word;
     line[at + 2] = p.payload;
     line[1] = held + 1;
+}
+
+// Sends what a pass has for link i: the packet of step 5 or 7, then the second leg. There is room for both.
+pub fn send(line: &mut [u32], o: Outcome, i: u32)
+    requires { ⌜ (length (now line) ≡ 51) × ((getD (now line) 1 0 ≤ 6) × (i < 6)) ⌝ }
+    ensures { λ _. ⌜ now (line .exit) ≡ sentWords (now (line .entry)) o i ⌝ }
+{
+    send_packet(line, o, i);
+    send_leg(line, o, i);
+}
+
+fn send_packet(line: &mut [u32], o: Outcome, i: u32)
+    requires { ⌜ (length (now line) ≡ 51) × ((getD (now line) 1 0 ≤ 7) × (i < 6)) ⌝ }
+    ensures { λ _. ⌜ now (line .exit) ≡ pushedIf (has (o .sent) i) (now (line .entry)) (packetOn o i) ⌝ }
+{
+    if has_link(o.sent, i) {
+        push(line, packet_on(o, i));
+    }
+}
+
+fn send_leg(line: &mut [u32], o: Outcome, i: u32)
+    requires { ⌜ (length (now line) ≡ 51) × ((getD (now line) 1 0 ≤ 7) × (i < 6)) ⌝ }
+    ensures { λ _. ⌜ now (line .exit) ≡ pushedIf (has (o .leg) i) (now (line .entry)) (legPacket o) ⌝ }
+{
+    if has_link(o.leg, i) {
+        push(line, leg_packet(o));
+    }
 }
 
 // The packet at a place, counted in words.

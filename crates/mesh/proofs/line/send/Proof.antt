@@ -1,0 +1,36 @@
+use borrow.Author.Needs.{needs}
+use mathlib.Core.Path.{_≡_, refl, sym, ap, _∙_}
+use native.Mathlib.Omega.{arith}
+use Rattle.mesh.proofs.Places.{length-pushed-if, count-pushed-if}
+use Rattle.router.specs.Deciding.{packetOn}
+use Rattle.router.specs.Links.{has}
+use Rattle.mesh.proofs.line.send.Statement.{statement}
+use Rattle.mesh.proofs.line.send.Tie as tie
+use Rattle.mesh.proofs.line.send.Reads as reads
+use Rattle.mesh.proofs.line.send.Lts as lts
+use Rattle.mesh.proofs.line.send_leg.Reads as send-leg-reads
+use Rattle.mesh.proofs.line.send_packet.Reads as send-packet-reads
+
+-- src/line.rt:43:5
+send-packet-requires : tie.Need-send-packet-requires
+send-packet-requires c κs = search needs
+
+-- src/line.rt:44:5
+send-leg-requires : tie.Need-send-leg-requires
+send-leg-requires c κs = 
+    let a = c .before .before .before .before .before .before .args in
+    let l = a .line .now in
+    rw (c .before .before .before .send-packet .ensures)
+    (length-pushed-if (has (a .o .sent) (a .i)) l (packetOn (a .o) (a .i)) ∙ c .before .before .before .before .before .before .pre .0,
+    (omega (arith, count-pushed-if (has (a .o .sent) (a .i)) l (packetOn (a .o) (a .i)) (c .before .before .before .before .before .before .pre .0)), c .before .before .before .before .before .before .pre .1 .1))
+
+-- src/line.rt:39:1
+same-length : tie.Need-same-length
+same-length c = search needs
+
+-- src/line.rt:39:1
+returns : tie.Need-returns
+returns c = c .before .before .send-leg .ensures ∙ simp (c .before .before .before .before .before .before .send-packet .ensures)
+
+pub send-spec : {M : Type 1} → statement M
+send-spec = tie.close (tie.spec send-packet-requires send-leg-requires same-length returns)
