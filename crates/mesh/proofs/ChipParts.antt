@@ -10,7 +10,8 @@ use lib.Dec.{lit<, lit≤}
 use lib.Seq.{getD-set-same, getD-set-other}
 use Rattle.mesh.specs.Mesh.{Line, Chip, idle}
 use Rattle.mesh.specs.Layout.{part, lineIn, asideIn, registersIn, linePlace, chipIn}
-use Rattle.mesh.proofs.Parts.{putBack, part-same, part-before, part-behind}
+use Rattle.mesh.specs.Chips.{putBack}
+use Rattle.mesh.proofs.Parts.{part-same, part-before, part-behind}
 
 -- six of anything, written out
 pub six : {A : Type 0} (d : A) (l : List A) → length l ≡ 6 → l ≡ getD l 0 d ∷ getD l 1 d ∷ getD l 2 d ∷ getD l 3 d ∷ getD l 4 d ∷ getD l 5 d ∷ []

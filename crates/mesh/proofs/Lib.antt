@@ -1,3 +1,4 @@
 pub mod ChipParts
 pub mod Parts
 pub mod Places
+pub mod Stores

@@ -7,10 +7,7 @@ use native.Mathlib.Omega.{arith}
 use lib.ListN.{length, getD, take, drop, length-take, length-drop, length-append}
 use lib.Seq.{length-take-le, take-append-le, take-at, drop-at, drop-drop, take-take, take-nil, getD-take}
 use Rattle.mesh.specs.Layout.{part}
-
--- the list with ys in the place of its n elements from a on
-abbrev pub putBack : ℕ → ℕ → List ℕ → List ℕ → List ℕ
-putBack a n ys l = take a l ++ (ys ++ drop n (drop a l))
+use Rattle.mesh.specs.Chips.{putBack}
 
 -- a part is the end of a beginning
 take-drop : (b k : ℕ) (l : List ℕ) → take k (drop b l) ≡ drop b (take (b + k) l)

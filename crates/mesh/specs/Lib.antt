@@ -1,3 +1,4 @@
+pub mod Chips
 pub mod Layout
 pub mod Lines
 pub mod Mesh

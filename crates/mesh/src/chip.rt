@@ -1,0 +1,81 @@
+// One chip, as the 322 words that hold it: registers, counters, six links.
+use super::line::{is_ready, send};
+use router::counting::counted_of;
+use router::errors::flag_of;
+use router::keeping::kept_of;
+use router::{Counters, Outcome, Registers};
+ghost use mathlib.Core.Path.{_≡_};
+ghost use lib.ListN.{length, getD};
+ghost use Prim.Native.Nat.{_+_, _*_, _≤_, _<_};
+ghost use Rattle.router.specs.Keeping.{keptOf};
+ghost use Rattle.router.specs.Counting.{countedOf};
+ghost use Rattle.mesh.specs.Mesh.{readyOf};
+ghost use Rattle.mesh.specs.Layout.{part, linePlace, registersIn, chipIn};
+ghost use Rattle.mesh.specs.Chips.{registerWords, sentOn};
+
+// The links that are ready now.
+pub fn ready_of(chip: &[u32]) -> u32
+    requires { ⌜ length (now chip) ≡ 322 ⌝ }
+    ensures { λ r. ⌜ r ≡ readyOf (chipIn (now (chip .entry))) ⌝ }
+{
+    flag_of(is_ready(&chip[16..67]), 1)
+        + flag_of(is_ready(&chip[67..118]), 2)
+        + flag_of(is_ready(&chip[118..169]), 4)
+        + flag_of(is_ready(&chip[169..220]), 8)
+        + flag_of(is_ready(&chip[220..271]), 16)
+        + flag_of(is_ready(&chip[271..322]), 32)
+}
+
+// Sends what a pass has for link i.
+fn send_on(chip: &mut [u32], o: Outcome, i: u32)
+    requires { ⌜ (length (now chip) ≡ 322) × ((i < 6) × (getD (part (linePlace i) 51 (now chip)) 1 0 ≤ 6)) ⌝ }
+    ensures { λ _. ⌜ now (chip .exit) ≡ sentOn (now (chip .entry)) o i ⌝ }
+{
+    let at = 16 + (i as usize) * 51;
+    send(&mut chip[at..at + 51], o, i);
+}
+
+// Keeps a pass's first dropped unit in the six words of the registers.
+fn keep(words: &mut [u32], o: Outcome)
+    requires { ⌜ (length (now words) ≡ 6) × ((o .dropped < 64) × (o .lost < 64)) ⌝ }
+    ensures { λ _. ⌜ now (words .exit) ≡ registerWords (keptOf (registersIn (now (words .entry))) o) ⌝ }
+{
+    let r = Registers {
+        control: words[0],
+        word: words[1],
+        payload: words[2],
+        link: words[3],
+        leg: words[4],
+        more: words[5],
+    };
+    let k = kept_of(r, o);
+    words[0] = k.control;
+    words[1] = k.word;
+    words[2] = k.payload;
+    words[3] = k.link;
+    words[4] = k.leg;
+    words[5] = k.more;
+}
+
+// Counts a pass in the ten words of the counters.
+fn count(words: &mut [u32], o: Outcome)
+    requires { ⌜ length (now words) ≡ 10 ⌝ }
+    ensures { λ _. ⌜ now (words .exit) ≡ countedOf (record { count = now (words .entry) }) o .count ⌝ }
+{
+    let c = Counters {
+        count: [
+            words[0], words[1], words[2], words[3], words[4], words[5], words[6], words[7], words[8], words[9],
+        ],
+    };
+    let k = counted_of(c, o);
+    words[0] = k.count[0];
+    words[1] = k.count[1];
+    words[2] = k.count[2];
+    words[3] = k.count[3];
+    words[4] = k.count[4];
+    words[5] = k.count[5];
+    words[6] = k.count[6];
+    words[7] = k.count[7];
+    words[8] = k.count[8];
+    words[9] = k.count[9];
+}
