@@ -10,7 +10,7 @@ use lib.Dec.{lit<, lit≤}
 use lib.Seq.{getD-set-same, getD-set-other}
 use Rattle.mesh.specs.Mesh.{Line, Chip, idle}
 use Rattle.mesh.specs.Layout.{part, lineIn, asideIn, registersIn, linePlace, chipIn}
-use Rattle.mesh.specs.Chips.{putBack}
+use Rattle.mesh.specs.Chips.{putBack, lineWords}
 use Rattle.mesh.proofs.Parts.{part-same, part-before, part-behind}
 
 -- six of anything, written out
@@ -23,10 +23,6 @@ six d (a ∷ b ∷ c ∷ e ∷ []) h = absurd (omega arith)
 six d (a ∷ b ∷ c ∷ e ∷ f ∷ []) h = absurd (omega arith)
 six d (a ∷ b ∷ c ∷ e ∷ f ∷ g ∷ []) h = refl
 six d (a ∷ b ∷ c ∷ e ∷ f ∷ g ∷ i ∷ l) h = absurd (omega arith)
-
--- the words of link j
-abbrev pub lineWords : ℕ → List ℕ → List ℕ
-lineWords j l = part (linePlace j) 51 l
 
 pub withLine : Chip (Unit {0}) → ℕ → Line (Unit {0}) → Chip (Unit {0})
 withLine c i x = record { registers = c .registers; counters = c .counters; lines = set (c .lines) i x }

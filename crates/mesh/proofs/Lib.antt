@@ -2,3 +2,4 @@ pub mod ChipParts
 pub mod Parts
 pub mod Places
 pub mod Stores
+pub mod Upto

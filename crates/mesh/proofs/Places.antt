@@ -17,7 +17,8 @@ use Rattle.router.specs.Deciding.{packetOn, legPacket}
 use Rattle.mesh.specs.Mesh.{Flight, Line}
 use Rattle.mesh.specs.Steps.{lineAfter}
 use Rattle.mesh.specs.Layout.{packetIn, placesIn, lineIn}
-use Rattle.mesh.specs.Lines.{placeAt, putAt, pushed, pushedIf, sentWords}
+use Rattle.mesh.specs.Chips.{Right}
+use Rattle.mesh.specs.Lines.{placeAt, putAt, pushed, pushedIf, sentWords, Room}
 
 -- as many as the count says
 pub length-places : (n : ℕ) (l : List ℕ) → length (placesIn n l) ≡ n
@@ -35,10 +36,6 @@ packet-at l at =
 
 abbrev flight : Packet → Flight (Unit {0})
 flight p = record { packet = p; tag = tt }
-
--- a packet whose length is right, as the packets in flight are
-abbrev pub Right : Packet → Type 0
-Right p = p .nine ≡ carriesOf (p .control)
 
 -- past the first three words, a place is three words nearer
 put-on : (x y z : ℕ) (l : List ℕ) (n : ℕ) (p : Packet) → putAt (x ∷ y ∷ z ∷ l) (suc n * 3) p ≡ x ∷ y ∷ z ∷ putAt l (n * 3) p
@@ -99,29 +96,38 @@ pub count-pushed-if : (b : Bool) (l : List ℕ) (p : Packet) → length l ≡ 51
 count-pushed-if true l p h = le-of-eq (getD-set-same (putAt l (placeAt (getD l 1 0)) p) 1 (getD l 1 0 + 1) 0 (simp length-set (omega arith)))
 count-pushed-if false l p h = omega arith
 
-pub line-push-if : (b : Bool) (l : List ℕ) (p : Packet) → (b ≡ true → Right p) → length l ≡ 51 → getD l 1 0 ≤ 7
+pub line-push-if : (b : Bool) (l : List ℕ) (p : Packet) → (b ≡ true → Right p) → length l ≡ 51 → (b ≡ true → getD l 1 0 ≤ 7)
     → lineIn (pushedIf b l p) ≡ record { up = lineIn l .up; held = lineIn l .held ++ cond b (flight p ∷ []) [] }
-line-push-if true l p r h k = line-push l p (r refl) h k
+line-push-if true l p r h k = line-push l p (r refl) h (k refl)
 line-push-if false l p r h k = λ i. record { up = lineIn l .up; held = sym (append-nil (lineIn l .held)) i }
 
-pub aside-push-if : (b : Bool) (l : List ℕ) (p : Packet) → getD l 1 0 ≤ 7 → drop 26 (pushedIf b l p) ≡ drop 26 l
-aside-push-if true l p k = push-aside l p k
+pub aside-push-if : (b : Bool) (l : List ℕ) (p : Packet) → (b ≡ true → getD l 1 0 ≤ 7) → drop 26 (pushedIf b l p) ≡ drop 26 l
+aside-push-if true l p k = push-aside l p (k refl)
 aside-push-if false l p k = refl
 
--- what a pass sends on a link: the link after the pass
-pub line-sent : (l : List ℕ) (o : Outcome) (i : ℕ) → (has (o .sent) i ≡ true → Right (packetOn o i)) → (has (o .leg) i ≡ true → Right (legPacket o)) → length l ≡ 51 → getD l 1 0 ≤ 6
-    → lineIn (sentWords l o i) ≡ lineAfter o tt i (lineIn l)
-line-sent l o i r g h k =
-    let m : List ℕ = pushedIf (has (o .sent) i) l (packetOn o i) in
-    let e : lineIn m ≡ record { up = lineIn l .up; held = lineIn l .held ++ cond (has (o .sent) i) (flight (packetOn o i) ∷ []) [] } =
-        line-push-if (has (o .sent) i) l (packetOn o i) r h (omega arith) in
-    line-push-if (has (o .leg) i) m (legPacket o) g (length-pushed-if (has (o .sent) i) l (packetOn o i) ∙ h) (omega (arith, count-pushed-if (has (o .sent) i) l (packetOn o i) h))
-    ∙ ap (λ (x : Line (Unit {0})). record { up = x .up; held = x .held ++ cond (has (o .leg) i) (flight (legPacket o) ∷ []) [] }) e
+-- room for one more, and for a second behind it
+module _ (l : List ℕ) (o : Outcome) (i : ℕ) (h : length l ≡ 51) (room : Room l o i) where
+  pub room-first : has (o .sent) i ≡ true → getD l 1 0 ≤ 7
+  room-first t = omega (arith, room .0 t)
 
-pub aside-sent : (l : List ℕ) (o : Outcome) (i : ℕ) → length l ≡ 51 → getD l 1 0 ≤ 6 → drop 26 (sentWords l o i) ≡ drop 26 l
-aside-sent l o i h k =
-    aside-push-if (has (o .leg) i) (pushedIf (has (o .sent) i) l (packetOn o i)) (legPacket o) (omega (arith, count-pushed-if (has (o .sent) i) l (packetOn o i) h))
-    ∙ aside-push-if (has (o .sent) i) l (packetOn o i) (omega arith)
+  pub room-second : has (o .leg) i ≡ true → getD (pushedIf (has (o .sent) i) l (packetOn o i)) 1 0 ≤ 7
+  room-second t = omega (arith, room .1 t, count-pushed-if (has (o .sent) i) l (packetOn o i) h)
 
-pub length-sent : (l : List ℕ) (o : Outcome) (i : ℕ) → length (sentWords l o i) ≡ length l
-length-sent l o i = length-pushed-if (has (o .leg) i) (pushedIf (has (o .sent) i) l (packetOn o i)) (legPacket o) ∙ length-pushed-if (has (o .sent) i) l (packetOn o i)
+  pub long-between : length (pushedIf (has (o .sent) i) l (packetOn o i)) ≡ 51
+  long-between = length-pushed-if (has (o .sent) i) l (packetOn o i) ∙ h
+
+  -- what a pass sends on a link: the link after the pass
+  pub line-sent : (has (o .sent) i ≡ true → Right (packetOn o i)) → (has (o .leg) i ≡ true → Right (legPacket o)) → lineIn (sentWords l o i) ≡ lineAfter o tt i (lineIn l)
+  line-sent r g =
+      line-push-if (has (o .leg) i) (pushedIf (has (o .sent) i) l (packetOn o i)) (legPacket o) g long-between room-second
+      ∙ ap (λ (x : Line (Unit {0})). record { up = x .up; held = x .held ++ cond (has (o .leg) i) (flight (legPacket o) ∷ []) [] })
+        (line-push-if (has (o .sent) i) l (packetOn o i) r h room-first)
+
+  -- what is set aside stays
+  pub aside-sent : drop 26 (sentWords l o i) ≡ drop 26 l
+  aside-sent =
+      aside-push-if (has (o .leg) i) (pushedIf (has (o .sent) i) l (packetOn o i)) (legPacket o) room-second
+      ∙ aside-push-if (has (o .sent) i) l (packetOn o i) room-first
+
+  pub length-sent : length (sentWords l o i) ≡ 51
+  length-sent = length-pushed-if (has (o .leg) i) (pushedIf (has (o .sent) i) l (packetOn o i)) (legPacket o) ∙ long-between

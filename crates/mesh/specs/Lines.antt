@@ -1,6 +1,7 @@
 -- What the functions on a directed link's words do to them, word by word.
-use Prim.Native.Nat.{ℕ, _+_, _*_}
-use mathlib.Core.Bool.{Bool, cond}
+use Prim.Native.Nat.{ℕ, _+_, _*_, _≤_}
+use mathlib.Core.Path.{_≡_}
+use mathlib.Core.Bool.{Bool, true, cond}
 use mathlib.Core.List.{List}
 use lib.ListN.{getD, set}
 use Rattle.packet.specs.declared.Packet.{Packet}
@@ -26,3 +27,7 @@ pushedIf b l p = cond b (pushed l p) l
 -- "So one link may carry two packets of one pass: the one from step 5 goes first."
 abbrev pub sentWords : List ℕ → Outcome → ℕ → List ℕ
 sentWords l o i = pushedIf (has (o .leg) i) (pushedIf (has (o .sent) i) l (packetOn o i)) (legPacket o)
+
+-- Where a pass sends by link i, the link has room for two.
+abbrev pub Room : List ℕ → Outcome → ℕ → Type 0
+Room l o i = (has (o .sent) i ≡ true → getD l 1 0 ≤ 6) × (has (o .leg) i ≡ true → getD l 1 0 ≤ 6)

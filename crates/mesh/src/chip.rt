@@ -5,13 +5,14 @@ use router::errors::flag_of;
 use router::keeping::kept_of;
 use router::{Counters, Outcome, Registers};
 ghost use mathlib.Core.Path.{_≡_};
-ghost use lib.ListN.{length, getD};
+ghost use lib.ListN.{length};
 ghost use Prim.Native.Nat.{_+_, _*_, _≤_, _<_};
 ghost use Rattle.router.specs.Keeping.{keptOf};
 ghost use Rattle.router.specs.Counting.{countedOf};
 ghost use Rattle.mesh.specs.Mesh.{readyOf};
 ghost use Rattle.mesh.specs.Layout.{part, linePlace, registersIn, chipIn};
-ghost use Rattle.mesh.specs.Chips.{registerWords, sentOn};
+ghost use Rattle.mesh.specs.Lines.{Room};
+ghost use Rattle.mesh.specs.Chips.{registerWords, sentOn, Takes, ChipStep, Upto};
 
 // The links that are ready now.
 pub fn ready_of(chip: &[u32]) -> u32
@@ -26,9 +27,30 @@ pub fn ready_of(chip: &[u32]) -> u32
         + flag_of(is_ready(&chip[271..322]), 32)
 }
 
+// The chip after a pass: registers, counters, and what its links send.
+pub fn after(chip: &mut [u32], o: Outcome)
+    requires { ⌜ Takes (now chip) o ⌝ }
+    ensures { λ _. ⌜ ChipStep (now (chip .entry)) (now (chip .exit)) o ⌝ }
+{
+    keep(&mut chip[0..6], o);
+    count(&mut chip[6..16], o);
+    send_all(chip, o);
+}
+
+fn send_all(chip: &mut [u32], o: Outcome)
+    requires { ⌜ Takes (now chip) o ⌝ }
+    ensures { λ _. ⌜ Upto 6 (now (chip .entry)) (now (chip .exit)) o ⌝ }
+{
+    let mut i = 0;
+    while i < 6 {
+        send_on(chip, o, i);
+        i += 1;
+    }
+}
+
 // Sends what a pass has for link i.
 fn send_on(chip: &mut [u32], o: Outcome, i: u32)
-    requires { ⌜ (length (now chip) ≡ 322) × ((i < 6) × (getD (part (linePlace i) 51 (now chip)) 1 0 ≤ 6)) ⌝ }
+    requires { ⌜ (length (now chip) ≡ 322) × ((i < 6) × Room (part (linePlace i) 51 (now chip)) o i) ⌝ }
     ensures { λ _. ⌜ now (chip .exit) ≡ sentOn (now (chip .entry)) o i ⌝ }
 {
     let at = 16 + (i as usize) * 51;

@@ -5,14 +5,14 @@ use packet::control::carries_of;
 use router::Outcome;
 use router::deciding::{has_link, leg_packet, packet_on};
 ghost use mathlib.Core.Path.{_≡_};
-ghost use mathlib.Core.List.{_++_, _∷_, []};
+ghost use mathlib.Core.Bool.{true};
 ghost use lib.ListN.{length, getD, take, drop};
 ghost use Prim.Native.Nat.{_+_, _*_, _≤_, _<_};
 ghost use Rattle.router.specs.Links.{has};
 ghost use Rattle.router.specs.Deciding.{packetOn, legPacket};
 ghost use Rattle.mesh.specs.Mesh.{isReady};
 ghost use Rattle.mesh.specs.Layout.{packetIn, lineIn};
-ghost use Rattle.mesh.specs.Lines.{pushed, pushedIf, sentWords};
+ghost use Rattle.mesh.specs.Lines.{pushed, pushedIf, sentWords, Room};
 
 // Whether the link is ready: up, and at most 6 held.
 pub fn is_ready(line: &[u32]) -> bool
@@ -37,7 +37,7 @@ pub fn push(line: &mut [u32], p: Packet)
 
 // Sends what a pass has for link i: the packet of step 5 or 7, then the second leg. There is room for both.
 pub fn send(line: &mut [u32], o: Outcome, i: u32)
-    requires { ⌜ (length (now line) ≡ 51) × ((getD (now line) 1 0 ≤ 6) × (i < 6)) ⌝ }
+    requires { ⌜ (length (now line) ≡ 51) × ((i < 6) × Room (now line) o i) ⌝ }
     ensures { λ _. ⌜ now (line .exit) ≡ sentWords (now (line .entry)) o i ⌝ }
 {
     send_packet(line, o, i);
@@ -45,7 +45,7 @@ pub fn send(line: &mut [u32], o: Outcome, i: u32)
 }
 
 fn send_packet(line: &mut [u32], o: Outcome, i: u32)
-    requires { ⌜ (length (now line) ≡ 51) × ((getD (now line) 1 0 ≤ 7) × (i < 6)) ⌝ }
+    requires { ⌜ (length (now line) ≡ 51) × ((i < 6) × (has (o .sent) i ≡ true → getD (now line) 1 0 ≤ 7)) ⌝ }
     ensures { λ _. ⌜ now (line .exit) ≡ pushedIf (has (o .sent) i) (now (line .entry)) (packetOn o i) ⌝ }
 {
     if has_link(o.sent, i) {
@@ -54,7 +54,7 @@ fn send_packet(line: &mut [u32], o: Outcome, i: u32)
 }
 
 fn send_leg(line: &mut [u32], o: Outcome, i: u32)
-    requires { ⌜ (length (now line) ≡ 51) × ((getD (now line) 1 0 ≤ 7) × (i < 6)) ⌝ }
+    requires { ⌜ (length (now line) ≡ 51) × ((i < 6) × (has (o .leg) i ≡ true → getD (now line) 1 0 ≤ 7)) ⌝ }
     ensures { λ _. ⌜ now (line .exit) ≡ pushedIf (has (o .leg) i) (now (line .entry)) (legPacket o) ⌝ }
 {
     if has_link(o.leg, i) {

@@ -47,7 +47,7 @@ send-requires c κs =
     let i = c .before .before .args .i in
     let l = c .before .before .args .chip .now in
     rw (add-sub-cancel-left (16 + i * 51) 51)
-    (length-take-le 51 (drop (16 + i * 51) l) (simp length-drop (omega arith)), (c .before .before .pre .1 .1, c .before .before .pre .1 .0))
+    (length-take-le 51 (drop (16 + i * 51) l) (simp length-drop (omega arith)), c .before .before .pre .1)
 
 -- src/chip.rt:30:1
 same-length : tie.Need-same-length

@@ -1,9 +1,7 @@
 use borrow.Author.Needs.{needs}
 use mathlib.Core.Path.{_≡_, refl, sym, ap, _∙_}
 use native.Mathlib.Omega.{arith}
-use Rattle.mesh.proofs.Places.{length-pushed-if, count-pushed-if}
-use Rattle.router.specs.Deciding.{packetOn}
-use Rattle.router.specs.Links.{has}
+use Rattle.mesh.proofs.Places.{long-between, room-first, room-second}
 use Rattle.mesh.proofs.line.send.Statement.{statement}
 use Rattle.mesh.proofs.line.send.Tie as tie
 use Rattle.mesh.proofs.line.send.Reads as reads
@@ -13,16 +11,18 @@ use Rattle.mesh.proofs.line.send_packet.Reads as send-packet-reads
 
 -- src/line.rt:43:5
 send-packet-requires : tie.Need-send-packet-requires
-send-packet-requires c κs = search needs
+send-packet-requires c κs = 
+    let a = c .before .before .args in
+    let pre = c .before .before .pre in
+    (pre .0, (pre .1 .0, room-first (a .line .now) (a .o) (a .i) (pre .0) (pre .1 .1)))
 
 -- src/line.rt:44:5
 send-leg-requires : tie.Need-send-leg-requires
 send-leg-requires c κs = 
     let a = c .before .before .before .before .before .before .args in
-    let l = a .line .now in
+    let pre = c .before .before .before .before .before .before .pre in
     rw (c .before .before .before .send-packet .ensures)
-    (length-pushed-if (has (a .o .sent) (a .i)) l (packetOn (a .o) (a .i)) ∙ c .before .before .before .before .before .before .pre .0,
-    (omega (arith, count-pushed-if (has (a .o .sent) (a .i)) l (packetOn (a .o) (a .i)) (c .before .before .before .before .before .before .pre .0)), c .before .before .before .before .before .before .pre .1 .1))
+    (long-between (a .line .now) (a .o) (a .i) (pre .0) (pre .1 .1), (pre .1 .0, room-second (a .line .now) (a .o) (a .i) (pre .0) (pre .1 .1)))
 
 -- src/line.rt:39:1
 same-length : tie.Need-same-length

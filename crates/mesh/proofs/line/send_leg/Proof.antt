@@ -18,7 +18,7 @@ leg-packet-requires c κs = search needs
 
 -- src/line.rt:61:9
 push-requires : tie.Need-push-requires
-push-requires c κs = search needs
+push-requires c κs = (c .before .before .before .before .before .pre .0, c .before .before .before .before .before .pre .1 .1 (sym (c .before .before .before .has-link .ensures) ∙ c .before .before .if1 .taken))
 
 -- src/line.rt:56:1
 same-length : tie.Need-same-length

@@ -1,0 +1,83 @@
+use borrow.Author.Needs.{needs}
+use mathlib.Core.Path.{_≡_, refl, sym, ap, _∙_, subst}
+use lib.ListN.{length}
+use Rattle.mesh.proofs.Upto.{takes-on, finish}
+use Rattle.mesh.proofs.chip.after.Statement.{statement}
+use Rattle.mesh.proofs.chip.after.Tie as tie
+use Rattle.mesh.proofs.chip.after.Reads as reads
+use Rattle.mesh.proofs.chip.after.Lts as lts
+use Rattle.mesh.proofs.chip.count.Reads as count-reads
+use Rattle.mesh.proofs.chip.keep.Reads as keep-reads
+use Rattle.mesh.proofs.chip.send_all.Reads as send-all-reads
+
+-- src/chip.rt:35:10
+sub-keep : tie.Need-sub-keep
+sub-keep c = search needs
+
+-- src/chip.rt:35:10
+part-keep-start : tie.Need-part-keep-start
+part-keep-start c = search needs
+
+-- src/chip.rt:35:10
+part-keep-end : tie.Need-part-keep-end
+part-keep-end c = search needs
+
+-- src/chip.rt:35:5
+keep-requires : tie.Need-keep-requires
+keep-requires c κs = search needs
+
+-- src/chip.rt:36:11
+sub-count : tie.Need-sub-count
+sub-count c = search needs
+
+-- src/chip.rt:36:11
+part-count-start : tie.Need-part-count-start
+part-count-start c = search needs
+
+-- src/chip.rt:36:11
+part-count-end : tie.Need-part-count-end
+part-count-end c = search needs
+
+-- src/chip.rt:36:5
+count-requires : tie.Need-count-requires
+count-requires c κs = search needs
+
+-- src/chip.rt:37:5
+send-all-requires : tie.Need-send-all-requires
+send-all-requires c κs = 
+    let a = c .before .before .before .before .before .before .before .before .before .before .args in
+    let ws = c .before .before .before .before .before .before .before .keep .last .0 in
+    let cs = c .before .before .before .count .last .0 in
+    let lw : length ws ≡ 6 = ap length (c .before .before .before .before .before .before .before .keep .ensures) in
+    let lc : length cs ≡ 10 = ap length (c .before .before .before .count .ensures) in
+    takes-on (a .chip .now) ws cs (a .o) (c .before .before .before .before .before .before .before .before .before .before .pre .long) lw lc (c .before .before .before .before .before .before .before .before .before .before .pre)
+
+-- src/chip.rt:31:1
+same-length : tie.Need-same-length
+same-length c = search needs
+
+-- src/chip.rt:31:1
+returns : tie.Need-returns
+returns c = 
+    let a = c .before .before .before .before .before .before .before .before .before .before .before .before .before .args in
+    let ws = c .before .before .before .before .before .before .before .before .before .before .keep .last .0 in
+    let cs = c .before .before .before .before .before .before .count .last .0 in
+    let lw : length ws ≡ 6 = ap length (c .before .before .before .before .before .before .before .before .before .before .keep .ensures) in
+    let lc : length cs ≡ 10 = ap length (c .before .before .before .before .before .before .count .ensures) in
+    finish (a .chip .now) ws cs (a .o) (c .before .before .before .before .before .before .before .before .before .before .before .before .before .pre .long) lw lc (c .before .before .before .before .before .before .before .before .before .before .keep .ensures) (c .before .before .before .before .before .before .count .ensures) (c .before .before .send-all .last .0) (c .before .before .send-all .ensures)
+
+pub after-spec : {M : Type 1} → statement M
+after-spec =
+    tie.close
+    (tie.spec
+    sub-keep
+    part-keep-start
+    part-keep-end
+    keep-requires
+    sub-count
+    part-count-start
+    part-count-end
+    count-requires
+    send-all-requires
+    same-length
+    returns)
