@@ -2,4 +2,5 @@ pub mod Account
 pub mod Bounds
 pub mod Inputs
 pub mod OnePass
+pub mod Shown
 pub mod Ways
