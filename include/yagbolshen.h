@@ -1,7 +1,8 @@
 /* The C interface of libyagbolshen, a proved model of the SpiNNaker router.
  *
  * Every function takes any input and answers, or refuses with a number: `refusal` is 0 for an accepted call, and a
- * refused one answers zeros in every other field. A slice is a pointer and a count. Nothing is kept between calls.
+ * refused one answers zeros in every other field. A slice is a pointer and a count; an empty one may be NULL. Nothing is
+ * kept between calls.
  *
  *  1  source 6 or above 7                   7  width or height not 1 to 12, or rounds in a phase not 1 to 65,535
  *  2  packet length not 5 or 9              8  mesh buffer too short on opening, or later not holding a mesh
