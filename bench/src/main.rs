@@ -1,5 +1,5 @@
 //! Times the static library beside the plain Rust model, which makes the same checks, and measures the library's stack.
-//! Rounds of both are interleaved, so that what else the machine does falls on both. Argument: rounds (41).
+//! Rounds of both are interleaved, so that what else the machine does falls on both. Argument: rounds (300).
 
 #[path = "../../tests/compare/src/interface.rs"]
 mod interface;
@@ -13,7 +13,7 @@ mod stack;
 mod timing;
 
 fn main() {
-    let rounds: usize = std::env::args().nth(1).map_or(41, |text| text.parse().expect("the rounds are a number"));
+    let rounds: usize = std::env::args().nth(1).map_or(300, |text| text.parse().expect("the rounds are a number"));
     timing::print_head();
     pass_times::all(rounds);
     packet_times::all(rounds);
