@@ -43,7 +43,7 @@ fn rate<Input, Answer>(calls: u32, input: &Input, function: fn(&Input) -> Answer
     let function = black_box(function);
     let start = Instant::now();
     for _ in 0..calls {
-        black_box(function(black_box(input)));
+        black_box(&function(black_box(input)));
     }
     f64::from(calls) / start.elapsed().as_secs_f64()
 }
