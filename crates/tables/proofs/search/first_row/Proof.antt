@@ -24,7 +24,7 @@ use prog.Wp.{Heap, Out, Env, Calls, Loops, Wp, WpFn, Tables, afterSeq, afterBloc
 use ghost.Atoms.{Atoms}
 use contract.Monad.{Fun}
 use contract.Running.{givenOf, tables, tablesOf}
-use types.Kit.{Given, Item, Sq, runs, prop, frees, anyQ, atRet, ‵, raw, _⊛_, ⋆, _$_, _∵_, !, qed, by, move, keep, drop, use0, use1, split, join, rewrite, fsplit, fjoin, suffices, frame, done}
+use types.Kit.{Given, Item, Sq, runs, prop, frees, anyQ, atRet, ‵, raw, _⊛_, _$_, _∵_, !, qed, by, move, keep, drop, use0, split, join, rewrite, fsplit, fjoin, suffices, frame, done}
 use types.Run.{look, look-raw, init, store, forget, stop, hop, fld, from, load, lit, bin, of-opd, and-then, no-more, assigns, assigns-last, first, blocks, exec, land, returns, returns-within, Below, again, loops, enter, alloc1, alloc0, params1, pass1, pass0, free1, free0}
 use types.Part.{whole, sub, look-in, agg}
 use types.Share.{arr-parts}
@@ -35,9 +35,9 @@ use denote.Memory.{shares, pointee}
 use denote.Plain.{uint-vals, uint-tells, uint-makes, bool-lawful}
 use denote.Builtin.{u32, bool}
 use denote.Ref.{RefT}
-use denote.Slice.{sliceTy, sliceVal, ShrSlice, Room, slice-vals, shr-slice-tells, shr-slice-copy}
+use denote.Slice.{sliceTy, sliceVal, ShrSlice, Room, slice-vals, shr-slice-tells}
 use denote.Index.{place-is, elem-out, elem-back, looks-slice, shuts-slice}
-use denote.Signature.{plain}
+use denote.Signature.{plain, shrSliceOf}
 use denote.Steps.{only, owned, facts, nothing}
 use denote.Enum.Laws as EL
 use denote.Struct.Laws as LL
@@ -46,7 +46,7 @@ use denote.Triple.Call.{calls-at}
 use denote.Triple.Entry.{Vals, onEntry}
 use denote.Triple.Spec.{Meets, tripleOf}
 use denote.Triple.Table.{entered, cited}
-use denote.Triple.Walked.{says, Stays, stay-none, stay-none-slice, walkOf, goes-none, goes-none-slice, Walks, ends-at, walked, walk-meets}
+use denote.Triple.Walked.{says, Stays, stay-dropped, walkOf, goes-dropped, Walks, ends-at, walked, walk-meets}
 use denote.Exit.{yes}
 use Rattle.tables.specs.Rows.{matches}
 use Rattle.tables.specs.declared.Found.{Found}
@@ -69,7 +69,7 @@ use Rattle.tables.proofs.search.first_row.Code as code
 use Rattle.tables.proofs.search.first_row.Code.Mir as mir
 
 abbrev stayed : Stays (first-row.ended .signature .params) (first-row.ended .kept)
-stayed = (stay-none-slice (0 ∷ []) tt (plain (λ _. R.the-row)) yes, (stay-none (λ _. u32) yes, tt))
+stayed = (stay-dropped _ yes, (stay-dropped _ yes, tt))
 
 abbrev slice : Ty
 slice = sliceTy (tyRef (named 0) imm (pointee (R.the-row .written)))
@@ -90,21 +90,17 @@ module _ {M : Type 1} (𝓤 : URA M) (H : Heap 𝓤) (A : Atoms 𝓤) (W : Given
   abbrev at : Vals first-row.signature (κ, tt)
   at = (sliceVal (b, o) n ∷ [], (vint w32 key ∷ [], tt))
 
-  abbrev Own : Fml
-  Own = ShrSlice (named 0) κ R.the-row .own (x .0) (at .0)
-
   abbrev Lent : Fml
   Lent = fshr-bor κ (λ s. arr-parts (shares R.the-row) n .part s ys b o)
 
   abbrev Post : Val → SProp 𝓤
   Post = walkOf 𝓤 H A first-row.ended stayed (first-row.clauses 𝓤 H A mem run) .post (((κ, tt), (q, tt), tt, x, at), tt)
 
-  exits : (r : Found) (v : Val) → Is F.the-row r (v ∷ []) → r ≡ found ys key → ent 𝓤 (⋆ 𝓤 H A (‵ (flft κ q) ∷ ‵ Own ∷ [])) (Post v)
+  exits : (r : Found) (v : Val) → Is F.the-row r (v ∷ []) → r ≡ found ys key → ent 𝓤 (A .lft κ q) (Post v)
   exits r v is e =
-      qed W (‵ (flft κ q) ∷ ‵ Own ∷ []) ∵
+      qed W (‵ (flft κ q) ∷ []) ∵
       suffices ! _ (ends-at 𝓤 H A first-row.ended stayed (first-row.clauses 𝓤 H A mem run) W (((κ, tt), (q, tt), tt, x, at), tt) v r (tt, (tt, tt)) (tt, (tt, tt))) $ says ! e $
-      nothing ! $ move ! (1 ∷ 0 ∷ []) $ join ! $ nothing ! $ owned ! u32 (Is u32) (uint-makes 𝓤 H A W w32) key _ (refl, key-fits) $ fjoin ! $ move ! (2 ∷ 0 ∷ []) $ fjoin ! $ move ! (1 ∷ 0 ∷ []) $
-      frame ! $ frame ! $ owned ! F.the-row (Is F.the-row) (EL.makes F.the-type F′.the-plain 𝓤 H A) r _ is $ done !
+      nothing ! $ move ! (1 ∷ 0 ∷ []) $ join ! $ frame ! $ owned ! F.the-row (Is F.the-row) (EL.makes F.the-type F′.the-plain 𝓤 H A) r _ is $ nothing ! $ nothing ! $ fjoin ! $ nothing ! $ fjoin ! $ done !
 
   -- ---- the call
   module _ (r : Row) where
@@ -157,11 +153,11 @@ module _ {M : Type 1} (𝓤 : URA M) (H : Heap 𝓤) (A : Atoms 𝓤) (W : Given
     abbrev En : Env 𝓤 H
     En = (F′.mir, l₀) ∷ (slice, l₁) ∷ (tyInt w32, l₂) ∷ (tyInt w64, l₃) ∷ (R′.mir, l₄) ∷ (tyInt w64, l₅) ∷ (tyBool, l₆) ∷ (tyPtr, l₇) ∷ (R′.mir, l₈) ∷ (tyBool, l₉) ∷ []
 
-    -- the token, the slice, the locals _0 to _9, those in the middle as given, and what the slice's reference owns, which is kept for the exit
+    -- the token, the slice, and the locals: _0 to _3 as given, and room for the others
     abbrev Around : Item 𝓤 → Item 𝓤 → Item 𝓤 → Item 𝓤 → List (Item 𝓤)
     Around v₀ v₁ v₂ v₃ = ‵ (flft κ q) ∷ ‵ Lent ∷ v₀ ∷ ‵ (fdies F′.mir l₀) ∷ v₁ ∷ ‵ (fdies slice l₁) ∷ v₂ ∷ ‵ (fdies (tyInt w32) l₂) ∷ v₃ ∷ ‵ (fdies (tyInt w64) l₃)
         ∷ ‵ (froom R′.mir l₄ 0) ∷ ‵ (fdies R′.mir l₄) ∷ ‵ (froom (tyInt w64) l₅ 0) ∷ ‵ (fdies (tyInt w64) l₅) ∷ ‵ (froom tyBool l₆ 0) ∷ ‵ (fdies tyBool l₆) ∷ ‵ (froom tyPtr l₇ 0) ∷ ‵ (fdies tyPtr l₇)
-        ∷ ‵ (froom R′.mir l₈ 0) ∷ ‵ (fdies R′.mir l₈) ∷ ‵ (froom tyBool l₉ 0) ∷ ‵ (fdies tyBool l₉) ∷ ‵ Own ∷ []
+        ∷ ‵ (froom R′.mir l₈ 0) ∷ ‵ (fdies R′.mir l₈) ∷ ‵ (froom tyBool l₉ 0) ∷ ‵ (fdies tyBool l₉) ∷ []
 
     -- between two turns
     abbrev Between : Upto → List (Item 𝓤)
@@ -175,7 +171,7 @@ module _ {M : Type 1} (𝓤 : URA M) (H : Heap 𝓤) (A : Atoms 𝓤) (W : Given
     leaves : (r : Found) (v : Val) → Is F.the-row r (v ∷ []) → r ≡ found ys key
         → Sq W (Around (‵ (froom F′.mir l₀ 0)) (‵ (froom slice l₁ 0)) (‵ (froom (tyInt w32) l₂ 0)) (‵ (froom (tyInt w64) l₃ 0))) (frees En (prop (Post v)))
     leaves r v is e =
-        keep ! (2 ∷ 3 ∷ 4 ∷ 5 ∷ 6 ∷ 7 ∷ 8 ∷ 9 ∷ 10 ∷ 11 ∷ 12 ∷ 13 ∷ 14 ∷ 15 ∷ 16 ∷ 17 ∷ 18 ∷ 19 ∷ 20 ∷ 21 ∷ 0 ∷ 22 ∷ []) $
+        keep ! (2 ∷ 3 ∷ 4 ∷ 5 ∷ 6 ∷ 7 ∷ 8 ∷ 9 ∷ 10 ∷ 11 ∷ 12 ∷ 13 ∷ 14 ∷ 15 ∷ 16 ∷ 17 ∷ 18 ∷ 19 ∷ 20 ∷ 21 ∷ 0 ∷ []) $
         free1 ! $ free1 ! $ free1 ! $ free1 ! $ free1 ! $ free1 ! $ free1 ! $ free1 ! $ free1 ! $ free1 ! $ free0 ! $ by ! (exits r v is e)
 
     turns : (i : Upto) → Sq W (Between i) (runs C Λ En mir.turn-1 (anyQ (Turned i)))
@@ -189,7 +185,7 @@ module _ {M : Type 1} (𝓤 : URA M) (H : Heap 𝓤) (A : Atoms 𝓤) (W : Given
         rewrite ! 16 (λ (p : ℕ). ‵ (fat fullShare tyPtr l₇ 0 (vptr b p))) (sym (place-is 12 o (i .0))) refl $ move ! (1 ∷ 0 ∷ []) $
         looks-slice ! tt R.the-row (Is R.the-row) (shows 𝓤 H A R.the-row) (LL.vals R.the-type R′.the-laws) (LL.tells R.the-type R′.the-laws) (LL.copy R.the-type R′.the-copy 𝓤 H A W) ys b o (λ q′.
         elem-out ! R.the-row (Is R.the-row) (shows 𝓤 H A R.the-row) (LL.vals R.the-type R′.the-laws) (LL.tells R.the-type R′.the-laws) q′ ys (i .0) blank b o (below i less) (λ is.
-        -- [row i; what it owns; the others; what shuts; the borrow; _0; …; _9; …; what rows owns]
+        -- [row i; what it owns; the others; what shuts; the borrow; _0; …; _9; …]
         assigns ! (of-opd ! (load ! (from ! (hop ! (look ! 19 refl) (stop !))) (look-raw ! 0 refl))) (from ! (stop !)) (init ! 21 refl (LL.lawful R.the-type R′.the-laws 𝓤 H A W .typed (row i) _ is .0)) $
         elem-back ! R.the-row q′ ys (i .0) blank (R′.lowered (row i) ∷ []) b o (below i less) $ shuts-slice ! tt R.the-row q′ ys b o $
         assigns ! (of-opd ! (load ! (from ! (stop !)) (look ! 18 refl))) (from ! (stop !)) (init ! 10 refl (LL.lawful R.the-type R′.the-laws 𝓤 H A W .typed (row i) _ is .0)) $
@@ -221,11 +217,9 @@ module _ {M : Type 1} (𝓤 : URA M) (H : Heap 𝓤) (A : Atoms 𝓤) (W : Given
       alloc1 ! (λ l₀. alloc1 ! (λ l₁. alloc1 ! (λ l₂. alloc1 ! (λ l₃. alloc1 ! (λ l₄. alloc1 ! (λ l₅. alloc1 ! (λ l₆. alloc1 ! (λ l₇. alloc1 ! (λ l₈. alloc1 ! (λ l₉. alloc0 ! $ params1 ! $
       pass1 ! (init ! 16 refl (tt, (tt, (record { fits = room .0 }, tt)))) $ pass1 ! (init ! 14 refl (tt, record { fits = key-fits })) $ pass0 ! $
       assigns ! (of-opd ! (lit ! tt)) (from ! (stop !)) (init ! 12 refl (tt, record { fits = lit< tt })) $
-      -- the reference is Copy: one copy of what it owns is kept for the exit, and of the other the borrow is taken
-      move ! (21 ∷ []) $ fsplit ! $ use1 W (‵ Own ⊛ ‵ Own) (shr-slice-copy 𝓤 H A W (named 0) κ R.the-row .twice (x .0) (at .0)) $ split ! $
-      fsplit ! $ drop ! $ fsplit ! $ drop ! $ move ! (23 ∷ []) $ split ! $
-      -- [the token; true; the borrow; what rows owns; what key owns; _9; …; _0; …]
-      keep ! (0 ∷ 2 ∷ 23 ∷ 24 ∷ 21 ∷ 22 ∷ 19 ∷ 20 ∷ 17 ∷ 18 ∷ 15 ∷ 16 ∷ 13 ∷ 14 ∷ 11 ∷ 12 ∷ 9 ∷ 10 ∷ 7 ∷ 8 ∷ 5 ∷ 6 ∷ 3 ∷ []) $
+      move ! (21 ∷ []) $ fsplit ! $ fsplit ! $ drop ! $ fsplit ! $ drop ! $ move ! (22 ∷ []) $ split ! $
+      -- [the token; true; the borrow; what key owns; _9; …; _0; …]
+      keep ! (0 ∷ 2 ∷ 22 ∷ 23 ∷ 20 ∷ 21 ∷ 18 ∷ 19 ∷ 16 ∷ 17 ∷ 14 ∷ 15 ∷ 12 ∷ 13 ∷ 10 ∷ 11 ∷ 8 ∷ 9 ∷ 6 ∷ 7 ∷ 4 ∷ 5 ∷ []) $
       begins 𝓣 known l₀ l₁ l₂ l₃ l₄ l₅ l₆ l₇ l₈ l₉))))))))))
 
 module _ {M : Type 1} (𝓤 : URA M) (H : Heap 𝓤) (A : Atoms 𝓤) (W : Given 𝓤 H A) (mem : Memory → SProp 𝓤) (run : Routine → Fun 𝓤) (𝓣 : Tables 𝓤 H) (known : Triple 𝓤 (𝓣 .C #tables·search·matches-row) (MatchesRow 𝓤 H A mem run)) where
@@ -237,7 +231,7 @@ module _ {M : Type 1} (𝓤 : URA M) (H : Heap 𝓤) (A : Atoms 𝓤) (W : Given
 
   first-row-meets : Meets 𝓤 H A first-row.signature (WpFn 𝓤 H (𝓣 .C) (𝓣 .Λ) code.function) (first-row.spec 𝓤 H A mem run)
   first-row-meets =
-      walk-meets 𝓤 H A first-row.ended stayed W (goes-none-slice 𝓤 H A W 1 (0 ∷ []) tt (plain (λ _. R.the-row)) yes, (goes-none 𝓤 H A W 1 (λ _. u32) yes (λ κs x f. refl), tt)) (first-row.clauses 𝓤 H A mem run)
+      walk-meets 𝓤 H A first-row.ended stayed W (goes-dropped 𝓤 H A W 1 (shrSliceOf (0 ∷ []) tt (plain (λ _. R.the-row))) yes (λ κs x f. refl), (goes-dropped 𝓤 H A W 1 (plain (λ _. u32)) yes (λ κs x f. refl), tt)) (first-row.clauses 𝓤 H A mem run)
       (WpFn 𝓤 H (𝓣 .C) (𝓣 .Λ) code.function) (WpFn-mono 𝓤 H (W .laws) 𝓣 code.function) first-row-walks
 
 pub first-row-spec : {M : Type 1} → stated.statement M
