@@ -54,6 +54,13 @@ pub fn first_row(rows: &[Row], key: u32) -> Found
     Found::Nothing
 }
 
+// The same search through four rows, passed by value: a caller with rows of its own lends nothing.
+pub fn first_of_four(rows: [Row; 4], key: u32) -> Found
+    ensures { λ r. ⌜ r ≡ firstMatch key (rowsOf (numbersOf rows)) ⌝ }
+{
+    first_row(&rows, key)
+}
+
 fn matches_row(key: u32, row_key: u32, mask: u32) -> bool
     ensures { λ r. ⌜ r ≡ matches key «row_key» mask ⌝ }
 {
