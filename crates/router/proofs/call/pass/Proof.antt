@@ -33,7 +33,7 @@ shown-requires : tie.Need-shown-requires
 shown-requires c κs =
     let a = c .before .before .before .before .before .before .args in
     let s = unless-sets (c .before .before .checked .result) (a .source) (a .rows .now) (a .codes .now) (a .t) in
-    rw (c .outcome-unless .ensures) (s .dropped, s .lost)
+    rw (c .outcome-unless .ensures) (s .sent, (s .dropped, s .lost))
 
 -- src/call.rt:26:1
 returns : tie.Need-returns
