@@ -1,5 +1,6 @@
 pub mod Determined
 pub mod First
+pub mod Folded
 pub mod Masks
 pub mod Ranges
 pub mod Refusals

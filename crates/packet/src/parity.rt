@@ -4,14 +4,14 @@ use super::control::mark_in;
 use super::control::parity_in;
 use super::control::stamp_in;
 ghost use mathlib.Core.Path.{_≡_};
-ghost use Prim.Native.Nat.{_≤_};
+ghost use Prim.Native.Nat.{_%_, _≤_};
 ghost use Rattle.packet.specs.Parity.{onesOf, isOdd, withControl, setRight, withMark, withStamp};
 
 // Whether all bits of the packet together hold an odd number of ones.
 pub fn is_odd(p: Packet) -> bool
     ensures { λ r. ⌜ r ≡ isOdd p ⌝ }
 {
-    ones_of(p) % 2 == 1
+    folded_ones(p) % 2 == 1
 }
 
 // The packet with a new mark, its parity bit set right.
@@ -28,16 +28,17 @@ pub fn with_stamp(p: Packet, stamp: u32) -> Packet
     set_right(with_control(p, stamp_in(p.control, stamp)))
 }
 
-fn ones_of(p: Packet) -> u32
-    ensures { λ r. ⌜ (r ≡ onesOf p) × (r ≤ 96) ⌝ }
+// The ones of the three words laid over each other: odd where those of all bits are, and counted at once.
+fn folded_ones(p: Packet) -> u32
+    ensures { λ r. ⌜ (r % 2 ≡ onesOf p % 2) × (r ≤ 32) ⌝ }
 {
-    u32::count_ones(p.control) + u32::count_ones(p.word) + u32::count_ones(p.payload)
+    u32::count_ones(p.control ^ p.word ^ p.payload)
 }
 
 fn set_right(p: Packet) -> Packet
     ensures { λ r. ⌜ r ≡ setRight p ⌝ }
 {
-    let others = ones_of(with_control(p, parity_in(p.control, 0)));
+    let others = folded_ones(with_control(p, parity_in(p.control, 0)));
     with_control(p, parity_in(p.control, others + 1))
 }
 

@@ -5,6 +5,7 @@ use mathlib.Core.List.{List}
 use lib.Dec.{eqb}
 use lib.ListN.{length}
 use Rattle.packet.specs.declared.Packet.{Packet}
+use Rattle.packet.specs.Bytes.{nothing}
 use Rattle.packet.specs.Control.{kindOf, markOf}
 use Rattle.packet.specs.Parity.{withMark}
 use Rattle.router.specs.declared.Setting.{Setting}
@@ -46,6 +47,10 @@ outcomeOf p source rows codes t =
     decided (errorsOf p source (t .phase)) (stampedOf p source (errorsOf p source (t .phase)) (t .phase)) source
     (wantedOf (errorsOf p source (t .phase)) p source rows codes t)
     (t .ready)
+
+-- Nothing at all, as where a pass is refused.
+abbrev pub noOutcome : Outcome
+noOutcome = record { errors = 0; packet = nothing; wanted = 0; missed = 0; sent = 0; carried = 0; dropped = 0; leg = 0; lost = 0 }
 
 -- "Mark 00 if wanted and not carrying a detour, 01 if wanted and carrying one, 10 if only carrying."
 abbrev pub markOn : Outcome → ℕ → ℕ

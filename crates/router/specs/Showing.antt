@@ -26,11 +26,11 @@ onLeg o = cond (eqb (o .leg) 0) nothing (legPacket o)
 abbrev pub toProcessors : Outcome → Packet
 toProcessors o = cond (ltb (o .wanted) 64) nothing (o .packet)
 
--- "The one-router call returns registers and counters, begun from zeros."
-abbrev pub passFrom : Outcome → Pass
-passFrom o =
+-- What is shown of a pass under a refusal's number, where 0 is none.
+abbrev pub passShown : ℕ → Outcome → Pass
+passShown n o =
     record {
-      refusal = 0;
+      refusal = n;
       errors = o .errors;
       wanted = o .wanted;
       sent = o .sent;
@@ -42,8 +42,12 @@ passFrom o =
       packets = packetsOf o;
       leg = onLeg o;
       registers = keptOf empty o;
-      counters = countedOf zeros o;
+      counters = cond (eqb n 0) (countedOf zeros o) zeros;
     }
+
+-- "The one-router call returns registers and counters, begun from zeros."
+abbrev pub passFrom : Outcome → Pass
+passFrom o = passShown 0 o
 
 abbrev pub noPass : ℕ → Pass
 noPass n =

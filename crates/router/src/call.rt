@@ -1,9 +1,11 @@
 // The one-router call: it takes anything, and answers or refuses.
+use super::Outcome;
 use super::Pass;
 use super::Setting;
+use super::deciding::no_outcome;
 use super::deciding::outcome_of;
-use super::showing::no_pass;
-use super::showing::pass_from;
+use super::showing::shown;
+use packet::Packet;
 use packet::Taken;
 use packet::bytes::not_taken;
 use packet::bytes::take;
@@ -12,11 +14,12 @@ use packet::control::kind_of;
 use tables::accept::codes_fine;
 use tables::accept::rows_fine;
 ghost use mathlib.Core.Path.{_≡_};
-ghost use mathlib.Core.Bool.{true};
+ghost use mathlib.Core.Bool.{true, cond};
+ghost use lib.Dec.{eqb};
 ghost use Prim.Native.Nat.{_*_};
 ghost use Rattle.packet.specs.Refusal.{firstOf};
-ghost use Rattle.router.specs.Deciding.{Checked};
-ghost use Rattle.router.specs.Call.{sizeFine, settingFine, sourceFine, isDirect, settingRefusals, checkedOf, answer, passOf};
+ghost use Rattle.router.specs.Deciding.{Checked, noOutcome, outcomeOf};
+ghost use Rattle.router.specs.Call.{sizeFine, settingFine, sourceFine, isDirect, settingRefusals, checkedOf, passOf};
 
 // One pass of one router. Refusals, the first that applies: 7 size, 6 phase, ready set or monitor, 5 rows, 11 codes,
 // 1 source, 2 length, 3 type 11, 4 NN with T = 1.
@@ -24,11 +27,27 @@ pub fn pass(bytes: &[u8], source: u32, rows: &[u32], codes: &[u8], t: Setting) -
     ensures { λ r. ⌜ r ≡ passOf (now (bytes .entry)) source (now (rows .entry)) (now (codes .entry)) t ⌝ }
 {
     let taken = checked(bytes, source, rows, codes, t);
-    if taken.refusal == 0 {
-        let p = taken.packet;
-        pass_from(outcome_of(p, source, rows, codes, t))
+    let p = taken.packet;
+    let o = outcome_unless(taken.refusal, p, source, rows, codes, t);
+    shown(taken.refusal, o)
+}
+
+// What a pass does, or nothing where it is refused.
+fn outcome_unless(
+    refusal: u32,
+    p: Packet,
+    source: u32,
+    rows: &[u32],
+    codes: &[u8],
+    t: Setting,
+) -> Outcome
+    requires { ⌜ (refusal ≡ 0 → Checked p source (now codes) t) ⌝ }
+    ensures { λ r. ⌜ r ≡ cond (eqb refusal 0) (outcomeOf p source (now (rows .entry)) (now (codes .entry)) t) noOutcome ⌝ }
+{
+    if refusal == 0 {
+        outcome_of(p, source, rows, codes, t)
     } else {
-        no_pass(taken.refusal)
+        no_outcome()
     }
 }
 

@@ -18,7 +18,7 @@ use packet::parity::with_mark;
 ghost use mathlib.Core.Path.{_≡_};
 ghost use Prim.Native.Nat.{_<_};
 ghost use Rattle.router.specs.Links.{has};
-ghost use Rattle.router.specs.Deciding.{hasLeg, legSet, decided, outcomeOf, markOn, packetOn, legPacket, Checked};
+ghost use Rattle.router.specs.Deciding.{hasLeg, legSet, decided, noOutcome, outcomeOf, markOn, packetOn, legPacket, Checked};
 
 // The pass itself, for inputs that have been checked.
 pub fn outcome_of(p: Packet, source: u32, rows: &[u32], codes: &[u8], t: Setting) -> Outcome
@@ -29,6 +29,29 @@ pub fn outcome_of(p: Packet, source: u32, rows: &[u32], codes: &[u8], t: Setting
     let stamped = stamped_of(p, source, errors, t.phase);
     let wanted = wanted_of(errors, p, source, rows, codes, t);
     decide(errors, stamped, source, wanted, t.ready)
+}
+
+// What a pass that does not take place does.
+pub fn no_outcome() -> Outcome
+    ensures { λ r. ⌜ r ≡ noOutcome ⌝ }
+{
+    let packet = Packet {
+        control: 0,
+        nine: 0,
+        word: 0,
+        payload: 0,
+    };
+    Outcome {
+        errors: 0,
+        packet,
+        wanted: 0,
+        missed: 0,
+        sent: 0,
+        carried: 0,
+        dropped: 0,
+        leg: 0,
+        lost: 0,
+    }
 }
 
 // What link i sends in step 5 or 7.

@@ -6,6 +6,7 @@ pub mod deciding;
 pub mod detour;
 pub mod errors;
 pub mod keeping;
+pub mod lent;
 pub mod showing;
 pub mod wants;
 

@@ -1,31 +1,35 @@
 // What the one-router call shows of a pass.
+use super::Counters;
 use super::Outcome;
 use super::Pass;
 use super::counting::counted_of;
 use super::counting::no_counts;
-use super::deciding::has_link;
 use super::deciding::leg_packet;
 use super::deciding::packet_on;
 use super::keeping::empty_registers;
 use super::keeping::kept_of;
 use packet::Packet;
 ghost use mathlib.Core.Path.{_≡_};
+ghost use mathlib.Core.Bool.{cond};
+ghost use lib.Dec.{eqb};
 ghost use Prim.Native.Nat.{_<_};
 ghost use Rattle.packet.specs.Bytes.{nothing};
-ghost use Rattle.router.specs.Showing.{onLink, onLeg, toProcessors, packetsOf, passFrom, noPass};
+ghost use Rattle.router.specs.Showing.{onLeg, toProcessors, packetsOf, passShown};
+ghost use Rattle.router.specs.Counting.{zeros, countedOf};
 
-// All that a pass did, its registers and counters begun from zeros.
-pub fn pass_from(o: Outcome) -> Pass
-    requires { ⌜ (o .dropped < 64) × (o .lost < 64) ⌝ }
-    ensures { λ r. ⌜ r ≡ passFrom o ⌝ }
+// All that a pass did, its registers and counters begun from zeros; or, of a pass that was refused, the number of the
+// refusal and zeros.
+pub fn shown(refusal: u32, o: Outcome) -> Pass
+    requires { ⌜ (o .sent < 64) × ((o .dropped < 64) × (o .lost < 64)) ⌝ }
+    ensures { λ r. ⌜ r ≡ passShown refusal o ⌝ }
 {
     let delivered = to_processors(o);
     let packets = packets_of(o);
     let leg = on_leg(o);
     let registers = kept_of(empty_registers(), o);
-    let counters = counted_of(no_counts(), o);
+    let counters = counts_shown(refusal, o);
     Pass {
-        refusal: 0,
+        refusal,
         errors: o.errors,
         wanted: o.wanted,
         sent: o.sent,
@@ -41,28 +45,13 @@ pub fn pass_from(o: Outcome) -> Pass
     }
 }
 
-// A refusal: its number, and zeros elsewhere.
-pub fn no_pass(refusal: u32) -> Pass
-    ensures { λ r. ⌜ r ≡ noPass refusal ⌝ }
+fn counts_shown(refusal: u32, o: Outcome) -> Counters
+    ensures { λ r. ⌜ r ≡ cond (eqb refusal 0) (countedOf zeros o) zeros ⌝ }
 {
-    let none = no_packet();
-    let registers = empty_registers();
-    let counters = no_counts();
-    let packets = [none, none, none, none, none, none];
-    Pass {
-        refusal,
-        errors: 0,
-        wanted: 0,
-        sent: 0,
-        dropped: 0,
-        leg_sent: 0,
-        leg_dropped: 0,
-        processors: 0,
-        delivered: none,
-        packets,
-        leg: none,
-        registers,
-        counters,
+    if refusal == 0 {
+        counted_of(no_counts(), o)
+    } else {
+        no_counts()
     }
 }
 
@@ -77,27 +66,20 @@ fn no_packet() -> Packet
     }
 }
 
+// What each link sends, and zeros where it sends nothing: the links that send are gone through, lowest first.
 fn packets_of(o: Outcome) -> [Packet; 6]
+    requires { ⌜ o .sent < 64 ⌝ }
     ensures { λ r. ⌜ r ≡ packetsOf o ⌝ }
 {
-    let a = on_link(o, 0);
-    let b = on_link(o, 1);
-    let c = on_link(o, 2);
-    let d = on_link(o, 3);
-    let e = on_link(o, 4);
-    let f = on_link(o, 5);
-    [a, b, c, d, e, f]
-}
-
-fn on_link(o: Outcome, i: u32) -> Packet
-    requires { ⌜ i < 6 ⌝ }
-    ensures { λ r. ⌜ r ≡ onLink o i ⌝ }
-{
-    if has_link(o.sent, i) {
-        packet_on(o, i)
-    } else {
-        no_packet()
+    let none = no_packet();
+    let mut packets = [none; 6];
+    let mut rest = o.sent;
+    while rest != 0 {
+        let i = u32::trailing_zeros(rest);
+        packets[i as usize] = packet_on(o, i);
+        rest = rest & (rest - 1);
     }
+    packets
 }
 
 fn on_leg(o: Outcome) -> Packet

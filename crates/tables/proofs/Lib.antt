@@ -1,3 +1,5 @@
 pub mod Chips
+pub mod LentRows
 pub mod OneByOne
 pub mod RowByRow
+pub mod Walking

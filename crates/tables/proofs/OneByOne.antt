@@ -1,38 +1,69 @@
 -- The tests of lent tables, entry by entry: what is known of all from those that are still to come. Assumes nothing.
 use mathlib.Core.Path.{_≡_, refl, sym, ap, _∙_, subst}
-use mathlib.Core.Bool.{Bool, true, false, _&&_}
+use mathlib.Core.Bool.{Bool, true, false, _&&_, and-assoc, and-true}
 use mathlib.Core.List.{List, [], _∷_}
 use Prim.Native.Nat.{ℕ, suc, _+_, _*_, _/_, _<_, _≤_}
 use native.Mathlib.Omega.{arith}
 use native.Mathlib.Numerals.{add-one}
 use lib.ListN.{length, getD, drop, drop-of-length-le}
 use lib.Seq.{drop-cons}
-use borrow.Author.Tests.{lt-ltb, le-ltb}
+use lib.Dec.{ltb}
+use lib.Bits.{bitOr, bitAnd, or-lt, or-add-and, and-le-l, and-le-r}
+use borrow.Author.Tests.{lt-ltb, le-ltb, ltb-true, ltb-false}
 use Rattle.tables.specs.Rows.{Entry, rowsOf}
 use Rattle.tables.specs.Accept.{allRoutes, allCodes}
 use Rattle.tables.proofs.RowByRow.{rows-step, rows-end}
 
+-- two numbers joined are below a power of two when both are
+or-below : (a b : ℕ) → ltb (bitOr a b) 67108864 ≡ (ltb a 67108864 && ltb b 67108864)
+or-below a b = go (ltb a 67108864) (ltb b 67108864) refl refl
+  where
+    sum : bitOr a b + bitAnd a b ≡ a + b
+    sum = or-add-and a b
+
+    left : bitAnd a b ≤ a
+    left = and-le-l a b
+
+    right : bitAnd a b ≤ b
+    right = and-le-r a b
+
+    go : (p q : Bool) → ltb a 67108864 ≡ p → ltb b 67108864 ≡ q → ltb (bitOr a b) 67108864 ≡ (p && q)
+    go true true x y = lt-ltb (bitOr a b) 67108864 (or-lt 26 a b (ltb-true _ _ x) (ltb-true _ _ y))
+    go true false x y = let big : 67108864 ≤ b = ltb-false _ _ y in le-ltb (bitOr a b) 67108864 (omega (arith, sum, left))
+    go false q x y = let big : 67108864 ≤ a = ltb-false _ _ x in le-ltb (bitOr a b) 67108864 (omega (arith, sum, right))
+
 module _ (s : List ℕ) (i : ℕ) where
-  pub routes-on : i * 3 + 2 < length s → getD s (i * 3 + 2) 0 < 67108864 → allRoutes (rowsOf (drop (i * 3) s)) ≡ allRoutes (rowsOf (drop ((i + 1) * 3) s))
+  routes-step : i * 3 + 2 < length s → allRoutes (rowsOf (drop (i * 3) s)) ≡ (ltb (getD s (i * 3 + 2) 0) 67108864 && allRoutes (rowsOf (drop ((i + 1) * 3) s)))
   unfolding allRoutes
-  routes-on h f = ap allRoutes (rows-step s i h) ∙ simp (lt-ltb _ _ f)
+  routes-step h = ap allRoutes (rows-step s i h)
 
-  pub routes-bad : i * 3 + 2 < length s → 67108864 ≤ getD s (i * 3 + 2) 0 → allRoutes (rowsOf (drop (i * 3) s)) ≡ false
-  unfolding allRoutes
-  routes-bad h f = ap allRoutes (rows-step s i h) ∙ simp (le-ltb _ _ f)
-
-  pub routes-end : length s / 3 ≤ i → allRoutes (rowsOf (drop (i * 3) s)) ≡ true
+  routes-end : length s / 3 ≤ i → allRoutes (rowsOf (drop (i * 3) s)) ≡ true
   unfolding allRoutes
   routes-end h = ap allRoutes (rows-end s i h)
 
-  pub codes-on : i < length s → getD s i 0 < 8 → allCodes (drop i s) ≡ allCodes (drop (i + 1) s)
-  unfolding allCodes
-  codes-on h f = ap allCodes (drop-cons s i 0 h) ∙ simp (lt-ltb _ _ f, add-one)
+  pub routes-joined : (all : Bool) (joined : ℕ) → i * 3 + 2 < length s → all ≡ (ltb joined 67108864 && allRoutes (rowsOf (drop (i * 3) s)))
+      → all ≡ (ltb (bitOr joined (getD s (i * 3 + 2) 0)) 67108864 && allRoutes (rowsOf (drop ((i + 1) * 3) s)))
+  routes-joined all joined h e =
+      e ∙ ap (λ (r : Bool). ltb joined 67108864 && r) (routes-step h)
+      ∙ sym (and-assoc (ltb joined 67108864) (ltb (getD s (i * 3 + 2) 0) 67108864) (allRoutes (rowsOf (drop ((i + 1) * 3) s))))
+      ∙ ap (λ (f : Bool). f && allRoutes (rowsOf (drop ((i + 1) * 3) s))) (sym (or-below joined (getD s (i * 3 + 2) 0)))
 
-  pub codes-bad : i < length s → 8 ≤ getD s i 0 → allCodes (drop i s) ≡ false
-  unfolding allCodes
-  codes-bad h f = ap allCodes (drop-cons s i 0 h) ∙ simp (le-ltb _ _ f)
+  pub routes-last : (all : Bool) (joined : ℕ) → length s / 3 ≤ i → all ≡ (ltb joined 67108864 && allRoutes (rowsOf (drop (i * 3) s))) → all ≡ ltb joined 67108864
+  routes-last all joined h e = e ∙ ap (λ (r : Bool). ltb joined 67108864 && r) (routes-end h) ∙ and-true (ltb joined 67108864)
 
-  pub codes-end : length s ≤ i → allCodes (drop i s) ≡ true
+  codes-step : i < length s → allCodes (drop i s) ≡ (ltb (getD s i 0) 8 && allCodes (drop (i + 1) s))
+  unfolding allCodes
+  codes-step h = ap allCodes (drop-cons s i 0 h) ∙ simp add-one
+
+  codes-end : length s ≤ i → allCodes (drop i s) ≡ true
   unfolding allCodes
   codes-end h = ap allCodes (drop-of-length-le s h)
+
+  pub codes-joined : (all fine : Bool) → i < length s → all ≡ (fine && allCodes (drop i s))
+      → all ≡ ((fine && ltb (getD s i 0) 8) && allCodes (drop (i + 1) s))
+  codes-joined all true h e = e ∙ codes-step h
+  codes-joined all false h e = e
+
+  pub codes-last : (all fine : Bool) → length s ≤ i → all ≡ (fine && allCodes (drop i s)) → all ≡ fine
+  codes-last all true h e = e ∙ codes-end h
+  codes-last all false h e = e

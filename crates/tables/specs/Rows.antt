@@ -10,6 +10,7 @@ use Rattle.tables.specs.declared.Found.{Found}
 use Rattle.tables.specs.declared.Found.the-variants.{At, Nothing}
 use Rattle.tables.specs.declared.Matched.{Matched}
 use Rattle.tables.specs.declared.Matched.the-variants.{Route, Missed}
+use Rattle.tables.specs.declared.Row.{Row}
 
 pub record Entry : Type 0 where
   pub key : ℕ
@@ -25,6 +26,11 @@ rowsOf [] = []
 rowsOf (k ∷ []) = []
 rowsOf (k ∷ m ∷ []) = []
 rowsOf (k ∷ m ∷ r ∷ rest) = record { key = k; mask = m; route = r } ∷ rowsOf rest
+
+-- A table kept in row structs has the same numbers: key, mask and route of each row in turn.
+unfoldable pub numbersOf : List Row → List ℕ
+numbersOf [] = []
+numbersOf (r ∷ rs) = r .key ∷ r .mask ∷ r .route ∷ numbersOf rs
 
 -- One row further on.
 abbrev pub next : Found → Found

@@ -27,14 +27,13 @@ pub fn routes_fine(rows: &[u32]) -> bool
         return false;
     }
     let count = rows.len() / 3;
+    let mut joined = 0;
     let mut i = 0;
     while i < count {
-        if ROUTES <= rows[i * 3 + 2] {
-            return false;
-        }
+        joined = joined | rows[i * 3 + 2];
         i += 1;
     }
-    true
+    joined < ROUTES
 }
 
 // P2P codes: as many as asked for, none above 7.
@@ -44,12 +43,11 @@ pub fn codes_fine(codes: &[u8], count: usize) -> bool
     if codes.len() != count {
         return false;
     }
+    let mut fine = true;
     let mut i = 0;
     while i < codes.len() {
-        if 8 <= codes[i] {
-            return false;
-        }
+        fine = fine & (codes[i] < 8);
         i += 1;
     }
-    true
+    fine
 }

@@ -3,6 +3,14 @@ pub mod accept;
 pub mod codes;
 pub mod search;
 
+// One row of an MC table, where a caller keeps its table in structs.
+#[repr(C)]
+pub struct Row {
+    pub key: u32,
+    pub mask: u32,
+    pub route: u32,
+}
+
 // What a search finds: the number of the first matching row, or nothing.
 pub enum Found {
     At(usize),

@@ -1,10 +1,11 @@
-// The search through an MC table, lent as one slice of numbers, three a row: key, mask, route.
+// The search through an MC table, lent as one slice of numbers, three a row: key, mask, route; or as one slice of rows.
 use super::Found;
 use super::Matched;
+use super::Row;
 ghost use mathlib.Core.Path.{_≡_};
 ghost use lib.ListN.{length, getD};
 ghost use Prim.Native.Nat.{_+_, _*_, _<_};
-ghost use Rattle.tables.specs.Rows.{matches, rowsOf, firstMatch, routeFor};
+ghost use Rattle.tables.specs.Rows.{matches, rowsOf, numbersOf, firstMatch, routeFor};
 
 // The route of the first row that matches the key.
 pub fn route_for(rows: &[u32], key: u32) -> Matched
@@ -36,6 +37,28 @@ pub fn first_match(rows: &[u32], key: u32) -> Found
     } else {
         Found::Nothing
     }
+}
+
+// The same search through a table lent as a slice of rows.
+pub fn first_row(rows: &[Row], key: u32) -> Found
+    ensures { λ r. ⌜ r ≡ firstMatch key (rowsOf (numbersOf (now (rows .entry)))) ⌝ }
+{
+    let mut i = 0;
+    while i < rows.len() {
+        let row = rows[i];
+        if matches_row(key, row.key, row.mask) {
+            return Found::At(i);
+        }
+        i += 1;
+    }
+    Found::Nothing
+}
+
+// The same search through four rows, passed by value: a caller with rows of its own lends nothing.
+pub fn first_of_four(rows: [Row; 4], key: u32) -> Found
+    ensures { λ r. ⌜ r ≡ firstMatch key (rowsOf (numbersOf rows)) ⌝ }
+{
+    first_row(&rows, key)
 }
 
 fn matches_row(key: u32, row_key: u32, mask: u32) -> bool

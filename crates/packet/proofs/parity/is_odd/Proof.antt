@@ -3,15 +3,15 @@ use Rattle.packet.proofs.parity.is_odd.Statement.{statement}
 use Rattle.packet.proofs.parity.is_odd.Tie as tie
 use Rattle.packet.proofs.parity.is_odd.Reads as reads
 use Rattle.packet.proofs.parity.is_odd.Lts as lts
-use Rattle.packet.proofs.parity.ones_of.Reads as ones-of-reads
+use Rattle.packet.proofs.parity.folded_ones.Reads as folded-ones-reads
 
--- src/parity.rt:12:5
-ones-of-requires : tie.Need-ones-of-requires
-ones-of-requires c κs = search needs
+-- src/parity.rt:14:5
+folded-ones-requires : tie.Need-folded-ones-requires
+folded-ones-requires c κs = search needs
 
--- src/parity.rt:9:1
+-- src/parity.rt:11:1
 returns : tie.Need-returns
-returns c = simp (c .ones-of .ensures .0)
+returns c = simp (c .folded-ones .ensures .0)
 
 pub is-odd-spec : {M : Type 1} → statement M
-is-odd-spec = tie.close (tie.spec ones-of-requires returns)
+is-odd-spec = tie.close (tie.spec folded-ones-requires returns)

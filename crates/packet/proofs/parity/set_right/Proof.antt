@@ -1,39 +1,49 @@
 use borrow.Author.Needs.{needs}
+use mathlib.Core.Path.{_≡_, refl, sym, ap, _∙_}
+use native.Mathlib.Omega.{arith}
+use Prim.Native.Nat.{ℕ, _+_, _*_, _/_, _%_}
+use Rattle.packet.specs.Parity.{onesOf, withControl}
+use Rattle.packet.specs.Control.{parityIn}
+use Rattle.packet.specs.declared.Packet.{Packet}
 use Rattle.packet.proofs.parity.set_right.Statement.{statement}
 use Rattle.packet.proofs.parity.set_right.Tie as tie
 use Rattle.packet.proofs.parity.set_right.Reads as reads
 use Rattle.packet.proofs.parity.set_right.Lts as lts
 use Rattle.packet.proofs.control.parity_in.Reads as parity-in-reads
-use Rattle.packet.proofs.parity.ones_of.Reads as ones-of-reads
+use Rattle.packet.proofs.parity.folded_ones.Reads as folded-ones-reads
 use Rattle.packet.proofs.parity.with_control.Reads as with-control-reads
 
--- src/parity.rt:38:42
+-- src/parity.rt:41:46
 parity-in-requires : tie.Need-parity-in-requires
 parity-in-requires c κs = search needs
 
--- src/parity.rt:38:26
+-- src/parity.rt:41:30
 with-control-requires : tie.Need-with-control-requires
 with-control-requires c κs = search needs
 
--- src/parity.rt:38:9
-ones-of-requires : tie.Need-ones-of-requires
-ones-of-requires c κs = search needs
+-- src/parity.rt:41:9
+folded-ones-requires : tie.Need-folded-ones-requires
+folded-ones-requires c κs = search needs
 
--- src/parity.rt:39:42
+-- src/parity.rt:42:42
 add-parity-in : tie.Need-add-parity-in
 add-parity-in c = search needs
 
--- src/parity.rt:39:21
+-- src/parity.rt:42:21
 parity-in-requires-2 : tie.Need-parity-in-requires-2
 parity-in-requires-2 c κs = search needs
 
--- src/parity.rt:39:5
+-- src/parity.rt:42:5
 with-control-requires-2 : tie.Need-with-control-requires-2
 with-control-requires-2 c κs = search needs
 
--- src/parity.rt:35:1
+-- src/parity.rt:38:1
 returns : tie.Need-returns
-returns c = cc
+returns c =
+    let p = c .before .before .before .before .before .args .p in
+    let others : _ = c .before .before .folded-ones .ensures .0 ∙ ap (λ (q : Packet). onesOf q % 2) (c .before .before .before .with-control .ensures ∙ ap (withControl p) (c .before .before .before .before .parity-in .ensures)) in
+    let bit : (c .before .before .folded-ones .result + 1) % 2 ≡ (onesOf (withControl p (parityIn (p .control) 0)) + 1) % 2 = omega (arith, others) in
+    c .with-control2 .ensures ∙ ap (withControl p) (c .before .parity-in2 .ensures ∙ ap (λ (n : ℕ). p .control / 2 * 2 + n) bit)
 
 pub set-right-spec : {M : Type 1} → statement M
 set-right-spec =
@@ -41,7 +51,7 @@ set-right-spec =
     (tie.spec
     parity-in-requires
     with-control-requires
-    ones-of-requires
+    folded-ones-requires
     add-parity-in
     parity-in-requires-2
     with-control-requires-2

@@ -1,21 +1,22 @@
 use mathlib.Core.Path.{_≡_, refl, sym, ap, _∙_}
+use mathlib.Core.Bool.{_&&_}
 use Prim.Native.Nat.{_+_, _*_, _/_, _-_, _<_, _≤_}
 use native.Mathlib.Omega.{arith}
 use borrow.Author.Needs.{needs}
 use borrow.Author.Tests.{eq-eqb, ne-eqb}
 use lib.ListN.{length, drop}
 use Rattle.tables.specs.Accept.{allCodes}
-use Rattle.tables.proofs.OneByOne.{codes-on, codes-bad, codes-end}
+use Rattle.tables.proofs.OneByOne.{codes-joined, codes-last}
 use Rattle.tables.proofs.accept.codes_fine.Statement.{statement}
 use Rattle.tables.proofs.accept.codes_fine.Tie as tie
 use Rattle.tables.proofs.accept.codes_fine.Reads as reads
 use Rattle.tables.proofs.accept.codes_fine.Lts as lts
 
 abbrev Inv-loop : tie.InvT-loop
-Inv-loop codes count i₀ i = (i ≤ length codes) × (allCodes codes ≡ allCodes (drop i codes))
+Inv-loop codes count fine₀ i₀ fine i = (i ≤ length codes) × (allCodes codes ≡ (fine && allCodes (drop i codes)))
 
 abbrev μ-loop : tie.MeasureT-loop
-μ-loop codes count i₀ i = length codes - i
+μ-loop codes count fine₀ i₀ fine i = length codes - i
 
 returns : tie.Need-returns Inv-loop μ-loop
 returns c = simp (ne-eqb _ _ (c .if1 .taken))
@@ -23,13 +24,8 @@ returns c = simp (ne-eqb _ _ (c .if1 .taken))
 loop-holds : tie.Need-loop-holds Inv-loop μ-loop
 loop-holds c = (omega arith, refl)
 
-shared-slice-read-if2 : tie.Need-shared-slice-read-if2 Inv-loop μ-loop
-shared-slice-read-if2 c = omega arith
-
-returns-2 : tie.Need-returns-2 Inv-loop μ-loop
-returns-2 c =
-    let at = c .before .before .before in
-    sym (simp (eq-eqb _ _ (at .before .if1 .left)) (at .loop .inv .1 ∙ codes-bad _ _ (c .before .before .loop-test .taken) (c .if2 .taken)))
+shared-slice-read-fine : tie.Need-shared-slice-read-fine Inv-loop μ-loop
+shared-slice-read-fine c = omega arith
 
 add-i : tie.Need-add-i Inv-loop μ-loop
 add-i c = omega arith
@@ -39,13 +35,13 @@ loop-less c = omega arith
 
 loop-again : tie.Need-loop-again Inv-loop μ-loop
 loop-again c =
-    let at = c .before .before .before in
-    (omega arith, at .loop .inv .1 ∙ codes-on _ _ (c .before .before .loop-test .taken) (c .if2 .left))
+    let at = c .before .before in
+    (omega arith, codes-joined _ _ _ (at .loop .fine) (c .before .loop-test .taken) (at .loop .inv .1))
 
-returns-3 : tie.Need-returns-3 Inv-loop μ-loop
-returns-3 c =
+returns-2 : tie.Need-returns-2 Inv-loop μ-loop
+returns-2 c =
     let at = c .before in
-    sym (simp (eq-eqb _ _ (at .before .if1 .left)) (at .loop .inv .1 ∙ codes-end _ _ (c .loop-test .left)))
+    sym (simp (eq-eqb _ _ (at .before .if1 .left)) (codes-last _ _ _ (at .loop .fine) (c .loop-test .left) (at .loop .inv .1)))
 
 pub codes-fine-spec : {M : Type 1} → statement M
 codes-fine-spec =
@@ -55,9 +51,8 @@ codes-fine-spec =
     μ-loop
     returns
     loop-holds
-    shared-slice-read-if2
-    returns-2
+    shared-slice-read-fine
     add-i
     loop-less
     loop-again
-    returns-3)
+    returns-2)

@@ -1,0 +1,21 @@
+//! Times the static library beside the plain Rust model, which makes the same checks, and measures the library's stack.
+//! Rounds of both are interleaved, so that what else the machine does falls on both. Argument: rounds (300).
+
+#[path = "../../tests/compare/src/interface.rs"]
+mod interface;
+#[path = "../../tests/compare/src/lib_calls.rs"]
+mod lib_calls;
+#[path = "../../tests/compare/src/model.rs"]
+mod model;
+mod packet_times;
+mod pass_times;
+mod stack;
+mod timing;
+
+fn main() {
+    let rounds: usize = std::env::args().nth(1).map_or(300, |text| text.parse().expect("the rounds are a number"));
+    timing::print_head();
+    pass_times::all(rounds);
+    packet_times::all(rounds);
+    stack::print_use();
+}

@@ -1,0 +1,41 @@
+-- A block never outlives its cause. A pass is told which links are ready, and nothing else about them: it keeps no mark of a link that was
+-- blocked before. So a link that is ready now is used now.
+use Prim.Native.Nat.{ℕ, _+_, _<_}
+use mathlib.Core.Path.{_≡_, refl, sym, ap, _∙_}
+use mathlib.Core.Bool.{Bool, true, false}
+use mathlib.Core.List.{List}
+use native.Mathlib.Omega.{arith}
+use Rattle.packet.specs.declared.Packet.{Packet}
+use Rattle.router.specs.declared.Outcome.{Outcome}
+use Rattle.router.specs.declared.Setting.{Setting}
+use Rattle.router.specs.Links.{has, linksOf, link}
+use Rattle.router.specs.Errors.{flag}
+use Rattle.router.specs.Deciding.{outcomeOf}
+use Rattle.router.proofs.Ways.{OneWay, waysOf, pass-way}
+
+-- of three ways that count to one, the first being taken, the others are not
+only-first : (a b c : Bool) → a ≡ true → flag a 1 + flag b 1 + flag c 1 ≡ 1 → (b ≡ false) × (c ≡ false)
+only-first true false false e h = (refl, refl)
+only-first true true c e h = absurd (omega arith)
+only-first true false true e h = absurd (omega arith)
+only-first false b c e h = absurd (mathlib.Core.Bool.false≢true e)
+
+-- A wanted link that is ready is sent to; it is not gone round by a detour, and nothing is dropped for it.
+pub record Used (o : Outcome) (i : ℕ) : Type 0 where
+  pub sent : has (o .sent) i ≡ true
+  pub no-detour : has (o .carried) (link (i + 5)) ≡ false
+  pub not-dropped : has (o .dropped) i ≡ false
+
+pub ready-link-is-used : (p : Packet) (source : ℕ) (rows codes : List ℕ) (t : Setting) (i : ℕ) → t .ready < 64 → i < 6
+    → has (linksOf (outcomeOf p source rows codes t .wanted)) i ≡ true → has (t .ready) i ≡ true → Used (outcomeOf p source rows codes t) i
+ready-link-is-used p source rows codes t i hr hi wanted ready =
+    let o : Outcome = outcomeOf p source rows codes t in
+    let w : OneWay (o .sent) (o .carried) (o .dropped) (t .ready) i = pass-way p source rows codes t i hr hi wanted in
+    let straight : has (o .sent) i ≡ true = w .straight ready in
+    let rest = only-first (has (o .sent) i) (has (o .carried) (link (i + 5))) (has (o .dropped) i) straight (w .one) in
+    record { sent = straight; no-detour = rest .0; not-dropped = rest .1 }
+
+-- A pass has no memory: two passes that are given the same packet, source, tables and setting do the same, whatever came before either.
+pub no-memory : (p : Packet) (source : ℕ) (rows codes : List ℕ) (before after : Setting) → before ≡ after
+    → outcomeOf p source rows codes before ≡ outcomeOf p source rows codes after
+no-memory p source rows codes before after e = ap (outcomeOf p source rows codes) e

@@ -1,0 +1,118 @@
+/* The C interface of libyagbolshen, a proved model of the SpiNNaker router.
+ *
+ * Every function takes any input and answers, or refuses with a number: `refusal` is 0 for an accepted call, and a
+ * refused one answers zeros in every other field. A slice is a pointer and a count; an empty one may be NULL. Nothing is
+ * kept between calls.
+ *
+ *  1  source 6 or above 7                   7  width or height not 1 to 12, or rounds in a phase not 1 to 65,535
+ *  2  packet length not 5 or 9              8  mesh buffer too short on opening, or later not holding a mesh
+ *  3  packet type 3                         9  chip, link or counter number not there
+ *  4  nearest neighbour packet with T = 1  10  log shorter than six numbers per packet in flight (injection: six)
+ *  5  not whole rows, over 1,024 of them   11  P2P table of wrong size, or a code above 7
+ *     for a chip, or route bit 26 to 31
+ *     set; starts that do not fit
+ *  6  phase above 3, ready set above 63, monitor above 19, or a field out of range in packing
+ */
+#ifndef YAGBOLSHEN_H
+#define YAGBOLSHEN_H
+
+#include <stddef.h>
+#include <stdint.h>
+
+#ifdef __cplusplus
+extern "C" {
+#endif
+
+/* nine: 1 for nine bytes, 0 for five; the payload is then 0. */
+typedef struct {
+    uint32_t control, nine, word, payload;
+} yb_packet;
+
+/* kind: 0 multicast, 1 point-to-point, 2 nearest neighbour. A field that the kind lacks is 0: multicast and nearest
+ * neighbour have `word`, point-to-point has the IDs `source` and `destination` (x * 256 + y). `carries` is bit 1 of the
+ * control byte and need not agree with `nine`. */
+typedef struct {
+    uint32_t kind, mark, sequence, stamp, direct, route, carries, parity, nine, word, source, destination, payload;
+} yb_fields;
+
+/* The first dropped unit: `link` is a number, `leg` is 1 for a second leg, `more` is 1 if others followed. */
+typedef struct {
+    uint32_t control, word, payload, link, leg, more;
+} yb_registers;
+
+/* passes, parity, age, length, bad local, sent, delivered, dropped, swallowed, local misses */
+typedef struct {
+    uint32_t count[10];
+} yb_counters;
+
+typedef struct {
+    uint32_t refusal;
+    yb_fields fields;
+} yb_read;
+
+/* Bytes past `length` are 0. */
+typedef struct {
+    uint32_t refusal, length;
+    uint8_t bytes[9];
+} yb_packed;
+
+typedef struct {
+    uint32_t refusal;
+    uint32_t errors;        /* 1 parity, 2 age, 4 length, 8 bad local, added */
+    uint32_t wanted;        /* route bits 0 to 5 for links, 6 to 25 for processors; the monitor alone for an error */
+    uint32_t sent;          /* links that send a packet, second leg apart: bit i for link i */
+    uint32_t dropped;       /* links dropped for, second leg apart */
+    uint32_t leg_sent;      /* the link that sends the second leg, as a bit, or 0 */
+    uint32_t leg_dropped;   /* the link that the second leg is dropped at, as a bit, or 0 */
+    uint32_t processors;    /* bit k for processor k */
+    yb_packet delivered;    /* what the processors get; zeros where there are none */
+    yb_packet packets[6];   /* what link i sends, second leg apart; zeros where it sends nothing */
+    yb_packet leg;          /* the second leg as sent; zeros where none is */
+    yb_registers registers; /* begun from zeros */
+    yb_counters counters;   /* begun from zeros */
+} yb_pass;
+
+typedef struct {
+    uint32_t refusal, words;
+} yb_size;
+
+typedef struct {
+    uint32_t refusal, added;
+} yb_added;
+
+typedef struct {
+    uint32_t refusal;
+    yb_registers registers;
+} yb_registers_read;
+
+typedef struct {
+    uint32_t refusal, count;
+} yb_count;
+
+typedef struct {
+    uint32_t refusal, width, height, rounds_per_phase, monitor, phase, rounds_in_phase, in_flight;
+} yb_mesh;
+
+/* held: packets in flight on the directed link */
+typedef struct {
+    uint32_t refusal, up, held, ready;
+} yb_link;
+
+/* Reads the bytes of a packet into fields. Refuses 2, 3, the first that applies. */
+yb_read yagbolshen_read(const uint8_t *packet, size_t packet_len);
+
+/* Packs fields into the bytes of a packet; reading and packing undo each other. Refuses 6, 3, the first that applies. */
+yb_packed yagbolshen_pack(yb_fields fields);
+
+/* Passes one packet through one router. `source` is the link 0 to 5 that it came by, or 7 for a local one. `rows` has
+ * three words a row: key, mask, route; `rows_len` counts words. `codes` has one P2P code for each of the width * height
+ * chips, at y * width + x. `ready` has bit i for link i. Refuses 7, 6, 5, 11, 1, 2, 3, 4, the first that applies. */
+yb_pass yagbolshen_pass(const uint8_t *packet, size_t packet_len, uint32_t source, uint32_t width, uint32_t height,
+                        const uint32_t *rows, size_t rows_len, const uint8_t *codes, size_t codes_len,
+                        uint32_t monitor, uint32_t phase, uint32_t ready);
+
+#ifdef __cplusplus
+}
+#endif
+
+#endif

@@ -1,0 +1,93 @@
+//! The structs of include/yagbolshen.h, and the arguments of a call as one value.
+
+#[repr(C)]
+#[derive(Clone, Copy, Debug, Default, PartialEq, Eq)]
+pub struct Packet {
+    pub control: u32,
+    pub nine: u32,
+    pub word: u32,
+    pub payload: u32,
+}
+
+#[repr(C)]
+#[derive(Clone, Copy, Debug, Default, PartialEq, Eq)]
+pub struct Fields {
+    pub kind: u32,
+    pub mark: u32,
+    pub sequence: u32,
+    pub stamp: u32,
+    pub direct: u32,
+    pub route: u32,
+    pub carries: u32,
+    pub parity: u32,
+    pub nine: u32,
+    pub word: u32,
+    pub source: u32,
+    pub destination: u32,
+    pub payload: u32,
+}
+
+#[repr(C)]
+#[derive(Clone, Copy, Debug, Default, PartialEq, Eq)]
+pub struct Registers {
+    pub control: u32,
+    pub word: u32,
+    pub payload: u32,
+    pub link: u32,
+    pub leg: u32,
+    pub more: u32,
+}
+
+/// Passes, parity, age, length, bad local, sent, delivered, dropped, swallowed, local misses.
+#[repr(C)]
+#[derive(Clone, Copy, Debug, Default, PartialEq, Eq)]
+pub struct Counters {
+    pub count: [u32; 10],
+}
+
+#[repr(C)]
+#[derive(Clone, Copy, Debug, Default, PartialEq, Eq)]
+pub struct Read {
+    pub refusal: u32,
+    pub fields: Fields,
+}
+
+#[repr(C)]
+#[derive(Clone, Copy, Debug, Default, PartialEq, Eq)]
+pub struct Packed {
+    pub refusal: u32,
+    pub length: u32,
+    pub bytes: [u8; 9],
+}
+
+#[repr(C)]
+#[derive(Clone, Copy, Debug, Default, PartialEq, Eq)]
+pub struct Pass {
+    pub refusal: u32,
+    pub errors: u32,
+    pub wanted: u32,
+    pub sent: u32,
+    pub dropped: u32,
+    pub leg_sent: u32,
+    pub leg_dropped: u32,
+    pub processors: u32,
+    pub delivered: Packet,
+    pub packets: [Packet; 6],
+    pub leg: Packet,
+    pub registers: Registers,
+    pub counters: Counters,
+}
+
+/// The arguments of `yagbolshen_pass`.
+#[derive(Clone, Copy, Debug)]
+pub struct PassCall<'a> {
+    pub packet: &'a [u8],
+    pub source: u32,
+    pub width: u32,
+    pub height: u32,
+    pub rows: &'a [u32],
+    pub codes: &'a [u8],
+    pub monitor: u32,
+    pub phase: u32,
+    pub ready: u32,
+}

@@ -1,0 +1,58 @@
+//! The static library's functions as safe calls. The library takes any input, so a slice or a number is all it needs.
+//! An empty slice is lent as NULL, as a C program would.
+
+use crate::interface::{Fields, Packed, Pass, PassCall, Read};
+
+extern "C" {
+    fn yagbolshen_read(packet: *const u8, packet_len: usize) -> Read;
+    fn yagbolshen_pack(fields: Fields) -> Packed;
+    fn yagbolshen_pass(
+        packet: *const u8,
+        packet_len: usize,
+        source: u32,
+        width: u32,
+        height: u32,
+        rows: *const u32,
+        rows_len: usize,
+        codes: *const u8,
+        codes_len: usize,
+        monitor: u32,
+        phase: u32,
+        ready: u32,
+    ) -> Pass;
+}
+
+pub fn read(bytes: &[u8]) -> Read {
+    unsafe { yagbolshen_read(pointer(bytes), bytes.len()) }
+}
+
+pub fn pack(fields: &Fields) -> Packed {
+    unsafe { yagbolshen_pack(*fields) }
+}
+
+pub fn pass(call: &PassCall) -> Pass {
+    unsafe {
+        yagbolshen_pass(
+            pointer(call.packet),
+            call.packet.len(),
+            call.source,
+            call.width,
+            call.height,
+            pointer(call.rows),
+            call.rows.len(),
+            pointer(call.codes),
+            call.codes.len(),
+            call.monitor,
+            call.phase,
+            call.ready,
+        )
+    }
+}
+
+fn pointer<T>(slice: &[T]) -> *const T {
+    if slice.is_empty() {
+        std::ptr::null()
+    } else {
+        slice.as_ptr()
+    }
+}

@@ -1,0 +1,114 @@
+//! Compares the static library with the model, every field of every answer, and counts what was reached.
+//! Arguments: how many times the usual count (1), and the seed (1).
+
+mod compare;
+mod interface;
+mod known;
+mod lib_calls;
+mod model;
+mod pass_case;
+mod random;
+mod systematic;
+mod tally;
+
+use interface::Fields;
+use pass_case::{PassCase, DAMAGES};
+use random::Random;
+use tally::Tally;
+
+const PASSES: f64 = 8e6;
+const READS: f64 = 2e6;
+const PACKS: f64 = 4e6;
+
+fn main() {
+    let arguments: Vec<String> = std::env::args().collect();
+    let scale: f64 = arguments.get(1).map_or(1.0, |text| text.parse().expect("the scale is a number"));
+    let seed: u64 = arguments.get(2).map_or(1, |text| text.parse().expect("the seed is a number"));
+    let (mut tally, mut random) = (Tally::default(), Random::new(seed));
+
+    known::all();
+    systematic::all(&mut tally, &mut random);
+    random_reads(&mut tally, &mut random, (READS * scale) as u64);
+    random_packs(&mut tally, &mut random, (PACKS * scale) as u64);
+    random_passes(&mut tally, &mut random, (PASSES * scale) as u64);
+
+    if !tally.print() {
+        std::process::exit(1);
+    }
+    println!("no difference (scale {scale}, seed {seed})");
+}
+
+fn random_reads(tally: &mut Tally, random: &mut Random, count: u64) {
+    let mut bytes = [0; 12];
+    for _ in 0..count {
+        bytes.fill_with(|| random.word() as u8);
+        let any = random.below(13);
+        let length = random.pick(&[5, 5, 9, 9, any]) as usize;
+        compare::read(tally, &bytes[..length]);
+    }
+}
+
+fn random_packs(tally: &mut Tally, random: &mut Random, count: u64) {
+    for _ in 0..count {
+        let fields = random_fields(random);
+        compare::pack(tally, &fields);
+    }
+}
+
+/// Fields as a packet would give them, and then, mostly, one or two of them anything.
+fn random_fields(random: &mut Random) -> Fields {
+    let kind = random.below(4);
+    let nine = random.below(2);
+    let only = |has: bool, value: u32| if has { value } else { 0 };
+    let mut fields = Fields {
+        kind,
+        mark: only(kind == 0 || kind == 3, random.below(4)),
+        sequence: only(kind == 1, random.below(4)),
+        stamp: only(kind != 2, random.below(4)),
+        direct: only(kind == 2, random.below(2)),
+        route: only(kind == 2, random.below(8)),
+        carries: random.below(2),
+        parity: random.below(2),
+        nine,
+        word: only(kind != 1, random.word()),
+        source: only(kind == 1, random.word() >> 16),
+        destination: only(kind == 1, random.word() >> 16),
+        payload: only(nine == 1, random.word()),
+    };
+    for _ in 0..random.below(3) {
+        let any = random.word();
+        let value = random.pick(&[0, 1, 2, 3, 4, 7, 8, 0xffff, 0x1_0000, 0x8000_0000, u32::MAX, any]);
+        *field(&mut fields, random.below(13)) = value;
+    }
+    fields
+}
+
+fn field(fields: &mut Fields, number: u32) -> &mut u32 {
+    match number {
+        0 => &mut fields.kind,
+        1 => &mut fields.mark,
+        2 => &mut fields.sequence,
+        3 => &mut fields.stamp,
+        4 => &mut fields.direct,
+        5 => &mut fields.route,
+        6 => &mut fields.carries,
+        7 => &mut fields.parity,
+        8 => &mut fields.nine,
+        9 => &mut fields.word,
+        10 => &mut fields.source,
+        11 => &mut fields.destination,
+        _ => &mut fields.payload,
+    }
+}
+
+/// Accepted inputs, half of them damaged once or more.
+fn random_passes(tally: &mut Tally, random: &mut Random, count: u64) {
+    let mut case = PassCase::default();
+    for _ in 0..count {
+        case.fill(random);
+        for _ in 0..random.pick(&[0, 0, 0, 0, 1, 1, 2, 3]) {
+            DAMAGES[random.below(DAMAGES.len() as u32) as usize](&mut case, random);
+        }
+        compare::pass(tally, &case);
+    }
+}

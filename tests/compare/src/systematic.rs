@@ -1,0 +1,166 @@
+//! Inputs in order, every one of a kind.
+
+use crate::compare;
+use crate::model::{kind, LOCAL, MOST_ROWS};
+use crate::pass_case::{PassCase, DAMAGES};
+use crate::random::Random;
+use crate::tally::Tally;
+
+const SOURCES: [u32; 7] = [0, 1, 2, 3, 4, 5, LOCAL];
+
+pub fn all(tally: &mut Tally, random: &mut Random) {
+    wanted_by_ready(tally, random);
+    misses(tally, random);
+    codes(tally, random);
+    neighbours(tally, random);
+    control_by_length(tally, random);
+    row_counts(tally, random);
+    sizes(tally, random);
+    damage_pairs(tally, random);
+}
+
+/// All wanted link sets by all ready sets, for each mark and source.
+fn wanted_by_ready(tally: &mut Tally, random: &mut Random) {
+    for source in SOURCES {
+        for mark in 0..4 {
+            for wanted in 0..64 {
+                for ready in 0..64 {
+                    let processors = random.below(2) * random.below(1 << 20);
+                    let mut case = one_chip(random, source, ready, kind::MC << 6 | mark << 4);
+                    case.rows = vec![random.word(), 0, processors << 6 | wanted];
+                    compare::pass(tally, &case);
+                }
+            }
+        }
+    }
+}
+
+/// No matching row, for each mark, stamp and phase.
+fn misses(tally: &mut Tally, random: &mut Random) {
+    for source in SOURCES {
+        for mark_and_stamp in 0..16 {
+            for phase in 0..4 {
+                for ready in 0..64 {
+                    let mut case = one_chip(random, source, ready, kind::MC << 6 | mark_and_stamp << 2);
+                    case.phase = phase;
+                    compare::pass(tally, &case);
+                }
+            }
+        }
+    }
+}
+
+/// Each P2P code, sequence, stamp and phase.
+fn codes(tally: &mut Tally, random: &mut Random) {
+    for source in SOURCES {
+        for sequence_and_stamp in 0..16 {
+            for phase in 0..4 {
+                for code in 0..8 {
+                    let ready = random.below(64);
+                    let mut case = one_chip(random, source, ready, kind::P2P << 6 | sequence_and_stamp << 2);
+                    case.phase = phase;
+                    case.codes = vec![code];
+                    compare::pass(tally, &case);
+                }
+            }
+        }
+    }
+}
+
+fn neighbours(tally: &mut Tally, random: &mut Random) {
+    for source in SOURCES {
+        for route in 0..8 {
+            for ready in 0..64 {
+                compare::pass(tally, &one_chip(random, source, ready, kind::NN << 6 | route << 2));
+            }
+        }
+    }
+}
+
+/// Each control byte with each length from 0 to 12, read and passed from each source.
+fn control_by_length(tally: &mut Tally, random: &mut Random) {
+    for control in 0..=255 {
+        for length in 0..=12 {
+            let mut bytes: Vec<u8> = (0..length).map(|_| random.word() as u8).collect();
+            if let Some(first) = bytes.first_mut() {
+                *first = control;
+            }
+            compare::read(tally, &bytes);
+            for source in 0..9 {
+                let ready = random.below(64);
+                let case = PassCase { packet: bytes.clone(), ..one_chip(random, source, ready, 0) };
+                compare::pass(tally, &case);
+            }
+        }
+    }
+}
+
+/// Word counts about the most rows, with the match or a bad route in each of the last rows.
+fn row_counts(tally: &mut Tally, random: &mut Random) {
+    for words in 3 * MOST_ROWS - 7..3 * MOST_ROWS + 10 {
+        for from_end in 1..=9 {
+            let mut case = one_chip(random, 0, 63, 0);
+            case.rows = vec![u32::MAX; words];
+            for route in case.rows.iter_mut().skip(2).step_by(3) {
+                *route = 1;
+            }
+            case.packet[1] &= 0x7f;
+            case.rows[words - from_end] = random.pick(&[0, 2, 1 << 25, 1 << 26, 1 << 31]);
+            compare::pass(tally, &case);
+        }
+    }
+}
+
+/// Each width and height about their range, with the right count of codes and one more or less.
+fn sizes(tally: &mut Tally, random: &mut Random) {
+    for width in 0..15 {
+        for height in 0..15 {
+            for count in (width * height).max(1) - 1..=width * height + 1 {
+                for word in 0..0x0f10 {
+                    if word & 0xff > 15 {
+                        continue;
+                    }
+                    let mut case = one_chip(random, 0, 63, kind::P2P << 6);
+                    case.packet[3..5].copy_from_slice(&(word as u16).to_be_bytes());
+                    set_parity_right(&mut case.packet);
+                    (case.width, case.height) = (width, height);
+                    case.codes = (0..count).map(|_| random.below(8) as u8).collect();
+                    compare::pass(tally, &case);
+                }
+            }
+        }
+    }
+}
+
+/// Each two reasons to refuse at once, and each alone: which number comes first.
+fn damage_pairs(tally: &mut Tally, random: &mut Random) {
+    for first in DAMAGES {
+        for second in DAMAGES {
+            for _ in 0..200 {
+                let mut case = PassCase::default();
+                case.fill(random);
+                first(&mut case, random);
+                second(&mut case, random);
+                compare::pass(tally, &case);
+            }
+        }
+    }
+}
+
+/// A mesh of one chip with no rows, and a packet with this control byte that is right in length and parity.
+fn one_chip(random: &mut Random, source: u32, ready: u32, control: u32) -> PassCase {
+    let nine = random.one_in(2);
+    let mut packet = vec![control as u8 | u8::from(nine) << 1];
+    packet.extend_from_slice(&(random.word() & 0xffff_0000).to_be_bytes());
+    if nine {
+        packet.extend_from_slice(&random.word().to_be_bytes());
+    }
+    set_parity_right(&mut packet);
+    let monitor = random.below(20);
+    PassCase { packet, source, width: 1, height: 1, codes: vec![7], monitor, ready, ..PassCase::default() }
+}
+
+fn set_parity_right(packet: &mut [u8]) {
+    let ones: u32 = packet.iter().map(|byte| byte.count_ones()).sum();
+    packet[0] ^= u8::from(ones % 2 == 0);
+}
