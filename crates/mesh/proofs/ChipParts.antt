@@ -8,21 +8,11 @@ use native.Mathlib.Decide.{decLt}
 use lib.ListN.{length, getD, take, drop, set, length-set}
 use lib.Dec.{lit<, lit≤}
 use lib.Seq.{getD-set-same, getD-set-other}
+use Rattle.router.proofs.LowestFirst.{six}
 use Rattle.mesh.specs.Mesh.{Line, Chip, idle}
 use Rattle.mesh.specs.Layout.{part, lineIn, asideIn, registersIn, linePlace, chipIn}
 use Rattle.mesh.specs.Chips.{putBack, lineWords}
 use Rattle.mesh.proofs.Parts.{part-same, part-before, part-behind}
-
--- six of anything, written out
-pub six : {A : Type 0} (d : A) (l : List A) → length l ≡ 6 → l ≡ getD l 0 d ∷ getD l 1 d ∷ getD l 2 d ∷ getD l 3 d ∷ getD l 4 d ∷ getD l 5 d ∷ []
-six d [] h = absurd (omega arith)
-six d (a ∷ []) h = absurd (omega arith)
-six d (a ∷ b ∷ []) h = absurd (omega arith)
-six d (a ∷ b ∷ c ∷ []) h = absurd (omega arith)
-six d (a ∷ b ∷ c ∷ e ∷ []) h = absurd (omega arith)
-six d (a ∷ b ∷ c ∷ e ∷ f ∷ []) h = absurd (omega arith)
-six d (a ∷ b ∷ c ∷ e ∷ f ∷ g ∷ []) h = refl
-six d (a ∷ b ∷ c ∷ e ∷ f ∷ g ∷ i ∷ l) h = absurd (omega arith)
 
 pub withLine : Chip (Unit {0}) → ℕ → Line (Unit {0}) → Chip (Unit {0})
 withLine c i x = record { registers = c .registers; counters = c .counters; lines = set (c .lines) i x }
