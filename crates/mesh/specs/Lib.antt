@@ -2,4 +2,5 @@ pub mod Chips
 pub mod Layout
 pub mod Lines
 pub mod Mesh
+pub mod Opening
 pub mod Steps
