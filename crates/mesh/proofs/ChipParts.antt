@@ -64,6 +64,7 @@ module _ (i : ℕ) (hi : i < 6) (ys l : List ℕ) (long : length l ≡ 322) (siz
     where
       other : (i ≡ j → ⊥) → lineIn (lineWords j (putBack (linePlace i) 51 ys l)) ≡ getD (set (lines-of l) i (lineIn ys)) j idle
       other d = ap lineIn (words-other j d) ∙ sym (getD-set-other (lines-of l) i j (lineIn ys) idle (λ e. d (sym e)) ∙ line-at j hj l)
+
       go : (i < j) ⊎ ((i ≡ j) ⊎ (j < i)) → lineIn (lineWords j (putBack (linePlace i) 51 ys l)) ≡ getD (set (lines-of l) i (lineIn ys)) j idle
       go (inl h) = other (λ e. omega arith)
       go (inr (inl h)) = subst (λ (k : ℕ). lineIn (lineWords k (putBack (linePlace i) 51 ys l)) ≡ getD (set (lines-of l) i (lineIn ys)) k idle) h

@@ -121,7 +121,7 @@ module _ (l : List ℕ) (o : Outcome) (i : ℕ) (h : length l ≡ 51) (room : Ro
   line-sent r g =
       line-push-if (has (o .leg) i) (pushedIf (has (o .sent) i) l (packetOn o i)) (legPacket o) g long-between room-second
       ∙ ap (λ (x : Line (Unit {0})). record { up = x .up; held = x .held ++ cond (has (o .leg) i) (flight (legPacket o) ∷ []) [] })
-        (line-push-if (has (o .sent) i) l (packetOn o i) r h room-first)
+      (line-push-if (has (o .sent) i) l (packetOn o i) r h room-first)
 
   -- what is set aside stays
   pub aside-sent : drop 26 (sentWords l o i) ≡ drop 26 l

@@ -36,16 +36,22 @@ next k before l o hk t u =
   where
     same : lineWords k l ≡ lineWords k before
     same = u .todo k (omega arith) hk
+
     whole : length (lineWords k l) ≡ 51
     whole = line-long k l hk (u .long)
+
     room : Room (lineWords k l) o k
     room = subst (λ (w : List ℕ). Room w o k) (sym same) (t .room k hk)
+
     ys : List ℕ
     ys = sentWords (lineWords k l) o k
+
     sized : length (sentWords (lineWords k l) o k) ≡ 51
     sized = length-sent (lineWords k l) o k whole room
+
     fits : linePlace k + 51 ≤ length l
     fits = omega (arith, u .long)
+
     finished : (j : ℕ) → j < suc k → lineIn (lineWords j (sentOn l o k)) ≡ lineAfter o tt j (lineIn (lineWords j before))
     finished j h = go (order k j)
       where
@@ -54,11 +60,13 @@ next k before l o hk t u =
         go (inr (inl e)) = subst (λ (m : ℕ). lineIn (lineWords m (sentOn l o k)) ≡ lineAfter o tt m (lineIn (lineWords m before))) e
             (ap lineIn (words-same k hk ys l (u .long) sized) ∙ line-sent (lineWords k l) o k whole room (t .right k hk) (t .leg k hk) ∙ ap (λ (w : List ℕ). lineAfter o tt k (lineIn w)) same)
         go (inr (inr f)) = ap lineIn (words-other k hk ys l (u .long) sized j (λ e. omega arith)) ∙ u .done j f
+
     kept : (j : ℕ) → j < 6 → drop 26 (lineWords j (sentOn l o k)) ≡ drop 26 (lineWords j before)
     kept j hj = go (order k j)
       where
         other : (k ≡ j → ⊥) → drop 26 (lineWords j (sentOn l o k)) ≡ drop 26 (lineWords j before)
         other d = ap (drop 26) (words-other k hk ys l (u .long) sized j d) ∙ u .aside j hj
+
         go : (k < j) ⊎ ((k ≡ j) ⊎ (j < k)) → drop 26 (lineWords j (sentOn l o k)) ≡ drop 26 (lineWords j before)
         go (inl f) = other (λ e. omega arith)
         go (inr (inl e)) = subst (λ (m : ℕ). drop 26 (lineWords m (sentOn l o k)) ≡ drop 26 (lineWords m before)) e
@@ -104,18 +112,18 @@ module _ (l ws cs : List ℕ) (o : Outcome) (h : length l ≡ 322) (lw : length 
   unfolding linesAfter
   finish ew ec k u =
       let r : part 0 6 k ≡ registerWords (keptOf (registersIn (part 0 6 l)) o) =
-          u .registers ∙ part-before 6 10 cs (putBack 0 6 ws l) fits₁ lc 0 6 (omega arith) ∙ part-same 0 6 ws l fits₀ lw ∙ ew in
+      u .registers ∙ part-before 6 10 cs (putBack 0 6 ws l) fits₁ lc 0 6 (omega arith) ∙ part-same 0 6 ws l fits₀ lw ∙ ew in
       let c : part 6 10 k ≡ countedOf (record { count = part 6 10 l }) o .count =
-          u .counters ∙ part-same 6 10 cs (putBack 0 6 ws l) fits₁ lc ∙ ec
-          ∙ ap (λ (w : List ℕ). countedOf (record { count = w }) o .count) (part-behind 0 6 ws l fits₀ lw 6 10 (omega arith)) in
+      u .counters ∙ part-same 6 10 cs (putBack 0 6 ws l) fits₁ lc ∙ ec
+      ∙ ap (λ (w : List ℕ). countedOf (record { count = w }) o .count) (part-behind 0 6 ws l fits₀ lw 6 10 (omega arith)) in
       let line : (j : ℕ) → j < 6 → lineIn (lineWords j k) ≡ lineAfter o tt j (lineIn (lineWords j l)) =
-          λ j hj. u .done j hj ∙ ap (λ (w : List ℕ). lineAfter o tt j (lineIn w)) (untouched j) in
+      λ j hj. u .done j hj ∙ ap (λ (w : List ℕ). lineAfter o tt j (lineIn w)) (untouched j) in
       record {
         long = u .long;
         chip = λ i. record {
-              registers = registersIn (r i);
-              counters = record { count = c i };
-              lines = line 0 (lit< tt) i ∷ line 1 (lit< tt) i ∷ line 2 (lit< tt) i ∷ line 3 (lit< tt) i ∷ line 4 (lit< tt) i ∷ line 5 (lit< tt) i ∷ [];
-            };
+          registers = registersIn (r i);
+          counters = record { count = c i };
+          lines = line 0 (lit< tt) i ∷ line 1 (lit< tt) i ∷ line 2 (lit< tt) i ∷ line 3 (lit< tt) i ∷ line 4 (lit< tt) i ∷ line 5 (lit< tt) i ∷ [];
+        };
         aside = λ j hj. u .aside j hj ∙ ap (drop 26) (untouched j);
       }

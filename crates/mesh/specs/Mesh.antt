@@ -67,7 +67,7 @@ module _ {A : Type 0} where
 
 -- "Links 0 to 5 lead east (+1,0), north-east (+1,+1), north (0,+1), west, south-west, south. The mesh is W by H and wraps."
 abbrev pub stepEast : ℕ → ℕ → ℕ
-stepEast width i = cond (leb i 1) 1 (cond (eqb i 3 ) (width - 1) (cond (eqb i 4) (width - 1) 0))
+stepEast width i = cond (leb i 1) 1 (cond (eqb i 3) (width - 1) (cond (eqb i 4) (width - 1) 0))
 
 abbrev pub stepNorth : ℕ → ℕ → ℕ
 stepNorth height i = cond (eqb i 1) 1 (cond (eqb i 2) 1 (cond (eqb i 4) (height - 1) (cond (eqb i 5) (height - 1) 0)))

@@ -1,9 +1,12 @@
 // One chip, as the 322 words that hold it: registers, counters, six links.
-use super::line::{is_ready, send};
+use super::line::is_ready;
+use super::line::send;
+use router::Counters;
+use router::Outcome;
+use router::Registers;
 use router::counting::counted_of;
 use router::errors::flag_of;
 use router::keeping::kept_of;
-use router::{Counters, Outcome, Registers};
 ghost use mathlib.Core.Path.{_≡_};
 ghost use lib.ListN.{length};
 ghost use Prim.Native.Nat.{_+_, _*_, _≤_, _<_};
@@ -86,7 +89,16 @@ fn count(words: &mut [u32], o: Outcome)
 {
     let c = Counters {
         count: [
-            words[0], words[1], words[2], words[3], words[4], words[5], words[6], words[7], words[8], words[9],
+            words[0],
+            words[1],
+            words[2],
+            words[3],
+            words[4],
+            words[5],
+            words[6],
+            words[7],
+            words[8],
+            words[9],
         ],
     };
     let k = counted_of(c, o);

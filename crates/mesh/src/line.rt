@@ -3,7 +3,9 @@
 use packet::Packet;
 use packet::control::carries_of;
 use router::Outcome;
-use router::deciding::{has_link, leg_packet, packet_on};
+use router::deciding::has_link;
+use router::deciding::leg_packet;
+use router::deciding::packet_on;
 ghost use mathlib.Core.Path.{_≡_};
 ghost use mathlib.Core.Bool.{true};
 ghost use lib.ListN.{length, getD, take, drop};

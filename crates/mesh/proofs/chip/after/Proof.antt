@@ -44,7 +44,7 @@ count-requires c κs = search needs
 
 -- src/chip.rt:37:5
 send-all-requires : tie.Need-send-all-requires
-send-all-requires c κs = 
+send-all-requires c κs =
     let a = c .before .before .before .before .before .before .before .before .before .before .args in
     let ws = c .before .before .before .before .before .before .before .keep .last .0 in
     let cs = c .before .before .before .count .last .0 in
@@ -58,7 +58,7 @@ same-length c = search needs
 
 -- src/chip.rt:31:1
 returns : tie.Need-returns
-returns c = 
+returns c =
     let a = c .before .before .before .before .before .before .before .before .before .before .before .before .before .args in
     let ws = c .before .before .before .before .before .before .before .before .before .before .keep .last .0 in
     let cs = c .before .before .before .before .before .before .count .last .0 in

@@ -141,7 +141,7 @@ same-length c = simp length-set
 
 -- src/chip.rt:61:1
 returns : tie.Need-returns
-returns c = 
+returns c =
     let l = c .before .before .before .before .before .before .before .before .before .before .before .before .before .before .before .before .before .before .before .before .before .before .args .words .now in
     ten-stores l _ _ _ _ _ _ _ _ _ _ (c .before .before .before .before .before .before .before .before .before .before .before .before .before .before .before .before .before .before .before .before .before .before .pre)
     ∙ ap (λ (x : Counters). getD (x .count) 0 0 ∷ getD (x .count) 1 0 ∷ getD (x .count) 2 0 ∷ getD (x .count) 3 0 ∷ getD (x .count) 4 0 ∷ getD (x .count) 5 0 ∷ getD (x .count) 6 0 ∷ getD (x .count) 7 0 ∷ getD (x .count) 8 0 ∷ getD (x .count) 9 0 ∷ []) (c .before .before .before .before .before .before .before .before .before .before .counted-of .ensures)

@@ -25,7 +25,7 @@ loop-holds c = (omega arith, begin _ _ (c .before .pre .long))
 
 -- src/chip.rt:46:9
 send-on-requires : tie.Need-send-on-requires Inv-loop μ-loop
-send-on-requires c κs = 
+send-on-requires c κs =
     let at = c .before .before .loop in
     let i = at .i in
     let u = at .inv .1 in
@@ -42,7 +42,7 @@ loop-less c = omega arith
 
 -- src/chip.rt:45:5
 loop-again : tie.Need-loop-again Inv-loop μ-loop
-loop-again c = 
+loop-again c =
     let at = c .before .before .before .before .before .loop in
     let i = at .i in
     let hi = c .before .before .before .before .loop-test .taken in

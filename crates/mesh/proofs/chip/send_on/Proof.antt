@@ -43,7 +43,7 @@ part-send-end c = search needs
 
 -- src/chip.rt:35:5
 send-requires : tie.Need-send-requires
-send-requires c κs = 
+send-requires c κs =
     let i = c .before .before .args .i in
     let l = c .before .before .args .chip .now in
     rw (add-sub-cancel-left (16 + i * 51) 51)
@@ -55,7 +55,7 @@ same-length c = search needs
 
 -- src/chip.rt:30:1
 returns : tie.Need-returns
-returns c = 
+returns c =
     let i = c .before .before .before .before .before .args .i in
     rw (add-sub-cancel-left (16 + i * 51) 51) (ap (λ (ys : List ℕ). putBack (16 + i * 51) 51 ys (c .before .before .before .before .before .args .chip .now)) (rw (add-sub-cancel-left (16 + i * 51) 51) at (c .before .before .send .ensures)))
 

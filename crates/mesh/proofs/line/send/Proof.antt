@@ -11,14 +11,14 @@ use Rattle.mesh.proofs.line.send_packet.Reads as send-packet-reads
 
 -- src/line.rt:43:5
 send-packet-requires : tie.Need-send-packet-requires
-send-packet-requires c κs = 
+send-packet-requires c κs =
     let a = c .before .before .args in
     let pre = c .before .before .pre in
     (pre .0, (pre .1 .0, room-first (a .line .now) (a .o) (a .i) (pre .0) (pre .1 .1)))
 
 -- src/line.rt:44:5
 send-leg-requires : tie.Need-send-leg-requires
-send-leg-requires c κs = 
+send-leg-requires c κs =
     let a = c .before .before .before .before .before .before .args in
     let pre = c .before .before .before .before .before .before .pre in
     rw (c .before .before .before .send-packet .ensures)

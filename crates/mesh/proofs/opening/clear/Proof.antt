@@ -37,7 +37,7 @@ loop-less c = omega arith
 
 -- src/opening.rt:83:5
 loop-again : tie.Need-loop-again Inv-loop μ-loop
-loop-again c = 
+loop-again c =
     let at = c .before .loop in
     let here : at .i < length (c .before .before .args .mesh .now) = omega (arith, c .before .before .pre) in
     (omega arith, (simp length-set (at .inv .1 .0), ap (λ (l : List ℕ). set l (at .i) 0) (at .inv .1 .1) ∙ fill-more (at .i) 0 (c .before .before .args .mesh .now) here))

@@ -72,14 +72,15 @@ same-length c = search needs
 
 -- src/opening.rt:46:1
 returns-5 : tie.Need-returns-5
-returns-5 c = 
+returns-5 c =
     let a = c .before .before .before .before .before .before .before .before .before .before .before .before .args in
     let n = a .height * a .width * 322 in
     let l = a .mesh .now in
-    let e : 6 + n ≡ suc (suc (suc (suc (suc (suc n))))) = omega arith in
-    (simp (rw (c .before .before .before .before .before .before .before .before .before .before .size-fine .ensures) at (c .before .before .before .before .before .before .before .before .before .if1 .left), rw (c .before .before .before .before .before .before .before .before .rounds-fine .ensures) at (c .before .before .before .before .before .before .before .if2 .left), le-ltb _ _ (c .before .before .before .before .before .before .if3 .left), le-ltb _ _ (rw (c .before .before .before .before .before .words-for .ensures) at (c .before .before .before .before .if4 .left))),
-    ap (λ (x : List ℕ). set (set (set (set x 0 (a .width)) 1 (a .height)) 2 (a .rounds)) 3 (a .monitor))
-    (c .before .before .clear .ensures ∙ ap (λ (k : ℕ). replicate k 0 ++ drop k l) (c .before .before .before .before .before .words-for .ensures) ∙ ap (λ (k : ℕ). replicate k 0 ++ drop (6 + n) l) e))
+    let e : 6 + n ≡ suc (suc (suc (suc (suc (suc n))))) = omega arith in (
+      simp (rw (c .before .before .before .before .before .before .before .before .before .before .size-fine .ensures) at (c .before .before .before .before .before .before .before .before .before .if1 .left), rw (c .before .before .before .before .before .before .before .before .rounds-fine .ensures) at (c .before .before .before .before .before .before .before .if2 .left), le-ltb _ _ (c .before .before .before .before .before .before .if3 .left), le-ltb _ _ (rw (c .before .before .before .before .before .words-for .ensures) at (c .before .before .before .before .if4 .left))),
+      ap (λ (x : List ℕ). set (set (set (set x 0 (a .width)) 1 (a .height)) 2 (a .rounds)) 3 (a .monitor))
+          (c .before .before .clear .ensures ∙ ap (λ (k : ℕ). replicate k 0 ++ drop k l) (c .before .before .before .before .before .words-for .ensures) ∙ ap (λ (k : ℕ). replicate k 0 ++ drop (6 + n) l) e),
+    )
 
 pub open-spec : {M : Type 1} → statement M
 open-spec =
