@@ -8,9 +8,9 @@ const NINE: [u8; 9] = [0x17, 0x12, 0x34, 0x56, 0x78, 0x9a, 0xbc, 0xde, 0xf0];
 pub fn all(rounds: usize) {
     let library: fn(&[u8; 9]) -> Read = |bytes| lib_calls::read(bytes);
     let plain: fn(&[u8; 9]) -> Read = |bytes| model::read(bytes);
-    timing::line("read, nine bytes", rounds, &NINE, library, plain);
+    timing::line("read, nine bytes", rounds, &NINE, [library, plain]);
 
     let library: fn(&Fields) -> Packed = lib_calls::pack;
     let plain: fn(&Fields) -> Packed = model::pack;
-    timing::line("pack, nine bytes", rounds, &model::read(&NINE).fields, library, plain);
+    timing::line("pack, nine bytes", rounds, &model::read(&NINE).fields, [library, plain]);
 }

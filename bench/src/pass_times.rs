@@ -1,6 +1,6 @@
 //! The one-router call on the largest mesh, with the match in the last row of a table, or with none.
 
-use crate::interface::PassCall;
+use crate::interface::{Pass, PassCall};
 use crate::{lib_calls, model, timing};
 
 const SIDE: u32 = 12;
@@ -10,11 +10,12 @@ const ROUTE: u32 = 1 << 2 | 1 << 3 | 1 << 6 | 1 << 9;
 const READY: u32 = 63 & !(1 << 3);
 
 pub fn all(rounds: usize) {
+    let versions: [fn(&PassCall) -> Pass; 3] = [lib_calls::pass, model::pass::<false>, model::pass::<true>];
     for row_count in [16, 256, 1024] {
         for matches in [true, false] {
             let rows = table(row_count, matches);
             let name = format!("pass, {row_count} rows, {}", if matches { "last matches" } else { "none matches" });
-            timing::line(&name, rounds, &call(&rows), lib_calls::pass, model::pass);
+            timing::line(&name, rounds, &call(&rows), versions);
         }
     }
 }

@@ -1,31 +1,40 @@
-//! Two functions timed in turns, and the line that says how they did.
+//! Versions of one function timed in turns, and the line that says how they did.
 
+use std::fmt::Debug;
 use std::hint::black_box;
 use std::time::Instant;
 
-/// About how long one function runs before the other has its turn.
+/// About how long one version runs before the next has its turn.
 const TURN_SECONDS: f64 = 0.001;
 
 pub fn print_head() {
-    println!("{:<34} {:>14} {:>14} {:>7}", "calls per second", "library", "plain Rust", "ratio");
+    print!("{:<34} {:>14}", "calls per second", "library");
+    println!(" {:>14} {:>7} {:>14} {:>7}", "plain Rust", "ratio", "tuned plain", "ratio");
 }
 
-/// Times both and prints the best rate of each, which other work on the machine disturbs least. The ratio is library to
-/// plain, above 1 where the library is faster.
-pub fn line<Input, Answer>(
+/// Times the versions, the library's first, and prints the best rate of each, which other work on the machine disturbs
+/// least. The ratio is library to plain, above 1 where the library is faster. All must give the same answer.
+pub fn line<Input, Answer: Debug + PartialEq, const VERSIONS: usize>(
     name: &str,
     rounds: usize,
     input: &Input,
-    library: fn(&Input) -> Answer,
-    plain: fn(&Input) -> Answer,
+    versions: [fn(&Input) -> Answer; VERSIONS],
 ) {
-    let calls = calls_in_a_turn(input, plain);
-    let (mut library_rate, mut plain_rate) = (0.0f64, 0.0f64);
-    for _ in 0..rounds {
-        library_rate = library_rate.max(rate(calls, input, library));
-        plain_rate = plain_rate.max(rate(calls, input, plain));
+    for version in versions {
+        assert_eq!(version(input), versions[0](input), "{name}");
     }
-    println!("{name:<34} {library_rate:>14.0} {plain_rate:>14.0} {:>7.2}", library_rate / plain_rate);
+    let calls = calls_in_a_turn(input, versions[0]);
+    let mut rates = [0.0f64; VERSIONS];
+    for _ in 0..rounds {
+        for (best, version) in rates.iter_mut().zip(versions) {
+            *best = best.max(rate(calls, input, version));
+        }
+    }
+    print!("{name:<34} {:>14.0}", rates[0]);
+    for plain in &rates[1..] {
+        print!(" {plain:>14.0} {:>7.2}", rates[0] / plain);
+    }
+    println!();
 }
 
 fn calls_in_a_turn<Input, Answer>(input: &Input, function: fn(&Input) -> Answer) -> u32 {

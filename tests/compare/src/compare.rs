@@ -19,7 +19,7 @@ pub fn pack(tally: &mut Tally, fields: &Fields) {
 }
 
 pub fn pass(tally: &mut Tally, case: &PassCase) {
-    let answer = model::pass(&case.call());
+    let answer = model::pass::<false>(&case.call());
     same("pass", case, &answer, &lib_calls::pass(&case.call()));
     tally.pass(&answer);
 }

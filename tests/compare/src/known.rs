@@ -51,5 +51,5 @@ fn pass(packet: &[u8], source: u32, ready: u32, rows: &[u32]) -> Pass {
 }
 
 fn pass_in_phase(phase: u32, packet: &[u8], source: u32, ready: u32, rows: &[u32]) -> Pass {
-    model::pass(&PassCall { packet, source, width: 1, height: 1, rows, codes: &[7], monitor: 0, phase, ready })
+    model::pass::<false>(&PassCall { packet, source, width: 1, height: 1, rows, codes: &[7], monitor: 0, phase, ready })
 }

@@ -65,8 +65,10 @@ pub fn pack(fields: &Fields) -> Packed {
     Packed { refusal: 0, length: if fields.nine == 1 { 9 } else { 5 }, bytes }
 }
 
-pub fn pass(call: &PassCall) -> Pass {
-    match accept(call) {
+/// One pass. `JOINED` only says how the lent tables are checked: each number until one is too large, as one first writes
+/// it; or all numbers joined and tested once, a loop that cannot end early and is compiled to vector instructions.
+pub fn pass<const JOINED: bool>(call: &PassCall) -> Pass {
+    match accept::<JOINED>(call) {
         Err(refusal) => Pass { refusal, ..Pass::default() },
         Ok(packet) => match errors_of(call, &packet) {
             0 => sound_pass(call, packet),
@@ -201,17 +203,17 @@ fn with_stamp(packet: &Packet, stamp: u32) -> Packet {
 // One pass
 
 /// The packet, or the first refusal that applies: 7, 6, 5, 11, 1, 2, 3, 4.
-fn accept(call: &PassCall) -> Result<Packet, u32> {
+fn accept<const JOINED: bool>(call: &PassCall) -> Result<Packet, u32> {
     if !is_side(call.width) || !is_side(call.height) {
         return Err(refusal::SIZE);
     }
     if call.phase > 3 || call.ready >= 1 << LINKS || call.monitor >= PROCESSORS {
         return Err(refusal::RANGE);
     }
-    if !rows_fit(call.rows) {
+    if !rows_fit::<JOINED>(call.rows) {
         return Err(refusal::ROWS);
     }
-    if !codes_fit(call.codes, call.width * call.height) {
+    if !codes_fit::<JOINED>(call.codes, call.width * call.height) {
         return Err(refusal::CODES);
     }
     if call.source >= LINKS && call.source != LOCAL {
@@ -228,15 +230,27 @@ fn is_side(side: u32) -> bool {
     (1..=MOST_SIDE).contains(&side)
 }
 
-/// All routes are joined before the test: a loop that cannot end early is compiled to vector instructions.
-fn rows_fit(rows: &[u32]) -> bool {
-    rows.len() % ROW == 0
-        && rows.len() / ROW <= MOST_ROWS
-        && rows.chunks_exact(ROW).fold(0, |routes, row| routes | row[2]) < 1 << ROUTE_BITS
+fn rows_fit<const JOINED: bool>(rows: &[u32]) -> bool {
+    if rows.len() % ROW != 0 || rows.len() / ROW > MOST_ROWS {
+        return false;
+    }
+    let mut rows = rows.chunks_exact(ROW);
+    if JOINED {
+        rows.fold(0, |joined, row| joined | row[2]) < 1 << ROUTE_BITS
+    } else {
+        rows.all(|row| row[2] < 1 << ROUTE_BITS)
+    }
 }
 
-fn codes_fit(codes: &[u8], chips: u32) -> bool {
-    codes.len() == chips as usize && codes.iter().fold(0, |joined, code| joined | code) <= 7
+fn codes_fit<const JOINED: bool>(codes: &[u8], chips: u32) -> bool {
+    if codes.len() != chips as usize {
+        return false;
+    }
+    if JOINED {
+        codes.iter().fold(0, |joined, code| joined | code) <= 7
+    } else {
+        codes.iter().all(|&code| code <= 7)
+    }
 }
 
 /// Step 1.
@@ -283,6 +297,8 @@ fn error_pass(call: &PassCall, packet: Packet, errors: u32) -> Pass {
     }
 }
 
+/// Inlined by request: the compiler does so of itself only while one pass calls it, and the bench has two.
+#[inline(always)]
 fn sound_pass(call: &PassCall, packet: Packet) -> Pass {
     let kind = kind_of(packet.control);
     let local = call.source == LOCAL;
