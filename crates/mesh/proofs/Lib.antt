@@ -3,5 +3,7 @@ pub mod MeshParts
 pub mod Opened
 pub mod Parts
 pub mod Places
+pub mod Ready
+pub mod Sets
 pub mod Stores
 pub mod Upto
