@@ -1,4 +1,5 @@
 pub mod ChipParts
+pub mod Fitting
 pub mod MeshParts
 pub mod Opened
 pub mod Parts
