@@ -68,6 +68,7 @@ module _ (p : Packet) (s : ℕ) (rows codes : List ℕ) (t : Setting) (h : Check
           ∙ ap (λ (k : ℕ). sends k (t .ready) i) z
           ∙ simp (has-none, and-false)
       none-sent false l z = has-set (λ j. has l j && has (t .ready) j) i hi ∙ ap (λ (k : ℕ). has k i && has (t .ready) i) z ∙ simp has-none
+
       go : (b : Bool) → eqb (errorsOf p s (t .phase)) 0 ≡ b → errorsOf p s (t .phase) ≡ 0
       go true z = eqb-true _ _ z
       go false z =
@@ -102,7 +103,9 @@ module _ (p : Packet) (s : ℕ) (rows codes : List ℕ) (t : Setting) (h : Check
     where
       by-ready : (i : ℕ) → has (t .ready) i ≡ true → has (readyOf (chipIn l)) i ≡ true
       by-ready i f = ap (λ (r : ℕ). has r i) (sym ready) ∙ f
+
       sends-ready : (i : ℕ) → i < 6 → has (outcomeOf p s rows codes t .sent) i ≡ true → has (t .ready) i ≡ true
       sends-ready i hi f = sent-ready (errorsOf p s (t .phase)) (stampedOf p s (errorsOf p s (t .phase)) (t .phase)) s (wantedOf (errorsOf p s (t .phase)) p s rows codes t) (t .ready) i hi f
+
       legs-ready : (i : ℕ) → i < 6 → has (outcomeOf p s rows codes t .leg) i ≡ true → has (t .ready) i ≡ true
       legs-ready i hi f = leg-ready (errorsOf p s (t .phase)) (stampedOf p s (errorsOf p s (t .phase)) (t .phase)) s (wantedOf (errorsOf p s (t .phase)) p s rows codes t) (t .ready) i hi f

@@ -6,5 +6,6 @@ pub mod Parts
 pub mod Places
 pub mod Ready
 pub mod Sets
+pub mod StepAt
 pub mod Stores
 pub mod Upto

@@ -47,5 +47,5 @@ ready-room l i hi h =
     let t : isReady (getD (chipIn l .lines) i idle) ≡ true = sym (has-set (λ j. isReady (getD (chipIn l .lines) j idle)) i hi) ∙ h in
     let u : isReady (lineIn (lineWords i l)) ≡ true = sym (ap isReady (line-at i hi l)) ∙ t in
     let k : leb (length (lineIn (lineWords i l) .held)) 6 ≡ true =
-        and-eq-true-iff (lineIn (lineWords i l) .up) (leb (length (lineIn (lineWords i l) .held)) 6) .0 u .1 in
+    and-eq-true-iff (lineIn (lineWords i l) .up) (leb (length (lineIn (lineWords i l) .held)) 6) .0 u .1 in
     leb-true _ _ (rw length-places at k)

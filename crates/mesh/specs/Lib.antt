@@ -3,4 +3,5 @@ pub mod Layout
 pub mod Lines
 pub mod Mesh
 pub mod Opening
+pub mod Passing
 pub mod Steps

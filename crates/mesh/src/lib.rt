@@ -2,3 +2,4 @@
 pub mod chip;
 pub mod line;
 pub mod opening;
+pub mod passing;
