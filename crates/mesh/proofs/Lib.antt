@@ -1,4 +1,5 @@
 pub mod ChipParts
+pub mod FineSteps
 pub mod Fitting
 pub mod MeshParts
 pub mod Opened
