@@ -26,11 +26,10 @@ order i j = go (decLt i j) (decLt j i)
     go (no h) (yes k) = inr (inr k)
     go (no h) (no k) = inr (inl (omega arith))
 
-lines-of : List ℕ → List (Line (Unit {0}))
+abbrev pub lines-of : List ℕ → List (Line (Unit {0}))
 lines-of l = chipIn l .lines
 
-line-at : (j : ℕ) → j < 6 → (l : List ℕ) → getD (lines-of l) j idle ≡ lineIn (lineWords j l)
-unfolding lines-of
+pub line-at : (j : ℕ) → j < 6 → (l : List ℕ) → getD (lines-of l) j idle ≡ lineIn (lineWords j l)
 line-at zero h l = refl
 line-at (suc zero) h l = refl
 line-at (suc (suc zero)) h l = refl
@@ -59,7 +58,6 @@ module _ (i : ℕ) (hi : i < 6) (ys l : List ℕ) (long : length l ≡ 322) (siz
   words-same = part-same (linePlace i) 51 ys l fits sized
 
   line-of : (j : ℕ) → j < 6 → lineIn (lineWords j (putBack (linePlace i) 51 ys l)) ≡ getD (set (lines-of l) i (lineIn ys)) j idle
-  unfolding lines-of
   line-of j hj = go (order i j)
     where
       other : (i ≡ j → ⊥) → lineIn (lineWords j (putBack (linePlace i) 51 ys l)) ≡ getD (set (lines-of l) i (lineIn ys)) j idle
@@ -73,13 +71,12 @@ module _ (i : ℕ) (hi : i < 6) (ys l : List ℕ) (long : length l ≡ 322) (siz
 
   -- a chip with one link's words changed is the chip with that link changed
   all-lines : lines-of (putBack (linePlace i) 51 ys l) ≡ set (lines-of l) i (lineIn ys)
-  unfolding lines-of
   all-lines =
       (λ k. line-of 0 (lit< tt) k ∷ line-of 1 (lit< tt) k ∷ line-of 2 (lit< tt) k ∷ line-of 3 (lit< tt) k ∷ line-of 4 (lit< tt) k ∷ line-of 5 (lit< tt) k ∷ [])
       ∙ sym (six idle (set (lines-of l) i (lineIn ys)) (length-set (lines-of l) i (lineIn ys)))
 
   pub chip-line : chipIn (putBack (linePlace i) 51 ys l) ≡ withLine (chipIn l) i (lineIn ys)
-  unfolding withLine lines-of
+  unfolding withLine
   chip-line =
       let r : part 0 6 (putBack (linePlace i) 51 ys l) ≡ part 0 6 l = part-before (linePlace i) 51 ys l fits sized 0 6 (omega arith) in
       let c : part 6 10 (putBack (linePlace i) 51 ys l) ≡ part 6 10 l = part-before (linePlace i) 51 ys l fits sized 6 10 (omega arith) in

@@ -1,7 +1,12 @@
 pub mod ChipParts
+pub mod FineSteps
+pub mod Fitting
 pub mod MeshParts
 pub mod Opened
 pub mod Parts
 pub mod Places
+pub mod Ready
+pub mod Sets
+pub mod StepAt
 pub mod Stores
 pub mod Upto

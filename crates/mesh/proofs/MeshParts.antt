@@ -11,12 +11,9 @@ use Rattle.mesh.specs.Mesh.{Chip, Mesh, fresh}
 use Rattle.mesh.specs.Steps.{withChip}
 use Rattle.mesh.specs.Layout.{part, chipIn, chipPlace, chipsIn, meshOf, wordsFor}
 use Rattle.mesh.specs.Chips.{putBack}
+use Rattle.mesh.specs.Passing.{chipWords}
 use Rattle.mesh.proofs.Parts.{part-same, part-before, part-behind, getD-before}
 use Rattle.mesh.proofs.ChipParts.{order}
-
--- the words of chip k
-abbrev pub chipWords : ℕ → List ℕ → List ℕ
-chipWords k l = part (chipPlace k) 322 l
 
 -- chip k of those from c on
 pub chip-at : (n c k : ℕ) (l : List ℕ) → c ≤ k → k < c + n → getD (chipsIn c n l) (k - c) fresh ≡ chipIn (chipWords k l)

@@ -34,7 +34,7 @@ pub fn size(width: u32, height: u32) -> SizeRead
     }
 }
 
-fn words_for(width: u32, height: u32) -> u32
+pub fn words_for(width: u32, height: u32) -> u32
     requires { ⌜ sizeFine width height ≡ true ⌝ }
     ensures { λ r. ⌜ r ≡ wordsFor width height ⌝ }
 {
@@ -68,7 +68,7 @@ pub fn open(mesh: &mut [u32], width: u32, height: u32, rounds: u32, monitor: u32
     0
 }
 
-fn rounds_fine(rounds: u32) -> bool
+pub fn rounds_fine(rounds: u32) -> bool
     ensures { λ r. ⌜ r ≡ roundsFine rounds ⌝ }
 {
     (1 <= rounds) & (rounds <= 65535)

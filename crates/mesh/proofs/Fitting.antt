@@ -1,0 +1,111 @@
+-- A pass with the chip's own ready set fits the chip: there is room where it sends, and what it sends is right in length. Assumes nothing.
+use mathlib.Core.Path.{_≡_, refl, sym, ap, _∙_, subst}
+use mathlib.Core.Bool.{Bool, true, false, cond, _&&_, _||_, and-false, false≢true}
+use mathlib.Core.List.{List}
+use Prim.Native.Nat.{ℕ, _/_, _%_, _^_, _<_}
+use native.Mathlib.Nat.{zero-div, zero-mod, mul-mod-right}
+use lib.Pow.{pow-add}
+use native.Mathlib.Omega.{arith}
+use lib.Dec.{eqb}
+use lib.ListN.{length}
+use borrow.Author.Tests.{eqb-true, eqb-false, ne-eqb, not-false}
+use Rattle.packet.specs.declared.Packet.{Packet}
+use Rattle.packet.specs.Control.{carriesOf}
+use Rattle.packet.proofs.Rewrite.{FieldSet}
+use Rattle.router.specs.declared.Outcome.{Outcome}
+use Rattle.router.specs.declared.Setting.{Setting}
+use Rattle.router.specs.Links.{has, setOf, linksOf}
+use Rattle.router.specs.Detour.{carries, sends}
+use Rattle.router.specs.Errors.{errorsOf, stampedOf}
+use Rattle.router.specs.Wants.{wantedOf}
+use Rattle.router.specs.Deciding.{isMc, hasLeg, legSet, decided, outcomeOf, packetOn, legPacket, Checked}
+use Rattle.router.proofs.Bounds.{Sets, outcome-sets}
+use Rattle.router.proofs.OnePass as pass
+use Rattle.mesh.specs.Mesh.{readyOf}
+use Rattle.mesh.specs.Layout.{chipIn}
+use Rattle.mesh.specs.Chips.{lineWords, Right, Takes}
+use Rattle.mesh.proofs.Sets.{has-set}
+use Rattle.mesh.proofs.Ready.{sent-ready, leg-ready, ready-room}
+
+has-none : (i : ℕ) → has 0 i ≡ false
+has-none i = ap (λ (n : ℕ). eqb n 1) (ap (λ (n : ℕ). n % 2) (zero-div (2 ^ i)) ∙ zero-mod 2)
+
+module _ (p : Packet) (s : ℕ) (rows codes : List ℕ) (t : Setting) (h : Checked p s codes t) (from : pass.Source s) where
+  -- the packet after stamping is right in length where there is no error
+  stamped-right : errorsOf p s (t .phase) ≡ 0 → Right (outcomeOf p s rows codes t .packet)
+  unfolding outcomeOf decided
+  stamped-right none =
+      let q = pass.stamped p s (errorsOf p s (t .phase)) (t .phase) (h .control) (h .phase) in
+      let fits : carriesOf (p .control) ≡ p .nine = eqb-true _ _ (not-false _ (pass.right p s (t .phase) none .long)) in
+      q .nine ∙ sym fits ∙ sym (q .carries)
+
+  sent-right : errorsOf p s (t .phase) ≡ 0 → (i : ℕ) → Right (packetOn (outcomeOf p s rows codes t) i)
+  sent-right none i = go (isMc (outcomeOf p s rows codes t .packet)) refl
+    where
+      go : (b : Bool) → isMc (outcomeOf p s rows codes t .packet) ≡ b → Right (packetOn (outcomeOf p s rows codes t) i)
+      go true mc =
+          let f = pass.sent-mc p s rows codes t h from i mc in
+          f .nine ∙ stamped-right none ∙ sym (f .carries)
+      go false other = subst Right (sym (pass.sent-plain p s rows codes t h from i other)) (stamped-right none)
+
+  leg-right : errorsOf p s (t .phase) ≡ 0 → Right (legPacket (outcomeOf p s rows codes t))
+  leg-right none =
+      let f = pass.sent-leg p s rows codes t h from in
+      f .nine ∙ stamped-right none ∙ sym (f .carries)
+
+  -- a packet in error wants the monitor alone, so that no link sends
+  no-link-wanted : (errorsOf p s (t .phase) ≡ 0 → ⊥) → linksOf (wantedOf (errorsOf p s (t .phase)) p s rows codes t .set) ≡ 0
+  unfolding wantedOf
+  no-link-wanted some = simp (ne-eqb _ _ some) (ap linksOf (pow-add 2 6 (t .monitor)) ∙ mul-mod-right 64 (2 ^ t .monitor))
+
+  sent-no-error : (i : ℕ) → i < 6 → has (outcomeOf p s rows codes t .sent) i ≡ true → errorsOf p s (t .phase) ≡ 0
+  unfolding outcomeOf decided
+  sent-no-error i hi sent = go (eqb (errorsOf p s (t .phase)) 0) refl
+    where
+      none-sent : (b : Bool) (l : ℕ) → l ≡ 0 → has (cond b (setOf (sends l (t .ready))) (setOf (λ j. has l j && has (t .ready) j))) i ≡ false
+      none-sent true l z =
+          has-set (sends l (t .ready)) i hi
+          ∙ ap (λ (k : ℕ). sends k (t .ready) i) z
+          ∙ simp (has-none, and-false)
+      none-sent false l z = has-set (λ j. has l j && has (t .ready) j) i hi ∙ ap (λ (k : ℕ). has k i && has (t .ready) i) z ∙ simp has-none
+
+      go : (b : Bool) → eqb (errorsOf p s (t .phase)) 0 ≡ b → errorsOf p s (t .phase) ≡ 0
+      go true z = eqb-true _ _ z
+      go false z =
+          absurd (false≢true (sym (none-sent (isMc (stampedOf p s (errorsOf p s (t .phase)) (t .phase))) _ (no-link-wanted (eqb-false _ _ z))) ∙ sent))
+
+  leg-no-error : (i : ℕ) → i < 6 → has (outcomeOf p s rows codes t .leg) i ≡ true → errorsOf p s (t .phase) ≡ 0
+  unfolding outcomeOf decided
+  leg-no-error i hi leg = go (eqb (errorsOf p s (t .phase)) 0) refl
+    where
+      go : (b : Bool) → eqb (errorsOf p s (t .phase)) 0 ≡ b → errorsOf p s (t .phase) ≡ 0
+      go true z = eqb-true _ _ z
+      go false z =
+          let none : legSet (errorsOf p s (t .phase)) (stampedOf p s (errorsOf p s (t .phase)) (t .phase)) s ≡ 0 = simp z in
+          absurd (false≢true (sym
+          (has-set (λ j. has (legSet (errorsOf p s (t .phase)) (stampedOf p s (errorsOf p s (t .phase)) (t .phase)) s) j && has (t .ready) j) i hi
+          ∙ ap (λ (k : ℕ). has k i && has (t .ready) i) none
+          ∙ simp has-none) ∙ leg))
+
+  -- so the pass fits the chip
+  pub takes : (l : List ℕ) → length l ≡ 322 → t .ready ≡ readyOf (chipIn l) → Takes l (outcomeOf p s rows codes t)
+  unfolding outcomeOf
+  takes l long ready =
+      let o = outcome-sets p s rows codes t in
+      record {
+        long = long;
+        dropped = o .dropped;
+        lost = o .lost;
+        room = λ i hi. (λ sent. ready-room l i hi (by-ready i (sends-ready i hi sent)), λ leg. ready-room l i hi (by-ready i (legs-ready i hi leg)));
+        right = λ i hi sent. sent-right (sent-no-error i hi sent) i;
+        leg = λ i hi leg. leg-right (leg-no-error i hi leg);
+      }
+    where
+      by-ready : (i : ℕ) → has (t .ready) i ≡ true → has (readyOf (chipIn l)) i ≡ true
+      by-ready i f = ap (λ (r : ℕ). has r i) (sym ready) ∙ f
+
+      sends-ready : (i : ℕ) → i < 6 → has (outcomeOf p s rows codes t .sent) i ≡ true → has (t .ready) i ≡ true
+      sends-ready i hi f = sent-ready (errorsOf p s (t .phase)) (stampedOf p s (errorsOf p s (t .phase)) (t .phase)) s (wantedOf (errorsOf p s (t .phase)) p s rows codes t) (t .ready) i hi f
+
+      legs-ready : (i : ℕ) → i < 6 → has (outcomeOf p s rows codes t .leg) i ≡ true → has (t .ready) i ≡ true
+      legs-ready i hi f = leg-ready (errorsOf p s (t .phase)) (stampedOf p s (errorsOf p s (t .phase)) (t .phase)) s (wantedOf (errorsOf p s (t .phase)) p s rows codes t) (t .ready) i hi f

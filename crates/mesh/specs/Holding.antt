@@ -1,0 +1,56 @@
+-- Which buffers hold a mesh: "exactly when it is long enough and each stored number is within this document's range ... and each packet in
+-- flight is of a used type, right in length and parity, not NN with T = 1."
+use Prim.Native.Nat.{ℕ, zero, suc, _+_, _*_}
+use mathlib.Core.Bool.{Bool, true, _&&_, _||_, not}
+use mathlib.Core.List.{List, [], _∷_}
+use lib.Dec.{eqb, ltb, leb}
+use lib.ListN.{length, getD, drop}
+use Rattle.packet.specs.declared.Packet.{Packet}
+use Rattle.packet.specs.Bytes.{usedType}
+use Rattle.packet.specs.Parity.{isOdd}
+use Rattle.router.specs.declared.Registers.{Registers}
+use Rattle.router.specs.Keeping.{isEmpty}
+use Rattle.router.specs.Call.{sizeFine, isDirect}
+use Rattle.mesh.specs.Layout.{part, packetIn, registersIn, linePlace, chipPlace, wordsFor}
+use Rattle.mesh.specs.Opening.{roundsFine}
+
+-- A packet in flight; its length is right as it is read, and a payload that is not there is 0.
+abbrev pub packetFine : Packet → Bool
+packetFine p =
+    ltb (p .control) 256 && usedType (p .control) && not (isDirect (p .control)) && isOdd p && (eqb (p .nine) 1 || eqb (p .payload) 0)
+
+-- The first n packets of a run of places.
+unfoldable pub placesFine : ℕ → List ℕ → Bool
+placesFine zero l = true
+placesFine (suc n) l = packetFine (packetIn l) && placesFine n (drop 3 l)
+
+-- "Link states, at most 8 packets a link".
+abbrev pub lineFine : List ℕ → Bool
+lineFine l = leb (getD l 0 0) 1 && leb (getD l 1 0) 8 && placesFine (getD l 1 0) (drop 2 l)
+
+-- Registers, number by number; "empty ones are all zeros".
+abbrev pub registersFine : Registers → Bool
+registersFine r =
+    ltb (r .control) 256 && ltb (r .link) 6 && leb (r .leg) 1 && leb (r .more) 1
+    && (not (isEmpty r) || (eqb (r .link) 0 && eqb (r .leg) 0 && eqb (r .more) 0))
+
+abbrev pub chipFine : List ℕ → Bool
+chipFine l =
+    registersFine (registersIn (part 0 6 l)) && lineFine (part (linePlace 0) 51 l) && lineFine (part (linePlace 1) 51 l) && lineFine (part (linePlace 2) 51 l)
+    && lineFine (part (linePlace 3) 51 l)
+    && lineFine (part (linePlace 4) 51 l)
+    && lineFine (part (linePlace 5) 51 l)
+
+-- The n chips from number c on.
+unfoldable pub chipsFine : ℕ → ℕ → List ℕ → Bool
+chipsFine c zero l = true
+chipsFine c (suc n) l = chipFine (part (chipPlace c) 322 l) && chipsFine (suc c) n l
+
+-- "Sizes, F, phase, rounds in the phase, monitor".
+abbrev pub headFine : List ℕ → Bool
+headFine l =
+    sizeFine (getD l 0 0) (getD l 1 0) && roundsFine (getD l 2 0) && leb (getD l 3 0) 19 && leb (getD l 4 0) 3 && ltb (getD l 5 0) (getD l 2 0)
+
+abbrev pub holdsMesh : List ℕ → Bool
+holdsMesh l =
+    leb 6 (length l) && headFine l && leb (wordsFor (getD l 0 0) (getD l 1 0)) (length l) && chipsFine 0 (getD l 1 0 * getD l 0 0) l
