@@ -5,4 +5,6 @@ pub mod Lines
 pub mod Mesh
 pub mod Opening
 pub mod Passing
+pub mod Sound
 pub mod Steps
+pub mod Weights

@@ -1,0 +1,49 @@
+-- What holds of every mesh that a buffer may hold, said of the mesh and not of its words: the ranges of document 01, at most 8 packets a link,
+-- each packet in flight of a used type, right in length and parity, not NN with T = 1.
+use Prim.Native.Nat.{ℕ, _*_, _≤_, _<_}
+use mathlib.Core.Path.{_≡_}
+use mathlib.Core.Bool.{Bool, true, false}
+use mathlib.Core.List.{List, [], _∷_}
+use lib.ListN.{length}
+use Rattle.packet.specs.declared.Packet.{Packet}
+use Rattle.packet.specs.Control.{kindOf}
+use Rattle.router.specs.Call.{sizeFine, isDirect}
+use Rattle.mesh.specs.Mesh.{Flight, Line, Chip, Mesh}
+use Rattle.mesh.specs.Chips.{Right}
+use Rattle.mesh.specs.Holding.{packetFine, registersFine}
+use Rattle.mesh.specs.Opening.{roundsFine}
+
+unfoldable pub All : {X : Type 0} → (X → Type 0) → List X → Type 0
+All P [] = Unit {0}
+All P (x ∷ xs) = P x × All P xs
+
+-- A packet that may pass: one in flight, or one that an injection has accepted.
+pub record Passable (p : Packet) : Type 0 where
+  pub control : p .control < 256
+  pub used : kindOf (p .control) < 3
+  pub plain : isDirect (p .control) ≡ false
+  pub nine : p .nine < 2
+  pub absent : p .nine ≡ 0 → p .payload ≡ 0
+
+pub record SoundPacket (p : Packet) : Type 0 where
+  pub fine : packetFine p ≡ true
+  pub right : Right p
+
+module _ {A : Type 0} where
+  pub record SoundLine (l : Line A) : Type 0 where
+    pub few : length (l .held) ≤ 8
+    pub fine : All (λ (f : Flight A). SoundPacket (f .packet)) (l .held)
+
+  pub record SoundChip (c : Chip A) : Type 0 where
+    pub six : length (c .lines) ≡ 6
+    pub registers : registersFine (c .registers) ≡ true
+    pub lines : All SoundLine (c .lines)
+
+  pub record SoundMesh (m : Mesh A) : Type 0 where
+    pub size : sizeFine (m .width) (m .height) ≡ true
+    pub rounds : roundsFine (m .rounds) ≡ true
+    pub monitor : m .monitor ≤ 19
+    pub phase : m .phase ≤ 3
+    pub elapsed : m .elapsed < m .rounds
+    pub many : length (m .chips) ≡ m .height * m .width
+    pub chips : All SoundChip (m .chips)
