@@ -8,7 +8,7 @@ use native.Mathlib.Numerals.{add-one}
 use lib.Dec.{eqb, lit<}
 use native.Mathlib.Omega.{arith}
 use lib.ListN.{length, getD, drop, set, length-set}
-use lib.Seq.{getD-drop, getD-set-same, drop-set-lt}
+use lib.Seq.{getD-drop, getD-set-same, getD-set-other, drop-set-lt}
 use Rattle.packet.specs.declared.Packet.{Packet}
 use Rattle.packet.specs.Control.{carriesOf}
 use Rattle.router.specs.declared.Outcome.{Outcome}
@@ -17,7 +17,7 @@ use Rattle.router.specs.Deciding.{packetOn, legPacket}
 use Rattle.mesh.specs.Mesh.{Flight, Line}
 use Rattle.mesh.specs.Steps.{lineAfter}
 use Rattle.mesh.specs.Layout.{packetIn, placesIn, lineIn}
-use Rattle.mesh.specs.Chips.{Right}
+use Rattle.mesh.specs.Chips.{Right, still}
 use Rattle.mesh.specs.Lines.{placeAt, putAt, pushed, pushedIf, sentWords, Room}
 
 -- as many as the count says
@@ -73,14 +73,25 @@ line-push (u ∷ v ∷ l) p r h k =
     ∙ (λ i. record { up = eqb u 0; held = placesIn (add-one v i) (putAt l (v * 3) p) })
     ∙ (λ i. record { up = eqb u 0; held = places-put v l p r (omega arith) i })
 
--- and leaves what is set aside as it was
-pub push-aside : (l : List ℕ) (p : Packet) → getD l 1 0 ≤ 7 → drop 26 (pushed l p) ≡ drop 26 l
+-- and leaves the link's state and what is set aside as they were
+push-aside : (l : List ℕ) (p : Packet) → getD l 1 0 ≤ 7 → drop 26 (pushed l p) ≡ drop 26 l
 push-aside l p k =
     let i : ℕ = placeAt (getD l 1 0) in
     drop-set-lt 26 (putAt l i p) 1 (getD l 1 0 + 1) (lit< tt)
     ∙ drop-set-lt 26 (set (set l i (p .control)) (i + 1) (p .word)) (i + 2) (p .payload) (omega arith)
     ∙ drop-set-lt 26 (set l i (p .control)) (i + 1) (p .word) (omega arith)
     ∙ drop-set-lt 26 l i (p .control) (omega arith)
+
+push-state : (l : List ℕ) (p : Packet) → getD (pushed l p) 0 0 ≡ getD l 0 0
+push-state l p =
+    let i : ℕ = placeAt (getD l 1 0) in
+    getD-set-other (putAt l i p) 1 0 (getD l 1 0 + 1) 0 (λ e. omega arith)
+    ∙ getD-set-other (set (set l i (p .control)) (i + 1) (p .word)) (i + 2) 0 (p .payload) 0 (λ e. omega arith)
+    ∙ getD-set-other (set l i (p .control)) (i + 1) 0 (p .word) 0 (λ e. omega arith)
+    ∙ getD-set-other l i 0 (p .control) 0 (λ e. omega arith)
+
+pub push-still : (l : List ℕ) (p : Packet) → getD l 1 0 ≤ 7 → still (pushed l p) ≡ still l
+push-still l p k = λ i. push-state l p i ∷ push-aside l p k i
 
 -- ---- a packet pushed where a test says so
 
@@ -101,9 +112,9 @@ pub line-push-if : (b : Bool) (l : List ℕ) (p : Packet) → (b ≡ true → Ri
 line-push-if true l p r h k = line-push l p (r refl) h (k refl)
 line-push-if false l p r h k = λ i. record { up = lineIn l .up; held = sym (append-nil (lineIn l .held)) i }
 
-pub aside-push-if : (b : Bool) (l : List ℕ) (p : Packet) → (b ≡ true → getD l 1 0 ≤ 7) → drop 26 (pushedIf b l p) ≡ drop 26 l
-aside-push-if true l p k = push-aside l p (k refl)
-aside-push-if false l p k = refl
+pub still-push-if : (b : Bool) (l : List ℕ) (p : Packet) → (b ≡ true → getD l 1 0 ≤ 7) → still (pushedIf b l p) ≡ still l
+still-push-if true l p k = push-still l p (k refl)
+still-push-if false l p k = refl
 
 -- room for one more, and for a second behind it
 module _ (l : List ℕ) (o : Outcome) (i : ℕ) (h : length l ≡ 51) (room : Room l o i) where
@@ -123,11 +134,11 @@ module _ (l : List ℕ) (o : Outcome) (i : ℕ) (h : length l ≡ 51) (room : Ro
       ∙ ap (λ (x : Line (Unit {0})). record { up = x .up; held = x .held ++ cond (has (o .leg) i) (flight (legPacket o) ∷ []) [] })
       (line-push-if (has (o .sent) i) l (packetOn o i) r h room-first)
 
-  -- what is set aside stays
-  pub aside-sent : drop 26 (sentWords l o i) ≡ drop 26 l
-  aside-sent =
-      aside-push-if (has (o .leg) i) (pushedIf (has (o .sent) i) l (packetOn o i)) (legPacket o) room-second
-      ∙ aside-push-if (has (o .sent) i) l (packetOn o i) room-first
+  -- the state and what is set aside stay
+  pub still-sent : still (sentWords l o i) ≡ still l
+  still-sent =
+      still-push-if (has (o .leg) i) (pushedIf (has (o .sent) i) l (packetOn o i)) (legPacket o) room-second
+      ∙ still-push-if (has (o .sent) i) l (packetOn o i) room-first
 
   pub length-sent : length (sentWords l o i) ≡ 51
   length-sent = length-pushed-if (has (o .leg) i) (pushedIf (has (o .sent) i) l (packetOn o i)) (legPacket o) ∙ long-between

@@ -14,7 +14,7 @@ use Rattle.router.proofs.Bounds.{set-small}
 use Rattle.mesh.specs.Mesh.{isReady, idle}
 use Rattle.mesh.specs.Layout.{chipIn, chipPlace, meshOf, wordsFor}
 use Rattle.mesh.specs.Steps.{withChip}
-use Rattle.mesh.specs.Chips.{putBack, lineWords, ChipStep}
+use Rattle.mesh.specs.Chips.{putBack, lineWords, still, ChipStep}
 use Rattle.mesh.specs.Passing.{chipWords, settingIn, Ready, MeshStep}
 use Rattle.mesh.proofs.Parts.{length-back, part-same, part-before, part-behind, drop-behind}
 use Rattle.mesh.proofs.ChipParts.{order}
@@ -41,20 +41,20 @@ pub chip-long : (l : List ℕ) (chip : ℕ) → chipPlace chip + 322 ≤ length 
 chip-long l chip fits = length-take-le 322 (drop (chipPlace chip) l) (simp length-drop (omega arith))
 
 module _ (l ys : List ℕ) (chip : ℕ) (o : Outcome) (fits : chipPlace chip + 322 ≤ length l) (there : chip < getD l 1 0 * getD l 0 0) (step : ChipStep (chipWords chip l) ys o) where
-  kept : (c j : ℕ) → j < 6 → drop 26 (lineWords j (chipWords c (putBack (chipPlace chip) 322 ys l))) ≡ drop 26 (lineWords j (chipWords c l))
+  kept : (c j : ℕ) → j < 6 → still (lineWords j (chipWords c (putBack (chipPlace chip) 322 ys l))) ≡ still (lineWords j (chipWords c l))
   kept c j hj = go (order chip c)
     where
-      go : (chip < c) ⊎ ((chip ≡ c) ⊎ (c < chip)) → drop 26 (lineWords j (chipWords c (putBack (chipPlace chip) 322 ys l))) ≡ drop 26 (lineWords j (chipWords c l))
-      go (inl h) = ap (λ (w : List ℕ). drop 26 (lineWords j w)) (part-behind (chipPlace chip) 322 ys l fits (step .long) (chipPlace c) 322 (omega arith))
-      go (inr (inl h)) = subst (λ (k : ℕ). drop 26 (lineWords j (chipWords k (putBack (chipPlace chip) 322 ys l))) ≡ drop 26 (lineWords j (chipWords k l))) h
-          (ap (λ (w : List ℕ). drop 26 (lineWords j w)) (part-same (chipPlace chip) 322 ys l fits (step .long)) ∙ step .aside j hj)
-      go (inr (inr h)) = ap (λ (w : List ℕ). drop 26 (lineWords j w)) (part-before (chipPlace chip) 322 ys l fits (step .long) (chipPlace c) 322 (omega arith))
+      go : (chip < c) ⊎ ((chip ≡ c) ⊎ (c < chip)) → still (lineWords j (chipWords c (putBack (chipPlace chip) 322 ys l))) ≡ still (lineWords j (chipWords c l))
+      go (inl h) = ap (λ (w : List ℕ). still (lineWords j w)) (part-behind (chipPlace chip) 322 ys l fits (step .long) (chipPlace c) 322 (omega arith))
+      go (inr (inl h)) = subst (λ (k : ℕ). still (lineWords j (chipWords k (putBack (chipPlace chip) 322 ys l))) ≡ still (lineWords j (chipWords k l))) h
+          (ap (λ (w : List ℕ). still (lineWords j w)) (part-same (chipPlace chip) 322 ys l fits (step .long)) ∙ step .still j hj)
+      go (inr (inr h)) = ap (λ (w : List ℕ). still (lineWords j w)) (part-before (chipPlace chip) 322 ys l fits (step .long) (chipPlace c) 322 (omega arith))
 
   pub mesh-step : MeshStep l (putBack (chipPlace chip) 322 ys l) chip o
   mesh-step =
       record {
         long = length-back (chipPlace chip) 322 ys l fits (step .long);
         mesh = mesh-put chip ys l fits (step .long) there ∙ ap (withChip (meshOf l) chip) (step .chip);
-        aside = kept;
+        still = kept;
         past = drop-behind (chipPlace chip) 322 ys l fits (step .long) (wordsFor (getD l 0 0) (getD l 1 0)) (omega arith);
       }

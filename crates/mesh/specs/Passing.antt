@@ -10,7 +10,7 @@ use Rattle.router.specs.declared.Setting.{Setting}
 use Rattle.mesh.specs.Mesh.{readyOf}
 use Rattle.mesh.specs.Layout.{part, chipIn, chipPlace, meshOf, wordsFor}
 use Rattle.mesh.specs.Steps.{chipAfter, withChip}
-use Rattle.mesh.specs.Chips.{lineWords}
+use Rattle.mesh.specs.Chips.{lineWords, still}
 
 -- the words of chip k
 abbrev pub chipWords : ℕ → List ℕ → List ℕ
@@ -33,10 +33,10 @@ pub record Ready (l : List ℕ) (chip source : ℕ) (p : Packet) (codes : List �
   pub phase : getD l 4 0 ≤ 3
   pub enough : getD l 1 0 * getD l 0 0 ≤ length codes
 
--- A mesh's words before and after a pass at a chip: the mesh is as the pass leaves it; what is set aside, and the words past the mesh, are as
--- they were.
+-- A mesh's words before and after a pass at a chip: the mesh is as the pass leaves it; the links' states, what is set aside, and the words
+-- past the mesh are as they were.
 pub record MeshStep (before after : List ℕ) (chip : ℕ) (o : Outcome) : Type 0 where
   pub long : length after ≡ length before
   pub mesh : meshOf after ≡ withChip (meshOf before) chip (chipAfter o tt (chipIn (chipWords chip before)))
-  pub aside : (c j : ℕ) → j < 6 → drop 26 (lineWords j (chipWords c after)) ≡ drop 26 (lineWords j (chipWords c before))
+  pub still : (c j : ℕ) → j < 6 → still (lineWords j (chipWords c after)) ≡ still (lineWords j (chipWords c before))
   pub past : drop (wordsFor (getD before 0 0) (getD before 1 0)) after ≡ drop (wordsFor (getD before 0 0) (getD before 1 0)) before

@@ -15,7 +15,7 @@ ghost use Rattle.router.specs.Counting.{countedOf};
 ghost use Rattle.mesh.specs.Mesh.{readyOf};
 ghost use Rattle.mesh.specs.Layout.{part, linePlace, registersIn, chipIn};
 ghost use Rattle.mesh.specs.Lines.{Room};
-ghost use Rattle.mesh.specs.Chips.{registerWords, sentOn, Takes, ChipStep, Upto};
+ghost use Rattle.mesh.specs.Chips.{registerWords, changedOn, sending, Takes, ChipStep, Upto};
 
 // The links that are ready now.
 pub fn ready_of(chip: &[u32]) -> u32
@@ -42,7 +42,7 @@ pub fn after(chip: &mut [u32], o: Outcome)
 
 fn send_all(chip: &mut [u32], o: Outcome)
     requires { ⌜ Takes (now chip) o ⌝ }
-    ensures { λ _. ⌜ Upto 6 (now (chip .entry)) (now (chip .exit)) o ⌝ }
+    ensures { λ _. ⌜ Upto (sending o) 6 (now (chip .entry)) (now (chip .exit)) ⌝ }
 {
     let mut i = 0;
     while i < 6 {
@@ -54,7 +54,7 @@ fn send_all(chip: &mut [u32], o: Outcome)
 // Sends what a pass has for link i.
 fn send_on(chip: &mut [u32], o: Outcome, i: u32)
     requires { ⌜ (length (now chip) ≡ 322) × ((i < 6) × Room (part (linePlace i) 51 (now chip)) o i) ⌝ }
-    ensures { λ _. ⌜ now (chip .exit) ≡ sentOn (now (chip .entry)) o i ⌝ }
+    ensures { λ _. ⌜ now (chip .exit) ≡ changedOn (sending o) (now (chip .entry)) i ⌝ }
 {
     let at = 16 + (i as usize) * 51;
     send(&mut chip[at..at + 51], o, i);

@@ -64,7 +64,7 @@ returns c =
     let cs = c .before .before .before .before .before .before .count .last .0 in
     let lw : length ws ≡ 6 = ap length (c .before .before .before .before .before .before .before .before .before .before .keep .ensures) in
     let lc : length cs ≡ 10 = ap length (c .before .before .before .before .before .before .count .ensures) in
-    finish (a .chip .now) ws cs (a .o) (c .before .before .before .before .before .before .before .before .before .before .before .before .before .pre .long) lw lc (c .before .before .before .before .before .before .before .before .before .before .keep .ensures) (c .before .before .before .before .before .before .count .ensures) (c .before .before .send-all .last .0) (c .before .before .send-all .ensures)
+    finish (a .chip .now) ws cs (a .o) (c .before .before .before .before .before .before .before .before .before .before .before .before .before .pre .long) lw lc (c .before .before .before .before .before .before .before .before .before .before .keep .ensures) (c .before .before .before .before .before .before .count .ensures) (c .before .before .before .before .before .before .before .before .before .before .before .before .before .pre) (c .before .before .send-all .last .0) (c .before .before .send-all .ensures)
 
 pub after-spec : {M : Type 1} → statement M
 after-spec =

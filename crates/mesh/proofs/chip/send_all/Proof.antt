@@ -4,8 +4,8 @@ use Prim.Native.Nat.{_≤_, _-_}
 use native.Mathlib.Numerals.{add-one}
 use mathlib.Core.List.{List}
 use Prim.Native.Nat.{ℕ}
-use Rattle.mesh.proofs.Upto.{begin, next}
-use Rattle.mesh.specs.Chips.{Upto}
+use Rattle.mesh.proofs.Upto.{begin, next, sends-long}
+use Rattle.mesh.specs.Chips.{sending, Upto}
 use Rattle.mesh.specs.Lines.{Room}
 use Rattle.mesh.proofs.chip.send_all.Statement.{statement}
 use Rattle.mesh.proofs.chip.send_all.Tie as tie
@@ -14,7 +14,7 @@ use Rattle.mesh.proofs.chip.send_all.Lts as lts
 use Rattle.mesh.proofs.chip.send_on.Reads as send-on-reads
 
 abbrev Inv-loop : tie.InvT-loop
-Inv-loop chip₀ o i₀ chip i = (i ≤ 6) × Upto i chip₀ chip o
+Inv-loop chip₀ o i₀ chip i = (i ≤ 6) × Upto (sending o) i chip₀ chip
 
 abbrev μ-loop : tie.MeasureT-loop
 μ-loop chip₀ o i₀ chip i = 6 - i
@@ -46,7 +46,7 @@ loop-again c =
     let at = c .before .before .before .before .before .loop in
     let i = at .i in
     let hi = c .before .before .before .before .loop-test .taken in
-    (omega arith, rw (c .before .before .send-on .ensures, add-one) (next i _ _ _ hi (c .before .before .before .before .before .before .before .pre) (at .inv .1)))
+    (omega arith, rw (c .before .before .send-on .ensures, add-one) (next _ i _ _ hi (sends-long i _ _ hi (c .before .before .before .before .before .before .before .pre)) (at .inv .1)))
 
 -- src/chip.rt:40:1
 same-length : tie.Need-same-length Inv-loop μ-loop
