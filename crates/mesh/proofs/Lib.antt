@@ -1,3 +1,5 @@
+pub mod AsideChips
+pub mod Asides
 pub mod ChipParts
 pub mod FineSteps
 pub mod Fitting

@@ -1,3 +1,4 @@
+pub mod Aside
 pub mod Chips
 pub mod Holding
 pub mod Layout
