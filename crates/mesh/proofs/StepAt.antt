@@ -16,7 +16,7 @@ use Rattle.mesh.specs.Layout.{chipIn, chipPlace, meshOf, wordsFor}
 use Rattle.mesh.specs.Steps.{withChip}
 use Rattle.mesh.specs.Chips.{putBack, lineWords, still, ChipStep}
 use Rattle.mesh.specs.Passing.{chipWords, settingIn, Ready, MeshStep}
-use Rattle.mesh.proofs.Parts.{length-back, part-same, part-before, part-behind, drop-behind}
+use Rattle.mesh.proofs.Parts.{length-back, part-same, part-before, part-behind, take-before, drop-behind}
 use Rattle.mesh.proofs.ChipParts.{order}
 use Rattle.mesh.proofs.MeshParts.{mesh-put}
 
@@ -54,6 +54,7 @@ module _ (l ys : List ℕ) (chip : ℕ) (o : Outcome) (fits : chipPlace chip + 3
   mesh-step =
       record {
         long = length-back (chipPlace chip) 322 ys l fits (step .long);
+        head = take-before (chipPlace chip) 322 ys l fits (step .long) 6 (omega arith);
         mesh = mesh-put chip ys l fits (step .long) there ∙ ap (withChip (meshOf l) chip) (step .chip);
         still = kept;
         past = drop-behind (chipPlace chip) 322 ys l fits (step .long) (wordsFor (getD l 0 0) (getD l 1 0)) (omega arith);

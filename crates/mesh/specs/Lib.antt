@@ -1,8 +1,10 @@
 pub mod Aside
 pub mod Chips
+pub mod Going
 pub mod Holding
 pub mod Layout
 pub mod Lines
+pub mod Logs
 pub mod Mesh
 pub mod Opening
 pub mod Passing

@@ -3,7 +3,7 @@ use Prim.Native.Nat.{ℕ, _+_, _*_, _≤_, _<_}
 use mathlib.Core.Path.{_≡_}
 use mathlib.Core.Logic.{_⊎_}
 use mathlib.Core.List.{List}
-use lib.ListN.{length, getD, drop}
+use lib.ListN.{length, getD, take, drop}
 use Rattle.packet.specs.declared.Packet.{Packet}
 use Rattle.router.specs.declared.Outcome.{Outcome}
 use Rattle.router.specs.declared.Setting.{Setting}
@@ -37,6 +37,7 @@ pub record Ready (l : List ℕ) (chip source : ℕ) (p : Packet) (codes : List �
 -- past the mesh are as they were.
 pub record MeshStep (before after : List ℕ) (chip : ℕ) (o : Outcome) : Type 0 where
   pub long : length after ≡ length before
+  pub head : take 6 after ≡ take 6 before
   pub mesh : meshOf after ≡ withChip (meshOf before) chip (chipAfter o tt (chipIn (chipWords chip before)))
   pub still : (c j : ℕ) → j < 6 → still (lineWords j (chipWords c after)) ≡ still (lineWords j (chipWords c before))
   pub past : drop (wordsFor (getD before 0 0) (getD before 1 0)) after ≡ drop (wordsFor (getD before 0 0) (getD before 1 0)) before

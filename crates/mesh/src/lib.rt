@@ -3,5 +3,6 @@ pub mod aside;
 pub mod chip;
 pub mod holding;
 pub mod line;
+pub mod logging;
 pub mod opening;
 pub mod passing;

@@ -1,0 +1,79 @@
+-- Passes one after the other, as the code makes them: the mesh's words, the log, and how many records the log has.
+use Prim.Native.Nat.{ℕ, zero, suc, _+_, _*_, _/_, _%_, _≤_, _<_}
+use mathlib.Core.Path.{_≡_}
+use mathlib.Core.Logic.{_⊎_}
+use mathlib.Core.Bool.{true}
+use mathlib.Core.List.{List, [], _∷_, _++_, map, foldl}
+use lib.ListN.{length, getD, take, drop}
+use Rattle.packet.specs.declared.Packet.{Packet}
+use Rattle.tables.specs.Accept.{startsFine}
+use Rattle.mesh.specs.Mesh.{Flight, across, opposite}
+use Rattle.mesh.specs.Layout.{asideIn, meshOf, wordsFor}
+use Rattle.mesh.specs.Steps.{Tables, Arrival, Going, passAt}
+use Rattle.mesh.specs.Chips.{lineWords, still}
+use Rattle.mesh.specs.Passing.{chipWords}
+use Rattle.mesh.specs.Holding.{headFine}
+use Rattle.mesh.specs.Sound.{All}
+
+abbrev pub tablesOf : List ℕ → List ℕ → List ℕ → Tables
+tablesOf rows starts codes = record { rows = rows; starts = starts; codes = codes }
+
+abbrev pub chipsOf : List ℕ → ℕ
+chipsOf l = getD l 1 0 * getD l 0 0
+
+-- The code's tags have one value, which no sending changes.
+abbrev pub same : Unit {0} → Unit {0}
+same u = u
+
+abbrev pub arrival : ℕ → ℕ → Packet → Arrival (Unit {0})
+arrival chip source p = record { chip = chip; source = source; flight = record { packet = p; tag = tt } }
+
+-- What was set aside for a chip on the link that it arrives by; on the links below k; at the chips below k.
+abbrev pub asideBy : List ℕ → ℕ → ℕ → List (Arrival (Unit {0}))
+asideBy l chip source =
+    map (λ (f : Flight (Unit {0})). record { chip = chip; source = source; flight = f })
+    (asideIn (lineWords (opposite source) (chipWords (across (getD l 0 0) (getD l 1 0) chip source) l)))
+
+unfoldable pub asideLinks : List ℕ → ℕ → ℕ → List (Arrival (Unit {0}))
+asideLinks l chip zero = []
+asideLinks l chip (suc k) = asideLinks l chip k ++ asideBy l chip k
+
+unfoldable pub asideChips : List ℕ → ℕ → List (Arrival (Unit {0}))
+asideChips l zero = []
+asideChips l (suc k) = asideChips l k ++ asideLinks l k 6
+
+-- The mesh on its way, and the log's first n records.
+abbrev pub goingIn : List ℕ → List ℕ → ℕ → Going (Unit {0})
+goingIn mesh log n = record { mesh = meshOf mesh; log = take (n * 6) log }
+
+-- Tables that were accepted.
+pub record Lent (t : Tables) (chips : ℕ) : Type 0 where
+  pub starts : startsFine (t .starts) chips (length (t .rows) / 3) ≡ true
+  pub rows : length (t .rows) % 3 ≡ 0
+  pub codes : length (t .codes) ≡ chips * chips
+
+-- A packet that can pass where it arrives.
+pub record Arrives (chips : ℕ) (a : Arrival (Unit {0})) : Type 0 where
+  pub there : a .chip < chips
+  pub from : (a .source < 6) ⊎ (a .source ≡ 7)
+  pub control : a .flight .packet .control < 256
+
+-- What is known before some arrivals pass: the log has room for a record of each.
+pub record Due (t : Tables) (mesh log : List ℕ) (n : ℕ) (due : List (Arrival (Unit {0}))) : Type 0 where
+  pub head : headFine mesh ≡ true
+  pub long : wordsFor (getD mesh 0 0) (getD mesh 1 0) ≤ length mesh
+  pub lent : Lent t (chipsOf mesh)
+  pub room : n * 6 + length due * 6 ≤ length log
+  pub each : All (Arrives (chipsOf mesh)) due
+
+-- Words and log before and after some arrivals have passed, in order.
+pub record Passed (t : Tables) (due : List (Arrival (Unit {0}))) (mesh log : List ℕ) (n : ℕ) (mesh′ log′ : List ℕ) (n′ : ℕ) : Type 0 where
+  pub long : length mesh′ ≡ length mesh
+  pub head : take 6 mesh′ ≡ take 6 mesh
+  pub going : goingIn mesh′ log′ n′ ≡ foldl (passAt t same) (goingIn mesh log n) due
+  pub still : (c j : ℕ) → j < 6 → still (lineWords j (chipWords c mesh′)) ≡ still (lineWords j (chipWords c mesh))
+  pub past : drop (wordsFor (getD mesh 0 0) (getD mesh 1 0)) mesh′ ≡ drop (wordsFor (getD mesh 0 0) (getD mesh 1 0)) mesh
+  pub room : length log′ ≡ length log
+  pub behind : drop (n′ * 6) log′ ≡ drop (n′ * 6) log
+  pub more : n ≤ n′
+  pub few : n′ ≤ n + length due
