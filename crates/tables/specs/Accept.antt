@@ -1,10 +1,10 @@
--- Which lent tables are acceptable. Refusal 5: "over 1,024 rows for a chip, route bit 26 to 31 set"; 11: "P2P table of wrong size, or a code
--- above 7".
-use Prim.Native.Nat.{ℕ, _/_, _%_, _^_}
+-- Which lent tables are acceptable. Refusal 5: "over 1,024 rows for a chip, route bit 26 to 31 set, bad starts"; 11: "P2P table of wrong size,
+-- or a code above 7".
+use Prim.Native.Nat.{ℕ, _+_, _-_, _/_, _%_, _^_}
 use mathlib.Core.Bool.{Bool, true, _&&_}
 use mathlib.Core.List.{List, [], _∷_}
 use lib.Dec.{eqb, ltb, leb}
-use lib.ListN.{length}
+use lib.ListN.{length, getD}
 use Rattle.tables.specs.Rows.{Entry, rowsOf}
 
 -- "Route bits 0 to 5 are links, 6 to 25 are processors 0 to 19."
@@ -25,3 +25,12 @@ allCodes (c ∷ cs) = ltb c 8 && allCodes cs
 
 abbrev pub codesFine : List ℕ → ℕ → Bool
 codesFine s n = eqb (length s) n && allCodes s
+
+-- "First 0, never falling, last the number of rows, one more number than chips"; "over 1,024 rows for a chip" are too many.
+unfoldable pub climbs : List ℕ → Bool
+climbs [] = true
+climbs (a ∷ []) = true
+climbs (a ∷ b ∷ rest) = leb a b && leb (b - a) 1024 && climbs (b ∷ rest)
+
+abbrev pub startsFine : List ℕ → ℕ → ℕ → Bool
+startsFine starts chips rows = eqb (length starts) (chips + 1) && eqb (getD starts 0 0) 0 && eqb (getD starts chips 0) rows && climbs starts
