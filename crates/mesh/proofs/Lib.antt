@@ -12,4 +12,7 @@ pub mod Ready
 pub mod Sets
 pub mod StepAt
 pub mod Stores
+pub mod Sums
+pub mod Torus
+pub mod Totals
 pub mod Upto

@@ -2,4 +2,5 @@ pub mod Chips
 pub mod LentRows
 pub mod OneByOne
 pub mod RowByRow
+pub mod Starts
 pub mod Walking

@@ -1,6 +1,6 @@
 // What makes lent tables acceptable.
 ghost use mathlib.Core.Path.{_≡_};
-ghost use Rattle.tables.specs.Accept.{routesFine, rowsFine, codesFine};
+ghost use Rattle.tables.specs.Accept.{routesFine, rowsFine, codesFine, startsFine};
 
 // The most rows that a chip's table has.
 pub const MOST_ROWS: usize = 1024;
@@ -50,4 +50,32 @@ pub fn codes_fine(codes: &[u8], count: usize) -> bool
         i += 1;
     }
     fine
+}
+
+// A start as a number of the machine's width, so that 1,024 more does not wrap.
+fn wide(start: u32) -> usize
+    ensures { λ r. ⌜ r ≡ start ⌝ }
+{
+    start as usize
+}
+
+// Where each chip's rows start: the first at 0, none before the one before it, at most 1,024 rows a chip, the last the number of rows.
+pub fn starts_fine(starts: &[u32], chips: usize, rows: usize) -> bool
+    ensures { λ r. ⌜ r ≡ startsFine (now (starts .entry)) chips rows ⌝ }
+{
+    if starts.len() == 0 {
+        return false;
+    }
+    if starts.len() - 1 != chips {
+        return false;
+    }
+    let mut fine = starts[0] == 0;
+    let mut i = 0;
+    while i < chips {
+        let start = wide(starts[i]);
+        let next = wide(starts[i + 1]);
+        fine = fine & (start <= next) & (next <= start + MOST_ROWS);
+        i += 1;
+    }
+    fine & (wide(starts[chips]) == rows)
 }
