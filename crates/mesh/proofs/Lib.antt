@@ -3,6 +3,7 @@ pub mod Asides
 pub mod ChipParts
 pub mod FineSteps
 pub mod Fitting
+pub mod Goings
 pub mod Logs
 pub mod MeshParts
 pub mod Opened

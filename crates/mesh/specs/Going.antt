@@ -1,5 +1,5 @@
 -- Passes one after the other, as the code makes them: the mesh's words, the log, and how many records the log has.
-use Prim.Native.Nat.{ℕ, zero, suc, _+_, _*_, _/_, _%_, _≤_, _<_}
+use Prim.Native.Nat.{ℕ, zero, suc, _+_, _*_, _/_, _≤_, _<_}
 use mathlib.Core.Path.{_≡_}
 use mathlib.Core.Logic.{_⊎_}
 use mathlib.Core.Bool.{true}
@@ -49,7 +49,6 @@ goingIn mesh log n = record { mesh = meshOf mesh; log = take (n * 6) log }
 -- Tables that were accepted.
 pub record Lent (t : Tables) (chips : ℕ) : Type 0 where
   pub starts : startsFine (t .starts) chips (length (t .rows) / 3) ≡ true
-  pub rows : length (t .rows) % 3 ≡ 0
   pub codes : length (t .codes) ≡ chips * chips
 
 -- A packet that can pass where it arrives.
@@ -59,7 +58,7 @@ pub record Arrives (chips : ℕ) (a : Arrival (Unit {0})) : Type 0 where
   pub control : a .flight .packet .control < 256
 
 -- What is known before some arrivals pass: the log has room for a record of each.
-pub record Due (t : Tables) (mesh log : List ℕ) (n : ℕ) (due : List (Arrival (Unit {0}))) : Type 0 where
+pub record Due (t : Tables) (due : List (Arrival (Unit {0}))) (mesh log : List ℕ) (n : ℕ) : Type 0 where
   pub head : headFine mesh ≡ true
   pub long : wordsFor (getD mesh 0 0) (getD mesh 1 0) ≤ length mesh
   pub lent : Lent t (chipsOf mesh)
