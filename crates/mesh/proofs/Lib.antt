@@ -1,3 +1,4 @@
+pub mod Alls
 pub mod ChipParts
 pub mod FineSteps
 pub mod Fitting
