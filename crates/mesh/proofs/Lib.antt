@@ -8,6 +8,7 @@ pub mod Parts
 pub mod Places
 pub mod Ready
 pub mod Sets
+pub mod SoundRegisters
 pub mod SoundSends
 pub mod StepAt
 pub mod Stores
