@@ -7,6 +7,10 @@ use lib.ListN.{length, getD, set, replicate}
 use Rattle.mesh.specs.Sound.{All}
 
 module _ {X : Type 0} (P : X → Type 0) where
+  pub all-nil : All P []
+  unfolding All
+  all-nil = tt
+
   pub all-append : (xs ys : List X) → All P xs → All P ys → All P (xs ++ ys)
   unfolding All
   all-append [] ys a b = b

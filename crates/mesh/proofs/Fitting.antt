@@ -87,9 +87,17 @@ module _ (p : Packet) (s : ℕ) (rows codes : List ℕ) (t : Setting) (h : Check
           ∙ ap (λ (k : ℕ). has k i && has (t .ready) i) none
           ∙ simp has-none) ∙ leg))
 
+  -- it sends only by ready links
+  pub sends-ready : (i : ℕ) → i < 6 → has (outcomeOf p s rows codes t .sent) i ≡ true → has (t .ready) i ≡ true
+  unfolding outcomeOf
+  sends-ready i hi f = sent-ready (errorsOf p s (t .phase)) (stampedOf p s (errorsOf p s (t .phase)) (t .phase)) s (wantedOf (errorsOf p s (t .phase)) p s rows codes t) (t .ready) i hi f
+
+  pub legs-ready : (i : ℕ) → i < 6 → has (outcomeOf p s rows codes t .leg) i ≡ true → has (t .ready) i ≡ true
+  unfolding outcomeOf
+  legs-ready i hi f = leg-ready (errorsOf p s (t .phase)) (stampedOf p s (errorsOf p s (t .phase)) (t .phase)) s (wantedOf (errorsOf p s (t .phase)) p s rows codes t) (t .ready) i hi f
+
   -- so the pass fits the chip
   pub takes : (l : List ℕ) → length l ≡ 322 → t .ready ≡ readyOf (chipIn l) → Takes l (outcomeOf p s rows codes t)
-  unfolding outcomeOf
   takes l long ready =
       let o = outcome-sets p s rows codes t in
       record {
@@ -103,9 +111,3 @@ module _ (p : Packet) (s : ℕ) (rows codes : List ℕ) (t : Setting) (h : Check
     where
       by-ready : (i : ℕ) → has (t .ready) i ≡ true → has (readyOf (chipIn l)) i ≡ true
       by-ready i f = ap (λ (r : ℕ). has r i) (sym ready) ∙ f
-
-      sends-ready : (i : ℕ) → i < 6 → has (outcomeOf p s rows codes t .sent) i ≡ true → has (t .ready) i ≡ true
-      sends-ready i hi f = sent-ready (errorsOf p s (t .phase)) (stampedOf p s (errorsOf p s (t .phase)) (t .phase)) s (wantedOf (errorsOf p s (t .phase)) p s rows codes t) (t .ready) i hi f
-
-      legs-ready : (i : ℕ) → i < 6 → has (outcomeOf p s rows codes t .leg) i ≡ true → has (t .ready) i ≡ true
-      legs-ready i hi f = leg-ready (errorsOf p s (t .phase)) (stampedOf p s (errorsOf p s (t .phase)) (t .phase)) s (wantedOf (errorsOf p s (t .phase)) p s rows codes t) (t .ready) i hi f

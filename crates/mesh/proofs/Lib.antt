@@ -8,8 +8,11 @@ pub mod Parts
 pub mod Places
 pub mod Ready
 pub mod Sets
+pub mod SoundAfter
+pub mod SoundArrivals
 pub mod SoundRegisters
 pub mod SoundSends
+pub mod SoundSteps
 pub mod StepAt
 pub mod Stores
 pub mod Upto
