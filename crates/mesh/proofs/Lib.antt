@@ -13,6 +13,7 @@ pub mod SoundArrivals
 pub mod SoundRegisters
 pub mod SoundSends
 pub mod SoundSteps
+pub mod SoundWords
 pub mod StepAt
 pub mod Stores
 pub mod Upto
