@@ -27,19 +27,19 @@ use Rattle.mesh.specs.Chips.{lineWords, Right, Takes}
 use Rattle.mesh.proofs.Sets.{has-set}
 use Rattle.mesh.proofs.Ready.{sent-ready, leg-ready, ready-room}
 
-has-none : (i : ℕ) → has 0 i ≡ false
+pub has-none : (i : ℕ) → has 0 i ≡ false
 has-none i = ap (λ (n : ℕ). eqb n 1) (ap (λ (n : ℕ). n % 2) (zero-div (2 ^ i)) ∙ zero-mod 2)
 
 module _ (p : Packet) (s : ℕ) (rows codes : List ℕ) (t : Setting) (h : Checked p s codes t) (from : pass.Source s) where
   -- the packet after stamping is right in length where there is no error
-  stamped-right : errorsOf p s (t .phase) ≡ 0 → Right (outcomeOf p s rows codes t .packet)
+  pub stamped-right : errorsOf p s (t .phase) ≡ 0 → Right (outcomeOf p s rows codes t .packet)
   unfolding outcomeOf decided
   stamped-right none =
       let q = pass.stamped p s (errorsOf p s (t .phase)) (t .phase) (h .control) (h .phase) in
       let fits : carriesOf (p .control) ≡ p .nine = eqb-true _ _ (not-false _ (pass.right p s (t .phase) none .long)) in
       q .nine ∙ sym fits ∙ sym (q .carries)
 
-  sent-right : errorsOf p s (t .phase) ≡ 0 → (i : ℕ) → Right (packetOn (outcomeOf p s rows codes t) i)
+  pub sent-right : errorsOf p s (t .phase) ≡ 0 → (i : ℕ) → Right (packetOn (outcomeOf p s rows codes t) i)
   sent-right none i = go (isMc (outcomeOf p s rows codes t .packet)) refl
     where
       go : (b : Bool) → isMc (outcomeOf p s rows codes t .packet) ≡ b → Right (packetOn (outcomeOf p s rows codes t) i)
@@ -48,17 +48,17 @@ module _ (p : Packet) (s : ℕ) (rows codes : List ℕ) (t : Setting) (h : Check
           f .nine ∙ stamped-right none ∙ sym (f .carries)
       go false other = subst Right (sym (pass.sent-plain p s rows codes t h from i other)) (stamped-right none)
 
-  leg-right : errorsOf p s (t .phase) ≡ 0 → Right (legPacket (outcomeOf p s rows codes t))
+  pub leg-right : errorsOf p s (t .phase) ≡ 0 → Right (legPacket (outcomeOf p s rows codes t))
   leg-right none =
       let f = pass.sent-leg p s rows codes t h from in
       f .nine ∙ stamped-right none ∙ sym (f .carries)
 
   -- a packet in error wants the monitor alone, so that no link sends
-  no-link-wanted : (errorsOf p s (t .phase) ≡ 0 → ⊥) → linksOf (wantedOf (errorsOf p s (t .phase)) p s rows codes t .set) ≡ 0
+  pub no-link-wanted : (errorsOf p s (t .phase) ≡ 0 → ⊥) → linksOf (wantedOf (errorsOf p s (t .phase)) p s rows codes t .set) ≡ 0
   unfolding wantedOf
   no-link-wanted some = simp (ne-eqb _ _ some) (ap linksOf (pow-add 2 6 (t .monitor)) ∙ mul-mod-right 64 (2 ^ t .monitor))
 
-  sent-no-error : (i : ℕ) → i < 6 → has (outcomeOf p s rows codes t .sent) i ≡ true → errorsOf p s (t .phase) ≡ 0
+  pub sent-no-error : (i : ℕ) → i < 6 → has (outcomeOf p s rows codes t .sent) i ≡ true → errorsOf p s (t .phase) ≡ 0
   unfolding outcomeOf decided
   sent-no-error i hi sent = go (eqb (errorsOf p s (t .phase)) 0) refl
     where
@@ -74,7 +74,7 @@ module _ (p : Packet) (s : ℕ) (rows codes : List ℕ) (t : Setting) (h : Check
       go false z =
           absurd (false≢true (sym (none-sent (isMc (stampedOf p s (errorsOf p s (t .phase)) (t .phase))) _ (no-link-wanted (eqb-false _ _ z))) ∙ sent))
 
-  leg-no-error : (i : ℕ) → i < 6 → has (outcomeOf p s rows codes t .leg) i ≡ true → errorsOf p s (t .phase) ≡ 0
+  pub leg-no-error : (i : ℕ) → i < 6 → has (outcomeOf p s rows codes t .leg) i ≡ true → errorsOf p s (t .phase) ≡ 0
   unfolding outcomeOf decided
   leg-no-error i hi leg = go (eqb (errorsOf p s (t .phase)) 0) refl
     where
@@ -87,9 +87,17 @@ module _ (p : Packet) (s : ℕ) (rows codes : List ℕ) (t : Setting) (h : Check
           ∙ ap (λ (k : ℕ). has k i && has (t .ready) i) none
           ∙ simp has-none) ∙ leg))
 
+  -- it sends only by ready links
+  pub sends-ready : (i : ℕ) → i < 6 → has (outcomeOf p s rows codes t .sent) i ≡ true → has (t .ready) i ≡ true
+  unfolding outcomeOf
+  sends-ready i hi f = sent-ready (errorsOf p s (t .phase)) (stampedOf p s (errorsOf p s (t .phase)) (t .phase)) s (wantedOf (errorsOf p s (t .phase)) p s rows codes t) (t .ready) i hi f
+
+  pub legs-ready : (i : ℕ) → i < 6 → has (outcomeOf p s rows codes t .leg) i ≡ true → has (t .ready) i ≡ true
+  unfolding outcomeOf
+  legs-ready i hi f = leg-ready (errorsOf p s (t .phase)) (stampedOf p s (errorsOf p s (t .phase)) (t .phase)) s (wantedOf (errorsOf p s (t .phase)) p s rows codes t) (t .ready) i hi f
+
   -- so the pass fits the chip
   pub takes : (l : List ℕ) → length l ≡ 322 → t .ready ≡ readyOf (chipIn l) → Takes l (outcomeOf p s rows codes t)
-  unfolding outcomeOf
   takes l long ready =
       let o = outcome-sets p s rows codes t in
       record {
@@ -103,9 +111,3 @@ module _ (p : Packet) (s : ℕ) (rows codes : List ℕ) (t : Setting) (h : Check
     where
       by-ready : (i : ℕ) → has (t .ready) i ≡ true → has (readyOf (chipIn l)) i ≡ true
       by-ready i f = ap (λ (r : ℕ). has r i) (sym ready) ∙ f
-
-      sends-ready : (i : ℕ) → i < 6 → has (outcomeOf p s rows codes t .sent) i ≡ true → has (t .ready) i ≡ true
-      sends-ready i hi f = sent-ready (errorsOf p s (t .phase)) (stampedOf p s (errorsOf p s (t .phase)) (t .phase)) s (wantedOf (errorsOf p s (t .phase)) p s rows codes t) (t .ready) i hi f
-
-      legs-ready : (i : ℕ) → i < 6 → has (outcomeOf p s rows codes t .leg) i ≡ true → has (t .ready) i ≡ true
-      legs-ready i hi f = leg-ready (errorsOf p s (t .phase)) (stampedOf p s (errorsOf p s (t .phase)) (t .phase)) s (wantedOf (errorsOf p s (t .phase)) p s rows codes t) (t .ready) i hi f

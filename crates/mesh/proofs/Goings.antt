@@ -25,10 +25,10 @@ use Rattle.mesh.specs.Passing.{chipWords, settingIn, Ready, MeshStep}
 use Rattle.mesh.specs.Holding.{headFine}
 use Rattle.mesh.specs.Opening.{roundsFine}
 use Rattle.mesh.specs.Logs.{Logged}
-use Rattle.mesh.specs.Going.{chipsOf, same, arrival, goingIn, Lent, Arrives, Due, Passed}
+use Rattle.mesh.specs.Going.{chipsOf, same, arrival, goingIn, Lent, Due, Passed}
 use Rattle.mesh.proofs.FineSteps.{head-size}
 use Rattle.mesh.proofs.MeshParts.{chip-at}
-use Rattle.mesh.specs.Sound.{All}
+use Rattle.mesh.specs.Sound.{All, Arrives}
 
 -- ---- what a header in range says
 
@@ -112,7 +112,7 @@ module _ (t : Tables) (a : Arrival (Unit {0})) (l log : List ℕ) (n : ℕ) (d :
         fits = within;
         there = arrives .there;
         from = arrives .from;
-        control = arrives .control;
+        control = arrives .passable .control;
         width = head .width;
         height = head .height;
         monitor = omega (arith, head .monitor);

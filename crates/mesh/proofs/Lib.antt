@@ -1,3 +1,4 @@
+pub mod Alls
 pub mod AsideChips
 pub mod Asides
 pub mod ChipParts
@@ -11,6 +12,12 @@ pub mod Parts
 pub mod Places
 pub mod Ready
 pub mod Sets
+pub mod SoundAfter
+pub mod SoundArrivals
+pub mod SoundRegisters
+pub mod SoundSends
+pub mod SoundSteps
+pub mod SoundWords
 pub mod StepAt
 pub mod Stores
 pub mod Sums

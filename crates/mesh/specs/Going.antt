@@ -1,7 +1,6 @@
 -- Passes one after the other, as the code makes them: the mesh's words, the log, and how many records the log has.
 use Prim.Native.Nat.{ℕ, zero, suc, _+_, _*_, _/_, _≤_, _<_}
 use mathlib.Core.Path.{_≡_}
-use mathlib.Core.Logic.{_⊎_}
 use mathlib.Core.Bool.{true}
 use mathlib.Core.List.{List, [], _∷_, _++_, map, foldl}
 use lib.ListN.{length, getD, take, drop}
@@ -13,7 +12,7 @@ use Rattle.mesh.specs.Steps.{Tables, Arrival, Going, passAt}
 use Rattle.mesh.specs.Chips.{lineWords, still}
 use Rattle.mesh.specs.Passing.{chipWords}
 use Rattle.mesh.specs.Holding.{headFine}
-use Rattle.mesh.specs.Sound.{All}
+use Rattle.mesh.specs.Sound.{All, Arrives}
 
 abbrev pub tablesOf : List ℕ → List ℕ → List ℕ → Tables
 tablesOf rows starts codes = record { rows = rows; starts = starts; codes = codes }
@@ -50,12 +49,6 @@ goingIn mesh log n = record { mesh = meshOf mesh; log = take (n * 6) log }
 pub record Lent (t : Tables) (chips : ℕ) : Type 0 where
   pub starts : startsFine (t .starts) chips (length (t .rows) / 3) ≡ true
   pub codes : length (t .codes) ≡ chips * chips
-
--- A packet that can pass where it arrives.
-pub record Arrives (chips : ℕ) (a : Arrival (Unit {0})) : Type 0 where
-  pub there : a .chip < chips
-  pub from : (a .source < 6) ⊎ (a .source ≡ 7)
-  pub control : a .flight .packet .control < 256
 
 -- What is known before some arrivals pass: the log has room for a record of each.
 pub record Due (t : Tables) (due : List (Arrival (Unit {0}))) (mesh log : List ℕ) (n : ℕ) : Type 0 where

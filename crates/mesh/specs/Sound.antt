@@ -2,16 +2,19 @@
 -- each packet in flight of a used type, right in length and parity, not NN with T = 1.
 use Prim.Native.Nat.{ℕ, _*_, _≤_, _<_}
 use mathlib.Core.Path.{_≡_}
+use mathlib.Core.Logic.{_⊎_}
 use mathlib.Core.Bool.{Bool, true, false}
 use mathlib.Core.List.{List, [], _∷_}
-use lib.ListN.{length}
+use lib.ListN.{length, getD}
 use Rattle.packet.specs.declared.Packet.{Packet}
 use Rattle.packet.specs.Control.{kindOf}
 use Rattle.router.specs.Call.{sizeFine, isDirect}
 use Rattle.mesh.specs.Mesh.{Flight, Line, Chip, Mesh}
-use Rattle.mesh.specs.Chips.{Right}
+use Rattle.mesh.specs.Steps.{Arrival}
+use Rattle.mesh.specs.Chips.{Right, lineWords}
 use Rattle.mesh.specs.Holding.{packetFine, registersFine}
 use Rattle.mesh.specs.Opening.{roundsFine}
+use Rattle.mesh.specs.Passing.{chipWords}
 
 unfoldable pub All : {X : Type 0} → (X → Type 0) → List X → Type 0
 All P [] = Unit {0}
@@ -24,6 +27,12 @@ pub record Passable (p : Packet) : Type 0 where
   pub plain : isDirect (p .control) ≡ false
   pub nine : p .nine < 2
   pub absent : p .nine ≡ 0 → p .payload ≡ 0
+
+-- Such a packet where it arrives: at a chip that is there, by a link or from the chip itself.
+pub record Arrives {A : Type 0} (chips : ℕ) (a : Arrival A) : Type 0 where
+  pub there : a .chip < chips
+  pub from : (a .source < 6) ⊎ (a .source ≡ 7)
+  pub passable : Passable (a .flight .packet)
 
 pub record SoundPacket (p : Packet) : Type 0 where
   pub fine : packetFine p ≡ true
@@ -47,3 +56,7 @@ module _ {A : Type 0} where
     pub elapsed : m .elapsed < m .rounds
     pub many : length (m .chips) ≡ m .height * m .width
     pub chips : All SoundChip (m .chips)
+
+-- Every link's state word is 0 or 1.
+abbrev pub StatesFine : List ℕ → Type 0
+StatesFine l = (c j : ℕ) → c < getD l 1 0 * getD l 0 0 → j < 6 → getD (lineWords j (chipWords c l)) 0 0 ≤ 1

@@ -1,0 +1,70 @@
+-- What arrives in a sound mesh may pass: at a chip that is there, by a link, a packet that is sound. Assumes nothing.
+use mathlib.Core.Path.{_≡_, sym, subst}
+use mathlib.Core.Logic.{_⊎_, inl}
+use mathlib.Core.Bool.{true, and-eq-true-iff}
+use Prim.Native.Nat.{ℕ, zero, suc, _+_, _*_, _/_, _%_, _≤_, _<_}
+use native.Mathlib.Nat.{mod-lt, mul-le-mul-right}
+use native.Mathlib.Omega.{arith}
+use lib.Dec.{lit<}
+use lib.ListN.{getD}
+use borrow.Author.Tests.{ltb-true, leb-true, eqb-true, not-true}
+use Rattle.packet.specs.declared.Packet.{Packet}
+use Rattle.router.proofs.Inputs as inputs
+use Rattle.mesh.specs.Mesh.{Mesh, idle, fresh, across, opposite, stepEast, stepNorth}
+use Rattle.mesh.specs.Steps.{Arrival, arrivingBy, arrivingAt, arrivingFrom, arrivals}
+use Rattle.mesh.specs.Sound.{All, Passable, Arrives, SoundPacket, SoundLine, SoundChip, SoundMesh}
+use Rattle.mesh.proofs.Alls.{all-nil, all-append, all-getD, all-map, all-weaken}
+
+pub sound-passable : {p : Packet} → SoundPacket p → Passable p
+sound-passable h =
+    let t : _ = simp and-eq-true-iff at (h .fine) in
+    record {
+      control = ltb-true _ _ (t .0 .0 .0 .0);
+      used = ltb-true _ _ (t .0 .0 .0 .1);
+      plain = not-true _ (t .0 .0 .1);
+      nine = omega (arith, h .right);
+      absent = λ e. eqb-true _ _ (simp e at (t .1));
+    }
+
+-- the chip at the other end of a link is there
+pub across-there : (w h chip i : ℕ) → 1 ≤ w → 1 ≤ h → across w h chip i < h * w
+across-there w h chip i hw hh =
+    let y : (chip / w + stepNorth h i) % h < h = mod-lt _ hh in
+    let x : (chip % w + stepEast w i) % w < w = mod-lt _ hw in
+    omega (arith, mul-le-mul-right w y)
+
+pub opposite-there : (i : ℕ) → opposite i < 6
+opposite-there i = mod-lt (i + 3) (lit< tt)
+
+module _ {A : Type 0} {m : Mesh A} (sound : SoundMesh m) where
+  by-sound : (chip source : ℕ) → chip < m .height * m .width → source < 6 → All (Arrives (m .height * m .width)) (arrivingBy m chip source)
+  by-sound chip source hc hs =
+      all-map (Arrives (m .height * m .width)) _ _
+      (all-weaken (λ f. SoundPacket (f .packet)) _ (λ f p. record { there = hc; from = inl hs; passable = sound-passable p }) _ (line .fine))
+    where
+      size : inputs.Size (m .width) (m .height)
+      size = inputs.size (m .width) (m .height) (sound .size)
+
+      sender : SoundChip (getD (m .chips) (across (m .width) (m .height) chip source) fresh)
+      sender = all-getD SoundChip (m .chips) _ fresh (sound .chips) (subst (λ (n : ℕ). across (m .width) (m .height) chip source < n) (sym (sound .many)) (across-there (m .width) (m .height) chip source (size .width-low) (size .height-low)))
+
+      line : SoundLine (getD (getD (m .chips) (across (m .width) (m .height) chip source) fresh .lines) (opposite source) idle)
+      line = all-getD SoundLine _ (opposite source) idle (sender .lines) (subst (λ (n : ℕ). opposite source < n) (sym (sender .six)) (opposite-there source))
+
+  at-sound : (chip : ℕ) → chip < m .height * m .width → All (Arrives (m .height * m .width)) (arrivingAt m chip)
+  at-sound chip hc =
+      all-append _ _ _
+      (all-append _ _ _
+      (all-append _ _ _
+      (all-append _ _ _ (all-append _ _ _ (by-sound chip 0 hc (lit< tt)) (by-sound chip 1 hc (lit< tt))) (by-sound chip 2 hc (lit< tt)))
+      (by-sound chip 3 hc (lit< tt)))
+      (by-sound chip 4 hc (lit< tt)))
+      (by-sound chip 5 hc (lit< tt))
+
+  from-sound : (n chip : ℕ) → chip + n ≤ m .height * m .width → All (Arrives (m .height * m .width)) (arrivingFrom m chip n)
+  unfolding arrivingFrom
+  from-sound zero chip h = all-nil (Arrives (m .height * m .width))
+  from-sound (suc n) chip h = all-append (Arrives (m .height * m .width)) (arrivingAt m chip) (arrivingFrom m (suc chip) n) (at-sound chip (omega arith)) (from-sound n (suc chip) (omega arith))
+
+  pub sound-arrivals : All (Arrives (m .height * m .width)) (arrivals m)
+  sound-arrivals = from-sound (m .height * m .width) 0 (omega arith)

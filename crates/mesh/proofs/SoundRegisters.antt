@@ -1,0 +1,109 @@
+-- A chip's registers stay in range: what a pass drops has no error, so that its packet has odd parity and its control byte, word and payload
+-- are not all 0. Assumes nothing.
+use mathlib.Core.Path.{_≡_, refl, sym, _∙_}
+use mathlib.Core.Bool.{Bool, true, false, cond, _&&_, not, and-eq-true-iff, false≢true}
+use mathlib.Core.List.{List}
+use Prim.Native.Nat.{ℕ, _+_, _≤_, _<_, _%_}
+use native.Mathlib.Omega.{arith}
+use lib.Count.{ones}
+use lib.Dec.{eqb, ltb, lit<}
+use borrow.Author.Tests.{eqb-true, eqb-false, lt-ltb, le-leb, ne-eqb}
+use Rattle.packet.specs.declared.Packet.{Packet}
+use Rattle.packet.specs.Parity.{isOdd}
+use Rattle.router.specs.declared.Outcome.{Outcome}
+use Rattle.router.specs.declared.Registers.{Registers}
+use Rattle.router.specs.declared.Setting.{Setting}
+use Rattle.router.specs.Links.{has, setOf}
+use Rattle.router.specs.Detour.{drops}
+use Rattle.router.specs.Errors.{errorsOf, stampedOf}
+use Rattle.router.specs.Deciding.{isMc, legSet, decided, outcomeOf, Checked}
+use Rattle.router.specs.Keeping.{isEmpty, dropCount, lowest, firstDrop, withMore, keptOf}
+use Rattle.router.proofs.OnePass as pass
+use Rattle.mesh.specs.Holding.{registersFine}
+use Rattle.mesh.specs.Sound.{Passable}
+use Rattle.mesh.proofs.Fitting.{no-link-wanted}
+use Rattle.mesh.proofs.SoundSends.{stamped-passable}
+
+-- a packet of odd parity is not all zeros
+odd-some : (q : Packet) → isOdd q ≡ true → (eqb (q .control) 0 && eqb (q .word) 0 && eqb (q .payload) 0) ≡ false
+unfolding ones
+odd-some q odd = go (eqb (q .control) 0 && eqb (q .word) 0 && eqb (q .payload) 0) refl
+  where
+    go : (b : Bool) → (eqb (q .control) 0 && eqb (q .word) 0 && eqb (q .payload) 0) ≡ b → (eqb (q .control) 0 && eqb (q .word) 0 && eqb (q .payload) 0) ≡ false
+    go true e =
+        let t : _ = simp and-eq-true-iff at e in
+        let c : q .control ≡ 0 = eqb-true _ _ (t .0 .0) in
+        let w : q .word ≡ 0 = eqb-true _ _ (t .0 .1) in
+        let p : q .payload ≡ 0 = eqb-true _ _ (t .1) in
+        absurd (false≢true (sym (λ i. eqb ((ones (c i) + ones (w i) + ones (p i)) % 2) 1) ∙ odd))
+    go false e = e
+
+lowest-link-below : (set : ℕ) → lowest set < 6
+lowest-link-below set = go (has set 0) (has set 1) (has set 2) (has set 3) (has set 4)
+  where
+    go : (a b c d e : Bool) → cond a 0 (cond b 1 (cond c 2 (cond d 3 (cond e 4 5)))) < 6
+    go true b c d e = lit< tt
+    go false true c d e = lit< tt
+    go false false true d e = lit< tt
+    go false false false true e = lit< tt
+    go false false false false true = lit< tt
+    go false false false false false = lit< tt
+
+flag-le : (b : Bool) → cond b 1 0 ≤ 1
+flag-le true = omega arith
+flag-le false = omega arith
+
+either-below : (b : Bool) (m n : ℕ) → m < 6 → n < 6 → cond b m n < 6
+either-below true m n h k = h
+either-below false m n h k = k
+
+-- the first dropped unit, where its packet is a byte and words of odd parity
+first-fine : (o : Outcome) → o .packet .control < 256 → isOdd (o .packet) ≡ true → registersFine (firstDrop o) ≡ true
+first-fine o byte odd =
+    simp (
+      lt-ltb _ _ byte,
+      lt-ltb _ _ (either-below (eqb (o .dropped) 0) _ _ (lowest-link-below (o .lost)) (lowest-link-below (o .dropped))),
+      le-leb _ _ (flag-le (eqb (o .dropped) 0)),
+      le-leb _ _ (flag-le (ltb 1 (dropCount o))),
+      odd-some (o .packet) odd,
+    )
+
+-- a flag more leaves registers that are not empty in range
+more-fine : (r : Registers) → registersFine r ≡ true → isEmpty r ≡ false → registersFine (withMore r) ≡ true
+more-fine r fine some =
+    let t : _ = simp and-eq-true-iff at fine in
+    simp (t .0 .0 .0 .0, t .0 .0 .0 .1, t .0 .0 .1, some)
+
+module _ (p : Packet) (s : ℕ) (rows codes : List ℕ) (t : Setting) (h : Checked p s codes t) (from : pass.Source s) where
+  -- a packet in error is dropped nowhere
+  pub error-drops-none : (errorsOf p s (t .phase) ≡ 0 → ⊥) → dropCount (outcomeOf p s rows codes t) ≡ 0
+  unfolding outcomeOf decided ones
+  error-drops-none some =
+      let e = errorsOf p s (t .phase) in
+      let q = stampedOf p s e (t .phase) in
+      let w = no-link-wanted p s rows codes t h from some in
+      let g : legSet e q s ≡ 0 = simp (ne-eqb _ _ some) in
+      (λ i. ones (cond (isMc q) (setOf (drops (w i) (t .ready))) (setOf (λ j. has (w i) j && not (has (t .ready) j)))) + ones (setOf (λ j. has (g i) j && not (has (t .ready) j))))
+      ∙ none (isMc q)
+    where
+      none : (b : Bool) → ones (cond b (setOf (drops 0 (t .ready))) (setOf (λ j. has 0 j && not (has (t .ready) j)))) + ones (setOf (λ j. has 0 j && not (has (t .ready) j))) ≡ 0
+      none true = refl
+      none false = refl
+
+  pub registers-kept : Passable p → (r : Registers) → registersFine r ≡ true → registersFine (keptOf r (outcomeOf p s rows codes t)) ≡ true
+  registers-kept passable r fine = go (eqb (dropCount o) 0) refl (isEmpty r) refl
+    where
+      o : Outcome
+      o = outcomeOf p s rows codes t
+
+      quiet : (b : Bool) → eqb (errorsOf p s (t .phase)) 0 ≡ b → eqb (dropCount (outcomeOf p s rows codes t)) 0 ≡ false → errorsOf p s (t .phase) ≡ 0
+      quiet true z d = eqb-true _ _ z
+      quiet false z d = absurd (eqb-false _ _ d (error-drops-none (eqb-false _ _ z)))
+
+      go : (b : Bool) → eqb (dropCount (outcomeOf p s rows codes t)) 0 ≡ b → (c : Bool) → isEmpty r ≡ c
+          → registersFine (cond b r (cond c (firstDrop (outcomeOf p s rows codes t)) (withMore r))) ≡ true
+      go true d c e = fine
+      go false d true e =
+          first-fine o (stamped-passable p s rows codes t h from passable .control)
+          (pass.stamped-odd p s rows codes t h from (quiet (eqb (errorsOf p s (t .phase)) 0) refl d))
+      go false d false e = more-fine r fine e

@@ -1,0 +1,99 @@
+-- What a pass sends is sound: of a used type, right in length and parity, not NN with T = 1. Assumes nothing.
+use mathlib.Core.Path.{_≡_, refl, sym, ap, _∙_, subst}
+use mathlib.Core.Bool.{Bool, true, false, cond, _&&_, _||_, and-eq-true-iff, false≢true}
+use mathlib.Core.List.{List}
+use Prim.Native.Nat.{ℕ, _<_, _^_, _+_}
+use native.Mathlib.Omega.{arith}
+use lib.Dec.{eqb, ltb}
+use borrow.Author.Tests.{ltb-true, eqb-true, eqb-false, lt-ltb, eq-eqb, ne-eqb}
+use Rattle.packet.specs.declared.Packet.{Packet}
+use Rattle.packet.specs.Control.{kindOf, markOf}
+use Rattle.packet.specs.Parity.{isOdd, withStamp}
+use Rattle.packet.proofs.Rewrite.{FieldSet, stamp-set}
+use Rattle.router.specs.declared.Setting.{Setting}
+use Rattle.router.specs.Links.{has, link}
+use Rattle.router.specs.Call.{isDirect}
+use Rattle.router.specs.Errors.{errorsOf, stampedOf}
+use Rattle.router.specs.Deciding.{isMc, hasLeg, legSet, decided, outcomeOf, packetOn, legPacket, Checked}
+use Rattle.router.proofs.OnePass as pass
+use Rattle.mesh.specs.Chips.{Right}
+use Rattle.mesh.specs.Sound.{Passable, SoundPacket}
+use Rattle.mesh.proofs.Sets.{has-set}
+use Rattle.mesh.proofs.Fitting.{has-none, stamped-right, sent-right, leg-right, sent-no-error, leg-no-error}
+
+-- a packet that may pass, right in length and parity, is sound
+pub passable-sound : (p : Packet) → Passable p → isOdd p ≡ true → Right p → SoundPacket p
+passable-sound p h odd right = record { fine = simp (lt-ltb _ _ (h .control), lt-ltb _ _ (h .used), h .plain, odd) (there (eqb (p .nine) 1) refl); right = right }
+  where
+    there : (b : Bool) → eqb (p .nine) 1 ≡ b → (eqb (p .nine) 1 || eqb (p .payload) 0) ≡ true
+    there true e = simp e
+    there false e = let short : ¬ (p .nine ≡ 1) = eqb-false _ _ e in simp (e, eq-eqb _ _ (h .absent (omega (arith, h .nine))))
+
+-- MC and P2P know no T
+not-direct : (c : ℕ) → kindOf c < 2 → isDirect c ≡ false
+not-direct c h = simp (ne-eqb (kindOf c) 2 (λ e. omega arith))
+
+-- a new mark or stamp leaves an MC or P2P packet one that may pass
+field-passable : {own other : ℕ → ℕ} {p q : Packet} {v : ℕ} → FieldSet own other p q v → kindOf (p .control) < 2 → Passable p → Passable q
+field-passable {p = p} {q = q} f low h =
+    record {
+      control = f .byte;
+      used = omega (arith, f .kind);
+      plain = not-direct (q .control) (omega (arith, f .kind));
+      nine = omega (arith, f .nine, h .nine);
+      absent = λ e. f .payload ∙ h .absent (sym (f .nine) ∙ e);
+    }
+
+module _ (p : Packet) (s : ℕ) (rows codes : List ℕ) (t : Setting) (h : Checked p s codes t) (from : pass.Source s) (passable : Passable p) where
+  -- the packet after stamping
+  pub stamped-passable : Passable (outcomeOf p s rows codes t .packet)
+  unfolding outcomeOf decided
+  stamped-passable = go (eqb (errorsOf p s (t .phase)) 0 && eqb s 7 && ltb (kindOf (p .control)) 2) refl
+    where
+      go : (b : Bool) → (eqb (errorsOf p s (t .phase)) 0 && eqb s 7 && ltb (kindOf (p .control)) 2) ≡ b → Passable (cond b (withStamp p (t .phase)) p)
+      go true e =
+          let low = and-eq-true-iff (eqb (errorsOf p s (t .phase)) 0 && eqb s 7) (ltb (kindOf (p .control)) 2) .0 e .1 in
+          field-passable (stamp-set p (t .phase) (h .control) (omega (arith, h .phase))) (ltb-true _ _ low) passable
+      go false e = passable
+
+  -- MC has a new mark, any other packet goes as it is
+  sent-sound : errorsOf p s (t .phase) ≡ 0 → (i : ℕ) → SoundPacket (packetOn (outcomeOf p s rows codes t) i)
+  sent-sound none i = go (isMc (outcomeOf p s rows codes t .packet)) refl
+    where
+      go : (b : Bool) → isMc (outcomeOf p s rows codes t .packet) ≡ b → SoundPacket (packetOn (outcomeOf p s rows codes t) i)
+      go true mc =
+          let f = pass.sent-mc p s rows codes t h from i mc in
+          let zero : kindOf (outcomeOf p s rows codes t .packet .control) ≡ 0 = eqb-true _ _ mc in
+          let low : kindOf (outcomeOf p s rows codes t .packet .control) < 2 = omega arith in
+          passable-sound _ (field-passable f low stamped-passable) (f .odd) (sent-right p s rows codes t h from none i)
+      go false other =
+          subst SoundPacket (sym (pass.sent-plain p s rows codes t h from i other))
+          (passable-sound _ stamped-passable (pass.stamped-odd p s rows codes t h from none) (stamped-right p s rows codes t h from none))
+
+  pub sends-sound : (i : ℕ) → i < 6 → has (outcomeOf p s rows codes t .sent) i ≡ true → SoundPacket (packetOn (outcomeOf p s rows codes t) i)
+  sends-sound i hi sent = sent-sound (sent-no-error p s rows codes t h from i hi sent) i
+
+  -- only MC has a second leg
+  leg-mc : (i : ℕ) → i < 6 → has (outcomeOf p s rows codes t .leg) i ≡ true → isMc (outcomeOf p s rows codes t .packet) ≡ true
+  unfolding outcomeOf decided
+  leg-mc i hi leg = go (hasLeg e q) refl
+    where
+      e : ℕ
+      e = errorsOf p s (t .phase)
+
+      q : Packet
+      q = stampedOf p s (errorsOf p s (t .phase)) (t .phase)
+
+      go : (b : Bool) → hasLeg e q ≡ b → isMc (stampedOf p s (errorsOf p s (t .phase)) (t .phase)) ≡ true
+      go true z = and-eq-true-iff (eqb e 0) (isMc q) .0 (and-eq-true-iff (eqb e 0 && isMc q) (eqb (markOf (q .control)) 1 || eqb (markOf (q .control)) 2) .0 z .0) .1
+      go false z =
+          let none : legSet e q s ≡ 0 = ap (λ (b : Bool). cond b (2 ^ link (s + 5)) 0) z in
+          absurd (false≢true (sym (has-set (λ j. has (legSet e q s) j && has (t .ready) j) i hi ∙ ap (λ (k : ℕ). has k i && has (t .ready) i) none ∙ simp has-none) ∙ leg))
+
+  pub legs-sound : (i : ℕ) → i < 6 → has (outcomeOf p s rows codes t .leg) i ≡ true → SoundPacket (legPacket (outcomeOf p s rows codes t))
+  legs-sound i hi leg =
+      let f = pass.sent-leg p s rows codes t h from in
+      let none = leg-no-error p s rows codes t h from i hi leg in
+      let zero : kindOf (outcomeOf p s rows codes t .packet .control) ≡ 0 = eqb-true _ _ (leg-mc i hi leg) in
+      let low : kindOf (outcomeOf p s rows codes t .packet .control) < 2 = omega arith in
+      passable-sound _ (field-passable f low stamped-passable) (f .odd) (leg-right p s rows codes t h from none)
