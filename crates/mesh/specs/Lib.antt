@@ -1,8 +1,10 @@
 pub mod Aside
+pub mod Calls
 pub mod Chips
 pub mod Going
 pub mod Holding
 pub mod Layout
+pub mod Leaving
 pub mod Lines
 pub mod Logs
 pub mod Mesh

@@ -7,3 +7,48 @@ pub mod line;
 pub mod logging;
 pub mod opening;
 pub mod passing;
+
+use router::Registers;
+
+// What an injection and a round answer.
+#[repr(C)]
+pub struct Added {
+    pub refusal: u32,
+    pub added: u32,
+}
+
+// What reading a chip's registers answers.
+#[repr(C)]
+pub struct RegistersRead {
+    pub refusal: u32,
+    pub registers: Registers,
+}
+
+// What reading one of a chip's counters answers.
+#[repr(C)]
+pub struct CountRead {
+    pub refusal: u32,
+    pub count: u32,
+}
+
+// What looking at a mesh answers.
+#[repr(C)]
+pub struct MeshRead {
+    pub refusal: u32,
+    pub width: u32,
+    pub height: u32,
+    pub rounds_per_phase: u32,
+    pub monitor: u32,
+    pub phase: u32,
+    pub rounds_in_phase: u32,
+    pub in_flight: u32,
+}
+
+// What looking at a directed link answers.
+#[repr(C)]
+pub struct LinkRead {
+    pub refusal: u32,
+    pub up: u32,
+    pub held: u32,
+    pub ready: u32,
+}

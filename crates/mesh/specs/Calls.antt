@@ -1,0 +1,146 @@
+-- The calls on a mesh: what each refuses, in order; what it answers; the mesh and the records that it leaves.
+use Prim.Native.Nat.{ℕ, _+_, _*_, _/_, _%_}
+use mathlib.Core.Bool.{Bool, true, false, cond, _&&_, not}
+use mathlib.Core.List.{List, [], _∷_, _++_}
+use lib.Dec.{eqb, ltb, leb}
+use lib.ListN.{length, getD, drop, set}
+use Rattle.packet.specs.Bytes.{packetAt}
+use Rattle.packet.specs.Refusal.{Refusal, firstOf}
+use Rattle.tables.specs.Accept.{routesFine, startsFine, codesFine}
+use Rattle.router.specs.Keeping.{empty}
+use Rattle.router.specs.Call.{refuse, packetRefusals}
+use Rattle.mesh.specs.declared.Added.{Added}
+use Rattle.mesh.specs.declared.RegistersRead.{RegistersRead}
+use Rattle.mesh.specs.declared.CountRead.{CountRead}
+use Rattle.mesh.specs.declared.MeshRead.{MeshRead}
+use Rattle.mesh.specs.declared.LinkRead.{LinkRead}
+use Rattle.mesh.specs.Mesh.{Flight, Line, Chip, Mesh, idle, fresh, isReady}
+use Rattle.mesh.specs.Steps.{Tables, Going, withChip, injected, rounded}
+use Rattle.mesh.specs.Weights.{inFlight}
+
+-- ---- refusals: "Order: 8, 7, 9, 6, 5, 11, 10, 1, 2, 3, 4, those that apply to the call". `holds` says whether the buffer holds a mesh.
+
+-- 5: "over 1,024 rows for a chip, route bit 26 to 31 set, bad starts"; 11: "P2P table of wrong size, or a code above 7".
+abbrev pub rowsLent : Tables → ℕ → Bool
+rowsLent t chips = routesFine (t .rows) && startsFine (t .starts) chips (length (t .rows) / 3)
+
+abbrev pub tablesRefusals : Tables → ℕ → List Refusal
+tablesRefusals t chips = refuse (not (rowsLent t chips)) 5 ∷ refuse (not (codesFine (t .codes) (chips * chips))) 11 ∷ []
+
+-- 10: "log shorter than six numbers per packet in flight (per injection: six)". `room` is the log's length.
+abbrev pub injectRefusals : Bool → ℕ → ℕ → Tables → ℕ → List ℕ → List Refusal
+injectRefusals holds chips chip t room bytes =
+    refuse (not holds) 8 ∷ refuse (not (ltb chip chips)) 9 ∷ (tablesRefusals t chips ++ (refuse (ltb room 6) 10 ∷ packetRefusals bytes))
+
+abbrev pub roundRefusals : Bool → ℕ → ℕ → Tables → ℕ → List Refusal
+roundRefusals holds chips flying t room = refuse (not holds) 8 ∷ (tablesRefusals t chips ++ (refuse (ltb room (flying * 6)) 10 ∷ []))
+
+-- 9: "chip, link or counter number not there".
+abbrev pub chipRefusals : Bool → ℕ → ℕ → List Refusal
+chipRefusals holds chips chip = refuse (not holds) 8 ∷ refuse (not (ltb chip chips)) 9 ∷ []
+
+abbrev pub linkRefusals : Bool → ℕ → ℕ → ℕ → List Refusal
+linkRefusals holds chips chip link = refuse (not holds) 8 ∷ refuse (not (ltb chip chips && ltb link 6)) 9 ∷ []
+
+abbrev pub counterRefusals : Bool → ℕ → ℕ → ℕ → List Refusal
+counterRefusals holds chips chip counter = refuse (not holds) 8 ∷ refuse (not (ltb chip chips && ltb counter 10)) 9 ∷ []
+
+-- ---- what a call leaves
+
+-- The refusal or 0, the mesh, and the records added to the log.
+pub record Left (A : Type 0) : Type 0 where
+  pub refusal : ℕ
+  pub mesh : Mesh A
+  pub log : List ℕ
+
+-- "Injection and round answer how many were added."
+abbrev pub addedOf : {A : Type 0} → Left A → Added
+addedOf r = record { refusal = r .refusal; added = length (r .log) / 6 }
+
+-- "Log beyond the records written is untouched."
+abbrev pub loggedOn : List ℕ → List ℕ → List ℕ
+loggedOn records log = records ++ drop (length records) log
+
+abbrev pub bit : Bool → ℕ
+bit b = cond b 1 0
+
+module _ {A : Type 0} where
+  abbrev pub many : Mesh A → ℕ
+  many m = m .height * m .width
+
+  abbrev pub chipOf : Mesh A → ℕ → Chip A
+  chipOf m chip = getD (m .chips) chip fresh
+
+  abbrev pub lineOf : Mesh A → ℕ → ℕ → Line A
+  lineOf m chip link = getD (chipOf m chip .lines) link idle
+
+  -- "A refusal returns its number ..., and lent memory stays as it came."
+  abbrev pub unless : ℕ → Mesh A → Going A → Left A
+  unless refusal m g =
+      cond (eqb refusal 0) (record { refusal = 0; mesh = g .mesh; log = g .log }) (record { refusal = refusal; mesh = m; log = [] })
+
+  -- ---- injection and round; a sending turns the tag of a packet, and an injected one begins with the tag that is given
+
+  module _ (holds : Bool) (t : Tables) (turn : A → A) (m : Mesh A) (room : ℕ) where
+    abbrev pub injecting : ℕ → List ℕ → A → Left A
+    injecting chip bytes tag =
+        unless (firstOf (injectRefusals holds (many m) chip t room bytes)) m (injected t turn m chip (record { packet = packetAt bytes; tag = tag }))
+
+    abbrev pub rounding : Left A
+    rounding = unless (firstOf (roundRefusals holds (many m) (inFlight m) t room)) m (rounded t turn m)
+
+  -- ---- the calls that change one thing
+
+  abbrev pub withUp : Bool → Line A → Line A
+  withUp up l = record { up = up; held = l .held }
+
+  abbrev pub withLink : Mesh A → ℕ → ℕ → Bool → Mesh A
+  withLink m chip link up =
+      let c = chipOf m chip in
+      withChip m chip (record { registers = c .registers; counters = c .counters; lines = set (c .lines) link (withUp up (lineOf m chip link)) })
+
+  -- "A link change sets the one directed link it names up or down, as asked, and nothing else".
+  abbrev pub linking : Bool → Mesh A → ℕ → ℕ → Bool → Left A
+  linking holds m chip link up =
+      unless (firstOf (linkRefusals holds (many m) chip link)) m (record { mesh = withLink m chip link up; log = [] })
+
+  abbrev pub withEmpty : Mesh A → ℕ → Mesh A
+  withEmpty m chip = let c = chipOf m chip in withChip m chip (record { registers = empty; counters = c .counters; lines = c .lines })
+
+  -- "Reading hands them over and empties them; empty ones are all zeros."
+  abbrev pub emptying : Bool → Mesh A → ℕ → Left A
+  emptying holds m chip = unless (firstOf (chipRefusals holds (many m) chip)) m (record { mesh = withEmpty m chip; log = [] })
+
+  abbrev pub registersRead : Bool → Mesh A → ℕ → RegistersRead
+  registersRead holds m chip =
+      let refusal = firstOf (chipRefusals holds (many m) chip) in
+      record { refusal = refusal; registers = cond (eqb refusal 0) (chipOf m chip .registers) empty }
+
+  -- ---- the calls that only look
+
+  abbrev pub countRead : Bool → Mesh A → ℕ → ℕ → CountRead
+  countRead holds m chip counter =
+      let refusal = firstOf (counterRefusals holds (many m) chip counter) in
+      record { refusal = refusal; count = cond (eqb refusal 0) (getD (chipOf m chip .counters .count) counter 0) 0 }
+
+  abbrev pub meshRead : Bool → Mesh A → MeshRead
+  meshRead holds m =
+      cond holds
+      (record {
+        refusal = 0;
+        width = m .width;
+        height = m .height;
+        «rounds_per_phase» = m .rounds;
+        monitor = m .monitor;
+        phase = m .phase;
+        «rounds_in_phase» = m .elapsed;
+        «in_flight» = inFlight m;
+      })
+      (record { refusal = 8; width = 0; height = 0; «rounds_per_phase» = 0; monitor = 0; phase = 0; «rounds_in_phase» = 0; «in_flight» = 0 })
+
+  abbrev pub linkRead : Bool → Mesh A → ℕ → ℕ → LinkRead
+  linkRead holds m chip link =
+      let refusal = firstOf (linkRefusals holds (many m) chip link) in
+      cond (eqb refusal 0)
+      (record { refusal = 0; up = bit (lineOf m chip link .up); held = length (lineOf m chip link .held); ready = bit (isReady (lineOf m chip link)) })
+      (record { refusal = refusal; up = 0; held = 0; ready = 0 })
