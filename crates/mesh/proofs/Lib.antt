@@ -1,6 +1,8 @@
 pub mod ChipParts
+pub mod Counts
 pub mod FineSteps
 pub mod Fitting
+pub mod Flights
 pub mod MeshParts
 pub mod Opened
 pub mod Parts

@@ -1,4 +1,5 @@
 pub mod Chips
+pub mod Held
 pub mod Holding
 pub mod Layout
 pub mod Lines
