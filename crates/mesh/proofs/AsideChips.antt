@@ -10,16 +10,17 @@ use Rattle.mesh.specs.Steps.{emptied, emptiedChip, setAside}
 use Rattle.mesh.specs.Layout.{part, lineIn, asideIn, registersIn, chipIn, chipPlace, chipsIn, meshOf}
 use Rattle.mesh.specs.Chips.{putBack, lineWords, Upto}
 use Rattle.mesh.specs.Passing.{chipWords}
-use Rattle.mesh.specs.Aside.{asideWords, asideOn, Few, ChipAside, AsideUpto}
+use Rattle.mesh.specs.Aside.{asideWords, asideOn, ChipAside, AsideUpto}
+use Rattle.mesh.specs.Held.{Few}
 use Rattle.mesh.proofs.Parts.{length-back, part-same, part-before, part-behind, take-before, drop-behind}
 use Rattle.mesh.proofs.ChipParts.{order}
 use Rattle.mesh.proofs.Upto.{line-long}
 use Rattle.mesh.proofs.Asides.{line-aside, aside-held, state-aside}
 
-pub chip-set-aside : (l k : List ℕ) → length l ≡ 322 → Few l → Upto asideOn 6 l k → ChipAside l k
-chip-set-aside l k long few u =
+pub chip-set-aside : (l k : List ℕ) → Few l → Upto asideOn 6 l k → ChipAside l k
+chip-set-aside l k h u =
     let line : (j : ℕ) → j < 6 → lineIn (lineWords j k) ≡ emptied (lineIn (lineWords j l)) =
-    λ j hj. ap lineIn (u .done j hj) ∙ line-aside (lineWords j l) (line-long j l hj long) (few j hj) in
+    λ j hj. ap lineIn (u .done j hj) ∙ line-aside (lineWords j l) (line-long j l hj (h .long)) (h .few j hj) in
     record {
       long = u .long;
       chip = λ i. record {
@@ -27,8 +28,8 @@ chip-set-aside l k long few u =
         counters = record { count = u .counters i };
         lines = line 0 (lit< tt) i ∷ line 1 (lit< tt) i ∷ line 2 (lit< tt) i ∷ line 3 (lit< tt) i ∷ line 4 (lit< tt) i ∷ line 5 (lit< tt) i ∷ [];
       };
-      aside = λ j hj. ap asideIn (u .done j hj) ∙ aside-held (lineWords j l) (line-long j l hj long) (few j hj);
-      states = λ j hj. ap (λ (w : List ℕ). getD w 0 0) (u .done j hj) ∙ state-aside (lineWords j l) (line-long j l hj long) (few j hj);
+      aside = λ j hj. ap asideIn (u .done j hj) ∙ aside-held (lineWords j l) (line-long j l hj (h .long)) (h .few j hj);
+      states = λ j hj. ap (λ (w : List ℕ). getD w 0 0) (u .done j hj) ∙ state-aside (lineWords j l) (line-long j l hj (h .long)) (h .few j hj);
     }
 
 -- ---- chip after chip

@@ -2,8 +2,10 @@ pub mod Alls
 pub mod AsideChips
 pub mod Asides
 pub mod ChipParts
+pub mod Counts
 pub mod FineSteps
 pub mod Fitting
+pub mod Flights
 pub mod Goings
 pub mod Logs
 pub mod MeshParts

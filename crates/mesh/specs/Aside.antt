@@ -18,10 +18,6 @@ asideWords w = set (set (paste w 27 (drop 2 w) (getD w 1 0 * 3)) 26 (getD w 1 0)
 abbrev pub asideOn : ℕ → List ℕ → List ℕ
 asideOn j w = asideWords w
 
--- No link of a chip holds more than 8.
-abbrev pub Few : List ℕ → Type 0
-Few chip = (j : ℕ) → j < 6 → getD (lineWords j chip) 1 0 ≤ 8
-
 -- A chip's words before and after all six links were set aside.
 pub record ChipAside (before after : List ℕ) : Type 0 where
   pub long : length after ≡ 322

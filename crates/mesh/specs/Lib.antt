@@ -2,6 +2,7 @@ pub mod Aside
 pub mod Calls
 pub mod Chips
 pub mod Going
+pub mod Held
 pub mod Holding
 pub mod Layout
 pub mod Leaving

@@ -4,7 +4,8 @@ ghost use lib.ListN.{length, getD, drop};
 ghost use lib.Seq.{paste};
 ghost use Prim.Native.Nat.{_+_, _*_, _≤_, _<_};
 ghost use Rattle.mesh.specs.Passing.{chipWords};
-ghost use Rattle.mesh.specs.Aside.{asideWords, Few, ChipAside, AsideUpto};
+ghost use Rattle.mesh.specs.Held.{Few};
+ghost use Rattle.mesh.specs.Aside.{asideWords, ChipAside, AsideUpto};
 
 // All links of the first chips.
 pub fn set_aside(mesh: &mut [u32], count: usize)
@@ -20,7 +21,7 @@ pub fn set_aside(mesh: &mut [u32], count: usize)
 }
 
 fn chip_aside(chip: &mut [u32])
-    requires { ⌜ (length (now chip) ≡ 322) × Few (now chip) ⌝ }
+    requires { ⌜ Few (now chip) ⌝ }
     ensures { λ _. ⌜ ChipAside (now (chip .entry)) (now (chip .exit)) ⌝ }
 {
     let mut i = 0;

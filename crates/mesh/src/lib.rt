@@ -1,6 +1,7 @@
 // A mesh of routers in a lent buffer of 32-bit words: a header, then a block for each chip. docs/LAYOUT.md has the layout.
 pub mod aside;
 pub mod chip;
+pub mod flight;
 pub mod going;
 pub mod holding;
 pub mod line;

@@ -24,7 +24,7 @@ abbrev μ-loop : tie.MeasureT-loop
 
 -- src/aside.rt:28:5
 loop-holds : tie.Need-loop-holds Inv-loop μ-loop
-loop-holds c = (omega arith, begin asideOn _ (c .before .pre .0))
+loop-holds c = (omega arith, begin asideOn _ (c .before .pre .long))
 
 -- src/aside.rt:29:23
 mul-at : tie.Need-mul-at Inv-loop μ-loop
@@ -62,7 +62,7 @@ line-aside-requires c κs =
     let u = at .inv .1 in
     let hi : i < 6 = c .before .loop-test .taken in
     rw (add-sub-cancel-left (16 + i * 51) 51)
-    (line-long i (at .chip) hi (u .long), subst (λ (w : List ℕ). getD w 1 0 ≤ 8) (sym (u .todo i (omega arith) hi)) (c .before .before .before .before .pre .1 i hi))
+    (line-long i (at .chip) hi (u .long), subst (λ (w : List ℕ). getD w 1 0 ≤ 8) (sym (u .todo i (omega arith) hi)) (c .before .before .before .before .pre .few i hi))
 
 -- src/aside.rt:31:9
 add-i : tie.Need-add-i Inv-loop μ-loop
@@ -80,7 +80,7 @@ loop-again c =
     let l = c .before .before .before .before .before .before .before .args .chip .now in
     let pre = c .before .before .before .before .before .before .before .pre in
     let hi : i < 6 = c .before .before .before .before .loop-test .taken in
-    let sized = length-aside (lineWords i l) (line-long i l hi (pre .0)) (pre .1 i hi) in
+    let sized = length-aside (lineWords i l) (line-long i l hi (pre .long)) (pre .few i hi) in
     ( omega arith
     , rw (add-sub-cancel-left (16 + i * 51) 51, add-one)
     (subst (λ (ys : List ℕ). Upto asideOn (suc i) l (putBack (16 + i * 51) 51 ys (at .chip))) (sym (rw (add-sub-cancel-left (16 + i * 51) 51) at (c .before .before .line-aside .ensures)))
@@ -89,14 +89,14 @@ loop-again c =
 
 -- src/aside.rt:23:1
 same-length : tie.Need-same-length Inv-loop μ-loop
-same-length c = c .before .loop .inv .1 .long ∙ sym (c .before .before .before .pre .0)
+same-length c = c .before .loop .inv .1 .long ∙ sym (c .before .before .before .pre .long)
 
 -- src/aside.rt:23:1
 returns : tie.Need-returns Inv-loop μ-loop
 returns c =
     let pre = c .before .before .before .pre in
     let e : c .before .loop .i ≡ 6 = omega arith in
-    chip-set-aside _ _ (pre .0) (pre .1) (rw e at (c .before .loop .inv .1))
+    chip-set-aside _ _ pre (rw e at (c .before .loop .inv .1))
 
 pub chip-aside-spec : {M : Type 1} → statement M
 chip-aside-spec =

@@ -6,9 +6,9 @@ use Prim.Native.Nat.{ℕ, _+_, _*_, _-_, _≤_, _<_}
 use mathlib.Core.List.{List}
 use lib.ListN.{length, getD}
 use Rattle.mesh.specs.Passing.{chipWords}
-use Rattle.mesh.specs.Aside.{Few, AsideUpto}
+use Rattle.mesh.specs.Aside.{AsideUpto}
+use Rattle.mesh.specs.Held.{Few}
 use Rattle.mesh.proofs.AsideChips.{aside-begin, aside-next}
-use Rattle.mesh.proofs.StepAt.{chip-long}
 use Rattle.mesh.proofs.aside.set_aside.Statement.{statement}
 use Rattle.mesh.proofs.aside.set_aside.Tie as tie
 use Rattle.mesh.proofs.aside.set_aside.Reads as reads
@@ -62,7 +62,7 @@ chip-aside-requires c κs =
     let pre = c .before .before .before .before .pre in
     let hi : i < c .before .before .before .before .args .count = c .before .loop-test .taken in
     rw (add-sub-cancel-left (6 + i * 322) 322)
-    (chip-long (at .mesh) i (omega (arith, pre .0, u .long)), subst Few (sym (u .todo i (omega arith))) (pre .1 i hi))
+    (subst Few (sym (u .todo i (omega arith))) (pre .1 i hi))
 
 -- src/aside.rt:19:9
 add-i : tie.Need-add-i Inv-loop μ-loop
