@@ -147,8 +147,8 @@ module _ (t : Tables) (a : Arrival (Unit {0})) (l log : List ℕ) (n : ℕ) (d :
         long = s .long;
         head = s .head;
         going =
-        (λ i. record { mesh = (s .mesh ∙ ap (λ (c : Chip (Unit {0})). withChip (meshOf l) (a .chip) (chipAfter o tt c)) (sym chip-here)) i; log = g .front i })
-        ∙ ap (λ (x : Outcome). record { mesh = withChip (meshOf l) (a .chip) (chipAfter x tt (getD (meshOf l .chips) (a .chip) fresh)); log = take (n * 6) log ++ logOf (a .chip) x }) e;
+            (λ i. record { mesh = (s .mesh ∙ ap (λ (c : Chip (Unit {0})). withChip (meshOf l) (a .chip) (chipAfter o tt c)) (sym chip-here)) i; log = g .front i })
+            ∙ ap (λ (x : Outcome). record { mesh = withChip (meshOf l) (a .chip) (chipAfter x tt (getD (meshOf l .chips) (a .chip) fresh)); log = take (n * 6) log ++ logOf (a .chip) x }) e;
         still = s .still;
         past = s .past;
         room = g .long;

@@ -27,7 +27,14 @@ pub fn pass_one(
     let next = row_place(starts[chip + 1]);
     let all = chips(mesh[0], mesh[1]);
     let at = chip * all;
-    let o = pass_at(mesh, chip, source, p, &rows[first..next], &codes[at..at + all]);
+    let o = pass_at(
+        mesh,
+        chip,
+        source,
+        p,
+        &rows[first..next],
+        &codes[at..at + all],
+    );
     write_record(log, n, chip, o)
 }
 

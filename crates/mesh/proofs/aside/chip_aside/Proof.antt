@@ -80,11 +80,11 @@ loop-again c =
     let l = c .before .before .before .before .before .before .before .args .chip .now in
     let pre = c .before .before .before .before .before .before .before .pre in
     let hi : i < 6 = c .before .before .before .before .loop-test .taken in
-    let sized = length-aside (lineWords i l) (line-long i l hi (pre .long)) (pre .few i hi) in
-    ( omega arith
-    , rw (add-sub-cancel-left (16 + i * 51) 51, add-one)
-    (subst (λ (ys : List ℕ). Upto asideOn (suc i) l (putBack (16 + i * 51) 51 ys (at .chip))) (sym (rw (add-sub-cancel-left (16 + i * 51) 51) at (c .before .before .line-aside .ensures)))
-    (next asideOn i l (at .chip) hi sized (at .inv .1)))
+    let sized = length-aside (lineWords i l) (line-long i l hi (pre .long)) (pre .few i hi) in (
+      omega arith,
+      rw (add-sub-cancel-left (16 + i * 51) 51, add-one)
+          (subst (λ (ys : List ℕ). Upto asideOn (suc i) l (putBack (16 + i * 51) 51 ys (at .chip))) (sym (rw (add-sub-cancel-left (16 + i * 51) 51) at (c .before .before .line-aside .ensures)))
+          (next asideOn i l (at .chip) hi sized (at .inv .1))),
     )
 
 -- src/aside.rt:23:1

@@ -61,12 +61,14 @@ loop-again c =
     let long = c .before .before .before .pre .0 in
     let few : at .i ≤ 24 = omega (arith, c .before .before .before .pre .1) in
     let read : getD (at .line) (2 + at .i) 0 ≡ getD (drop 2 l) (at .i) 0 =
-    ap (λ (w : List ℕ). getD w (2 + at .i) 0) (at .inv .1 .1) ∙ copied-before l (at .i) long few (2 + at .i) (omega (arith, c .before .before .before .pre .1)) ∙ sym (getD-drop 2 l (at .i) 0) in
-    ( omega arith
-    , ( simp length-set (at .inv .1 .0)
-    , (λ k. set (at .inv .1 .1 k) (27 + at .i) (read k)) ∙ paste-suc l 27 (drop 2 l) (at .i) 0 (omega (arith, c .before .before .before .pre .1)) (simp length-drop (omega (arith, c .before .before .before .pre .1)))
-    ∙ ap (paste l 27 (drop 2 l)) (sym (add-one (at .i)))
-    ))
+    ap (λ (w : List ℕ). getD w (2 + at .i) 0) (at .inv .1 .1) ∙ copied-before l (at .i) long few (2 + at .i) (omega (arith, c .before .before .before .pre .1)) ∙ sym (getD-drop 2 l (at .i) 0) in (
+      omega arith,
+      (
+        simp length-set (at .inv .1 .0),
+        (λ k. set (at .inv .1 .1 k) (27 + at .i) (read k)) ∙ paste-suc l 27 (drop 2 l) (at .i) 0 (omega (arith, c .before .before .before .pre .1)) (simp length-drop (omega (arith, c .before .before .before .pre .1)))
+            ∙ ap (paste l 27 (drop 2 l)) (sym (add-one (at .i))),
+      ),
+    )
 
 -- src/aside.rt:46:1
 same-length : tie.Need-same-length Inv-loop μ-loop

@@ -79,10 +79,10 @@ loop-again c =
     let i = at .i in
     let a = c .before .before .before .before .before .before .before .args in
     let pre = c .before .before .before .before .before .before .before .pre in
-    let hi : i < a .count = c .before .before .before .before .loop-test .taken in
-    ( omega arith
-    , rw (add-sub-cancel-left (6 + i * 322) 322, add-one)
-    (aside-next (a .count) i (a .mesh .now) (at .mesh) (c .before .before .chip-aside .last .0) (pre .0) hi (at .inv .1) (rw (add-sub-cancel-left (6 + i * 322) 322) at (c .before .before .chip-aside .ensures)))
+    let hi : i < a .count = c .before .before .before .before .loop-test .taken in (
+      omega arith,
+      rw (add-sub-cancel-left (6 + i * 322) 322, add-one)
+          (aside-next (a .count) i (a .mesh .now) (at .mesh) (c .before .before .chip-aside .last .0) (pre .0) hi (at .inv .1) (rw (add-sub-cancel-left (6 + i * 322) 322) at (c .before .before .chip-aside .ensures))),
     )
 
 -- src/aside.rt:11:1

@@ -1,0 +1,26 @@
+-- Laws of what a history tells: events one after the other. Assumes nothing.
+use mathlib.Core.Path.{_≡_, refl, sym, ap, _∙_}
+use mathlib.Core.List.{List, [], _∷_, _++_, append-assoc}
+use Prim.Native.Nat.{ℕ, zero, _+_}
+use native.Mathlib.Nat.{zero-add, add-assoc}
+use Rattle.mesh.specs.Steps.{logOf}
+use Rattle.promises.specs.History.{Passage, Event, passed, emptied}
+use Rattle.promises.specs.Told.{EachPass, sumOf, recordsOf}
+
+pub sum-append : (f : Passage → ℕ) (es later : List Event) → sumOf f (es ++ later) ≡ sumOf f es + sumOf f later
+unfolding sumOf
+sum-append f [] later = sym (zero-add (sumOf f later))
+sum-append f (passed p ∷ es) later = ap (λ (n : ℕ). f p + n) (sum-append f es later) ∙ sym (add-assoc (f p) (sumOf f es) (sumOf f later))
+sum-append f (emptied c ∷ es) later = sum-append f es later
+
+pub each-append : (P : Passage → Type 0) (es later : List Event) → EachPass P es → EachPass P later → EachPass P (es ++ later)
+unfolding EachPass
+each-append P [] later a b = b
+each-append P (passed p ∷ es) later a b = (a .0, each-append P es later (a .1) b)
+each-append P (emptied c ∷ es) later a b = each-append P es later a b
+
+pub records-append : (es later : List Event) → recordsOf (es ++ later) ≡ recordsOf es ++ recordsOf later
+unfolding recordsOf
+records-append [] later = refl
+records-append (passed p ∷ es) later = ap (λ (l : List ℕ). logOf (p .arrival .chip) (p .outcome) ++ l) (records-append es later) ∙ sym (append-assoc (logOf (p .arrival .chip) (p .outcome)) (recordsOf es) (recordsOf later))
+records-append (emptied c ∷ es) later = records-append es later

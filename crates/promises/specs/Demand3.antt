@@ -1,0 +1,84 @@
+-- Demand 3, and what goes with it: nothing wanders, every unit is accounted for. Each is said of every history: a mesh just opened, with F rounds
+-- to a phase, and any list of calls, whatever tables, packets and logs they hand in.
+use Prim.Native.Nat.{ℕ, _+_, _-_, _*_, _/_, _%_, _^_, _≤_, _<_}
+use mathlib.Core.Path.{_≡_}
+use mathlib.Core.Bool.{true}
+use mathlib.Core.List.{List}
+use lib.ListN.{getD}
+use Rattle.router.specs.Links.{has}
+use Rattle.router.specs.Deciding.{outcomeOf}
+use Rattle.router.specs.Counting.{delivered, swallowed}
+use Rattle.router.specs.Keeping.{dropCount}
+use Rattle.router.specs.Units.{weight, extra, ended}
+use Rattle.mesh.specs.Mesh.{Mesh, idle, fresh, isReady}
+use Rattle.mesh.specs.Layout.{meshOf}
+use Rattle.mesh.specs.Holding.{holdsMesh}
+use Rattle.mesh.specs.Weights.{onMesh}
+use Rattle.mesh.specs.Going.{same}
+use Rattle.mesh.specs.Leaving.{Leaves}
+use Rattle.promises.specs.History.{Call, Tag, Passage, State, Opens, leftBy, answerOf, turned, tagNow, after, history}
+use Rattle.promises.specs.Told.{Stamped, EachFlight, EachPass, sumOf, countAt, dropsSince, firstOfUnits, recordsOf, plain, plainLeft}
+
+-- 2F - (r mod F): the further rounds that a packet injected after r rounds has before it is too old.
+abbrev pub span : ℕ → ℕ → ℕ
+span f r = 2 * f - r % f
+
+-- "Forgetting the tags gives, call by call, exactly the meshes, answers and logs of the calls' contracts": of any tags, so that what follows is
+-- about the program. A call on a buffer that holds the state's mesh leaves a buffer that holds the next state's.
+abbrev pub Forgetting : Type 1
+Forgetting = (A : Type 0) (turn : A → A) (tag : A) (m : Mesh A) (c : Call)
+    → (plainLeft (leftBy turn tag m c) ≡ leftBy same tt (plain m) c) × (answerOf turn tag m c ≡ answerOf same tt (plain m) c)
+
+abbrev pub Program : Type 0
+Program = (s : State) (c : Call) (before after′ : List ℕ) → holdsMesh before ≡ true → meshOf before ≡ plain (s .mesh)
+    → Leaves before after′ (leftBy same tt (meshOf before) c) → (holdsMesh after′ ≡ true) × (meshOf after′ ≡ plain (after s c .mesh))
+
+-- What a theorem over histories says of one.
+abbrev pub Always : (ℕ → State → Type 0) → Type 0
+Always P = (w h f monitor : ℕ) → Opens w h f monitor → (cs : List Call) → P f (history w h f monitor cs)
+
+-- 1. "An MC or P2P packet injected after r rounds crosses at most 2F-(r mod F)+1 links": every copy, in flight or where it passed.
+abbrev pub LinksCrossed : Type 0
+LinksCrossed = Always (λ f s.
+    EachFlight (λ x. Stamped (x .packet) → x .tag .crossed ≤ span f (x .tag .before) + 1) (s .mesh)
+    × EachPass (λ p. Stamped (p .arrival .flight .packet) → p .arrival .flight .tag .crossed ≤ span f (p .arrival .flight .tag .before) + 1) (s .events))
+
+-- 2. "... is gone after that many rounds": what is in flight was injected fewer rounds ago.
+abbrev pub GoneInTime : Type 0
+GoneInTime = Always (λ f s. EachFlight (λ x. Stamped (x .packet) → s .rounds < x .tag .before + (span f (x .tag .before) + 1)) (s .mesh))
+
+-- 3. "... is not stopped for age in the first 2F-(r mod F)": a pass that finds it too old is in a later further round.
+abbrev pub NotBeforeItsTime : Type 0
+NotBeforeItsTime = Always (λ f s.
+    EachPass (λ p. p .outcome .errors / 2 % 2 ≡ 1 → p .arrival .flight .tag .before + span f (p .arrival .flight .tag .before) ≤ p .rounds) (s .events))
+
+-- 4. "The account of units closes throughout": units injected plus extra branches equal units delivered, ended in error, dropped, swallowed and in
+-- flight.
+abbrev pub Account : Type 0
+Account = Always (λ f s.
+    s .injections + sumOf (λ p. extra (p .outcome)) (s .events)
+    ≡ sumOf (λ p. delivered (p .outcome)) (s .events) + sumOf (λ p. ended (p .outcome) (p .arrival .source)) (s .events)
+    + sumOf (λ p. dropCount (p .outcome)) (s .events)
+    + sumOf (λ p. swallowed (p .outcome)) (s .events)
+    + onMesh (λ x. weight (x .packet)) (s .mesh))
+
+-- 5. "Each of the ten counters of each chip equals the history's own count modulo 4,294,967,296."
+abbrev pub Counts : Type 0
+Counts = Always (λ f s. (chip k : ℕ) → chip < s .mesh .height * s .mesh .width → k < 10
+    → getD (getD (s .mesh .chips) chip fresh .counters .count) k 0 ≡ sumOf (countAt chip k) (s .events) % 2 ^ 32)
+
+-- 6. "What a read hands over is the first dropped unit of that chip since the read before, and the flag says whether more followed."
+abbrev pub Registers : Type 0
+Registers = Always (λ f s. (chip : ℕ) → chip < s .mesh .height * s .mesh .width
+    → getD (s .mesh .chips) chip fresh .registers ≡ firstOfUnits (dropsSince chip (s .events)))
+
+-- 7. "The records of all accepted calls joined are, in order, the passes of the history that reached a processor."
+abbrev pub Log : Type 0
+Log = Always (λ f s. s .log ≡ recordsOf (s .events))
+
+-- 8. "The ready set of every pass in a history is decided by the link states and counts at that moment; a link that was down or full and is so no
+-- longer is ready."
+abbrev pub NoStaleBlock : Type 0
+NoStaleBlock = Always (λ f s. EachPass (λ p.
+    (p .outcome ≡ outcomeOf (p .arrival .flight .packet) (p .arrival .source) (p .rows) (p .codes) (p .setting))
+    × ((i : ℕ) → i < 6 → has (p .setting .ready) i ≡ isReady (getD (p .here .lines) i idle))) (s .events))

@@ -1,0 +1,179 @@
+-- A history: a mesh that was just opened, and any list of calls, each with all that a caller may hand in. It is the mesh of the calls' contracts,
+-- at tags that say of each packet in flight which injection it came from, how many rounds had been accepted before that, and how many links it
+-- has crossed.
+use Prim.Native.Nat.{ℕ, _+_, _*_, _≤_}
+use mathlib.Core.Path.{_≡_}
+use mathlib.Core.Bool.{Bool, true, cond}
+use mathlib.Core.List.{List, [], _∷_, _++_, foldl}
+use lib.Dec.{eqb}
+use lib.ListN.{getD}
+use Rattle.packet.specs.Bytes.{packetAt}
+use Rattle.router.specs.declared.Outcome.{Outcome}
+use Rattle.router.specs.declared.Setting.{Setting}
+use Rattle.router.specs.Call.{sizeFine}
+use Rattle.mesh.specs.declared.Added.{Added}
+use Rattle.mesh.specs.declared.RegistersRead.{RegistersRead}
+use Rattle.mesh.specs.declared.CountRead.{CountRead}
+use Rattle.mesh.specs.declared.MeshRead.{MeshRead}
+use Rattle.mesh.specs.declared.LinkRead.{LinkRead}
+use Rattle.mesh.specs.Mesh.{Flight, Chip, Mesh, fresh, opened}
+use Rattle.mesh.specs.Opening.{roundsFine}
+use Rattle.mesh.specs.Steps.{Tables, Arrival, Going, rowsAt, codesAt, settingAt, outcomeAt, setAside, arrivals, passAt}
+use Rattle.mesh.specs.Calls as calls
+
+-- ---- calls
+
+-- "A call is any of injection, round, link change, register read, counter read, or looking at mesh or link, with all its inputs". A log is what it
+-- is long.
+pub data Call : Type 0 where
+  inject : (chip : ℕ) (bytes : List ℕ) (t : Tables) (room : ℕ) → Call
+  round : (t : Tables) (room : ℕ) → Call
+  setLink : (chip link : ℕ) (up : Bool) → Call
+  readRegisters : (chip : ℕ) → Call
+  readCounter : (chip counter : ℕ) → Call
+  lookMesh : Call
+  lookLink : (chip link : ℕ) → Call
+
+pub data Answer : Type 0 where
+  ofAdded : Added → Answer
+  ofRefusal : ℕ → Answer
+  ofRegisters : RegistersRead → Answer
+  ofCount : CountRead → Answer
+  ofMesh : MeshRead → Answer
+  ofLink : LinkRead → Answer
+
+module _ {A : Type 0} where
+  -- What a call leaves, and what it answers: the definitions that the calls' contracts cite, of a buffer that holds a mesh.
+  abbrev pub leftBy : (A → A) → A → Mesh A → Call → calls.Left A
+  leftBy turn tag m (inject chip bytes t room) = calls.injecting true t turn m room chip bytes tag
+  leftBy turn tag m (round t room) = calls.rounding true t turn m room
+  leftBy turn tag m (setLink chip link up) = calls.linking true m chip link up
+  leftBy turn tag m (readRegisters chip) = calls.emptying true m chip
+  leftBy turn tag m (readCounter chip counter) = record { refusal = calls.countRead true m chip counter .refusal; mesh = m; log = [] }
+  leftBy turn tag m lookMesh = record { refusal = 0; mesh = m; log = [] }
+  leftBy turn tag m (lookLink chip link) = record { refusal = calls.linkRead true m chip link .refusal; mesh = m; log = [] }
+
+  abbrev pub answerOf : (A → A) → A → Mesh A → Call → Answer
+  answerOf turn tag m (inject chip bytes t room) = ofAdded (calls.addedOf (calls.injecting true t turn m room chip bytes tag))
+  answerOf turn tag m (round t room) = ofAdded (calls.addedOf (calls.rounding true t turn m room))
+  answerOf turn tag m (setLink chip link up) = ofRefusal (calls.linking true m chip link up .refusal)
+  answerOf turn tag m (readRegisters chip) = ofRegisters (calls.registersRead true m chip)
+  answerOf turn tag m (readCounter chip counter) = ofCount (calls.countRead true m chip counter)
+  answerOf turn tag m lookMesh = ofMesh (calls.meshRead true m)
+  answerOf turn tag m (lookLink chip link) = ofLink (calls.linkRead true m chip link)
+
+-- ---- what a history remembers
+
+-- "Each injection has its own identity, so that equal bytes stay apart; each copy in flight knows its injection, the rounds accepted before it,
+-- and the links crossed".
+pub record Tag : Type 0 where
+  pub injection : ℕ
+  pub before : ℕ
+  pub crossed : ℕ
+
+-- "... one more at each sending."
+abbrev pub turned : Tag → Tag
+turned t = record { injection = t .injection; before = t .before; crossed = t .crossed + 1 }
+
+-- "Each pass leaves a record": what arrived where, the rounds accepted before, the chip as the pass found it, its tables and setting, and all
+-- that the pass did (errors, the wanted set with its branches, what was sent, dropped, delivered, swallowed).
+pub record Passage : Type 0 where
+  pub arrival : Arrival Tag
+  pub rounds : ℕ
+  pub here : Chip Tag
+  pub rows : List ℕ
+  pub codes : List ℕ
+  pub setting : Setting
+  pub outcome : Outcome
+
+-- What happens: a pass, or a chip's registers are read.
+pub data Event : Type 0 where
+  passed : Passage → Event
+  emptied : ℕ → Event
+
+pub record State : Type 0 where
+  pub mesh : Mesh Tag
+  -- accepted injections, accepted rounds
+  pub injections : ℕ
+  pub rounds : ℕ
+  -- what happened, in order, and the records of all accepted calls, joined
+  pub events : List Event
+  pub log : List ℕ
+
+-- ---- one call
+
+-- The passes of some arrivals, one after the other.
+unfoldable pub passages : Tables → ℕ → Going Tag → List (Arrival Tag) → List Event
+passages t n g [] = []
+passages t n g (a ∷ later) =
+    passed (record {
+      arrival = a;
+      rounds = n;
+      here = getD (g .mesh .chips) (a .chip) fresh;
+      rows = rowsAt t (a .chip);
+      codes = codesAt t (g .mesh .height * g .mesh .width) (a .chip);
+      setting = settingAt (g .mesh) (getD (g .mesh .chips) (a .chip) fresh);
+      outcome = outcomeAt t (g .mesh) (a .chip) (a .source) (a .flight .packet);
+    })
+    ∷ passages t n (passAt t turned g a) later
+
+-- What happens in a call that is accepted.
+abbrev pub eventsOf : State → Tag → Call → List Event
+eventsOf s tag (inject chip bytes t room) =
+    passages t (s .rounds) (record { mesh = s .mesh; log = [] }) (record { chip = chip; source = 7; flight = record { packet = packetAt bytes; tag = tag } } ∷ [])
+eventsOf s tag (round t room) = passages t (s .rounds) (record { mesh = setAside (s .mesh); log = [] }) (arrivals (s .mesh))
+eventsOf s tag (readRegisters chip) = emptied chip ∷ []
+eventsOf s tag (setLink chip link up) = []
+eventsOf s tag (readCounter chip counter) = []
+eventsOf s tag lookMesh = []
+eventsOf s tag (lookLink chip link) = []
+
+abbrev pub isInjection : Call → ℕ
+isInjection (inject chip bytes t room) = 1
+isInjection (round t room) = 0
+isInjection (setLink chip link up) = 0
+isInjection (readRegisters chip) = 0
+isInjection (readCounter chip counter) = 0
+isInjection lookMesh = 0
+isInjection (lookLink chip link) = 0
+
+abbrev pub isRound : Call → ℕ
+isRound (inject chip bytes t room) = 0
+isRound (round t room) = 1
+isRound (setLink chip link up) = 0
+isRound (readRegisters chip) = 0
+isRound (readCounter chip counter) = 0
+isRound lookMesh = 0
+isRound (lookLink chip link) = 0
+
+-- The tag of a packet that is injected now.
+abbrev pub tagNow : State → Tag
+tagNow s = record { injection = s .injections; before = s .rounds; crossed = 0 }
+
+-- "A call that refuses changes nothing; only accepted rounds count."
+abbrev pub accepted : State → calls.Left Tag → Call → State
+accepted s r c =
+    record {
+      mesh = r .mesh;
+      injections = s .injections + isInjection c;
+      rounds = s .rounds + isRound c;
+      events = s .events ++ eventsOf s (tagNow s) c;
+      log = s .log ++ r .log;
+    }
+
+unfoldable pub after : State → Call → State
+after s c = let r = leftBy turned (tagNow s) (s .mesh) c in cond (eqb (r .refusal) 0) (accepted s r c) s
+
+-- ---- the whole
+
+-- A mesh that opening accepts.
+pub record Opens (width height rounds monitor : ℕ) : Type 0 where
+  pub size : sizeFine width height ≡ true
+  pub phases : roundsFine rounds ≡ true
+  pub monitored : monitor ≤ 19
+
+abbrev pub begun : ℕ → ℕ → ℕ → ℕ → State
+begun width height rounds monitor = record { mesh = opened width height rounds monitor; injections = 0; rounds = 0; events = []; log = [] }
+
+unfoldable pub history : ℕ → ℕ → ℕ → ℕ → List Call → State
+history width height rounds monitor cs = foldl after (begun width height rounds monitor) cs

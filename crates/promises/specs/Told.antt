@@ -1,0 +1,113 @@
+-- What a history tells: sums over its passes, the drops since a chip's registers were last read, the records of its log.
+use Prim.Native.Nat.{ℕ, _+_, _<_}
+use mathlib.Core.Bool.{Bool, cond}
+use mathlib.Core.List.{List, [], _∷_, _++_, foldl, map}
+use lib.Dec.{eqb}
+use lib.ListN.{getD}
+use Rattle.packet.specs.declared.Packet.{Packet}
+use Rattle.packet.specs.Control.{kindOf}
+use Rattle.router.specs.declared.Outcome.{Outcome}
+use Rattle.router.specs.declared.Registers.{Registers}
+use Rattle.router.specs.Links.{has}
+use Rattle.router.specs.Keeping.{empty, withMore}
+use Rattle.router.specs.Counting.{countsOf}
+use Rattle.mesh.specs.Mesh.{Flight, Line, Chip, Mesh}
+use Rattle.mesh.specs.Steps.{logOf}
+use Rattle.mesh.specs.Calls.{Left}
+use Rattle.mesh.specs.Sound.{All}
+use Rattle.promises.specs.History.{Tag, Passage, Event, passed, emptied}
+
+-- ---- copies
+
+-- MC and P2P packets have a stamp and grow old.
+abbrev pub Stamped : Packet → Type 0
+Stamped p = kindOf (p .control) < 2
+
+-- What holds of every packet in flight.
+abbrev pub EachFlight : {A : Type 0} → (Flight A → Type 0) → Mesh A → Type 0
+EachFlight P m = All (λ (c : Chip _). All (λ (l : Line _). All P (l .held)) (c .lines)) (m .chips)
+
+-- What holds of every pass.
+unfoldable pub EachPass : (Passage → Type 0) → List Event → Type 0
+EachPass P [] = Unit {0}
+EachPass P (passed p ∷ es) = P p × EachPass P es
+EachPass P (emptied c ∷ es) = EachPass P es
+
+-- ---- sums
+
+unfoldable pub sumOf : (Passage → ℕ) → List Event → ℕ
+sumOf f [] = 0
+sumOf f (passed p ∷ es) = f p + sumOf f es
+sumOf f (emptied c ∷ es) = sumOf f es
+
+-- What a pass adds to counter k of a chip.
+abbrev pub countAt : ℕ → ℕ → Passage → ℕ
+countAt chip k p = cond (eqb (p .arrival .chip) chip) (getD (countsOf (p .outcome)) k 0) 0
+
+-- ---- dropped units
+
+abbrev pub unit : Outcome → ℕ → ℕ → Registers
+unit o link leg =
+    record { control = o .packet .control; word = o .packet .word; payload = o .packet .payload; link = link; leg = leg; more = 0 }
+
+abbrev pub unitIf : Bool → Registers → List Registers
+unitIf b r = cond b (r ∷ []) []
+
+abbrev pub unitsOf : Outcome → ℕ → ℕ → List Registers
+unitsOf o links leg =
+    unitIf (has links 0) (unit o 0 leg) ++ unitIf (has links 1) (unit o 1 leg) ++ unitIf (has links 2) (unit o 2 leg)
+    ++ unitIf (has links 3) (unit o 3 leg)
+    ++ unitIf (has links 4) (unit o 4 leg)
+    ++ unitIf (has links 5) (unit o 5 leg)
+
+-- "Within a pass drops go by link 0 to 5, the second leg last."
+abbrev pub droppedUnits : Outcome → List Registers
+droppedUnits o = unitsOf o (o .dropped) 0 ++ unitsOf o (o .lost) 1
+
+abbrev pub noted : ℕ → List Registers → Event → List Registers
+noted chip units (passed p) = cond (eqb (p .arrival .chip) chip) (units ++ droppedUnits (p .outcome)) units
+noted chip units (emptied c) = cond (eqb c chip) [] units
+
+-- The units dropped at a chip since its registers were last read.
+unfoldable pub dropsSince : ℕ → List Event → List Registers
+dropsSince chip es = foldl (noted chip) [] es
+
+-- "The first dropped unit since they were last read ... and a flag that more followed"; empty registers where there is none.
+abbrev pub firstOfUnits : List Registers → Registers
+firstOfUnits [] = empty
+firstOfUnits (u ∷ []) = u
+firstOfUnits (u ∷ v ∷ us) = withMore u
+
+-- ---- records
+
+unfoldable pub recordsOf : List Event → List ℕ
+recordsOf [] = []
+recordsOf (passed p ∷ es) = logOf (p .arrival .chip) (p .outcome) ++ recordsOf es
+recordsOf (emptied c ∷ es) = recordsOf es
+
+-- ---- tags forgotten
+
+module _ {A : Type 0} where
+  abbrev pub plainFlight : Flight A → Flight (Unit {0})
+  plainFlight f = record { packet = f .packet; tag = tt }
+
+  abbrev pub plainLine : Line A → Line (Unit {0})
+  plainLine l = record { up = l .up; held = map plainFlight (l .held) }
+
+  abbrev pub plainChip : Chip A → Chip (Unit {0})
+  plainChip c = record { registers = c .registers; counters = c .counters; lines = map plainLine (c .lines) }
+
+  abbrev pub plain : Mesh A → Mesh (Unit {0})
+  plain m =
+      record {
+        width = m .width;
+        height = m .height;
+        rounds = m .rounds;
+        monitor = m .monitor;
+        phase = m .phase;
+        elapsed = m .elapsed;
+        chips = map plainChip (m .chips);
+      }
+
+  abbrev pub plainLeft : Left A → Left (Unit {0})
+  plainLeft r = record { refusal = r .refusal; mesh = plain (r .mesh); log = r .log }
