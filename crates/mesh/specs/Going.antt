@@ -7,7 +7,7 @@ use lib.ListN.{length, getD, take, drop}
 use Rattle.packet.specs.declared.Packet.{Packet}
 use Rattle.tables.specs.Accept.{startsFine}
 use Rattle.mesh.specs.Mesh.{Flight, across, opposite}
-use Rattle.mesh.specs.Layout.{asideIn, meshOf, wordsFor}
+use Rattle.mesh.specs.Layout.{linePlace, chipPlace, asideIn, meshOf, wordsFor}
 use Rattle.mesh.specs.Steps.{Tables, Arrival, Going, passAt}
 use Rattle.mesh.specs.Chips.{lineWords, still}
 use Rattle.mesh.specs.Passing.{chipWords}
@@ -27,19 +27,29 @@ same u = u
 abbrev pub arrival : ℕ → ℕ → Packet → Arrival (Unit {0})
 arrival chip source p = record { chip = chip; source = source; flight = record { packet = p; tag = tt } }
 
--- What was set aside for a chip on the link that it arrives by; on the links below k; at the chips below k.
+-- What stands at the numbers below k, one after the other.
+unfoldable pub upTo : {X : Type 0} → (ℕ → List X) → ℕ → List X
+upTo f zero = []
+upTo f (suc k) = upTo f k ++ f k
+
+-- What was set aside for a chip on the link opposite to the one that it arrives by; on all six; for the chips below k.
+abbrev pub asideFor : List ℕ → ℕ → ℕ → List ℕ
+asideFor l chip source = lineWords (opposite source) (chipWords (across (getD l 0 0) (getD l 1 0) chip source) l)
+
 abbrev pub asideBy : List ℕ → ℕ → ℕ → List (Arrival (Unit {0}))
 asideBy l chip source =
-    map (λ (f : Flight (Unit {0})). record { chip = chip; source = source; flight = f })
-    (asideIn (lineWords (opposite source) (chipWords (across (getD l 0 0) (getD l 1 0) chip source) l)))
+    map (λ (f : Flight (Unit {0})). record { chip = chip; source = source; flight = f }) (asideIn (asideFor l chip source))
 
-unfoldable pub asideLinks : List ℕ → ℕ → ℕ → List (Arrival (Unit {0}))
-asideLinks l chip zero = []
-asideLinks l chip (suc k) = asideLinks l chip k ++ asideBy l chip k
+abbrev pub asideAt : List ℕ → ℕ → List (Arrival (Unit {0}))
+asideAt l chip = upTo (asideBy l chip) 6
 
-unfoldable pub asideChips : List ℕ → ℕ → List (Arrival (Unit {0}))
-asideChips l zero = []
-asideChips l (suc k) = asideChips l k ++ asideLinks l k 6
+-- Where in the mesh's words it says how many of them there are.
+abbrev pub asidePlace : ℕ → ℕ → ℕ → ℕ → ℕ
+asidePlace width height chip source = chipPlace (across width height chip source) + linePlace (opposite source) + 26
+
+-- No link has set more than 8 aside.
+abbrev pub AsideFew : List ℕ → Type 0
+AsideFew l = (c j : ℕ) → c < chipsOf l → j < 6 → getD (lineWords j (chipWords c l)) 26 0 ≤ 8
 
 -- The mesh on its way, and the log's first n records.
 abbrev pub goingIn : List ℕ → List ℕ → ℕ → Going (Unit {0})
