@@ -16,6 +16,16 @@ module _ {X : Type 0} (P : X → Type 0) where
   all-append [] ys a b = b
   all-append (x ∷ xs) ys a b = (a .0, all-append xs ys (a .1) b)
 
+  pub all-left : (xs ys : List X) → All P (xs ++ ys) → All P xs
+  unfolding All
+  all-left [] ys a = tt
+  all-left (x ∷ xs) ys a = (a .0, all-left xs ys (a .1))
+
+  pub all-right : (xs ys : List X) → All P (xs ++ ys) → All P ys
+  unfolding All
+  all-right [] ys a = a
+  all-right (x ∷ xs) ys a = all-right xs ys (a .1)
+
   pub all-getD : (xs : List X) (i : ℕ) (d : X) → All P xs → i < length xs → P (getD xs i d)
   unfolding All
   all-getD [] i d a h = absurd (omega arith)

@@ -26,6 +26,7 @@ use Rattle.mesh.specs.Holding.{headFine}
 use Rattle.mesh.specs.Opening.{roundsFine}
 use Rattle.mesh.specs.Logs.{Logged}
 use Rattle.mesh.specs.Going.{chipsOf, same, arrival, goingIn, Lent, Due, Passed}
+use Rattle.mesh.proofs.Alls.{all-right}
 use Rattle.mesh.proofs.FineSteps.{head-size}
 use Rattle.mesh.proofs.MeshParts.{chip-at}
 use Rattle.mesh.specs.Sound.{All, Arrives}
@@ -166,11 +167,6 @@ pub head-fine-same : (l l′ : List ℕ) → take 6 l′ ≡ take 6 l → headFi
 head-fine-same l l′ e =
     let f = head-same l l′ e in
     λ i. sizeFine (f 0 (lit< tt) i) (f 1 (lit< tt) i) && roundsFine (f 2 (lit< tt) i) && leb (f 3 (lit< tt) i) 19 && leb (f 4 (lit< tt) i) 3 && ltb (f 5 (lit< tt) i) (f 2 (lit< tt) i)
-
-all-right : {X : Type 0} (P : X → Type 0) (xs ys : List X) → All P (xs ++ ys) → All P ys
-unfolding All
-all-right P [] ys a = a
-all-right P (x ∷ xs) ys a = all-right P xs ys (a .1)
 
 pub passed-none : (t : Tables) (l log : List ℕ) (n : ℕ) → Passed t [] l log n l log n
 passed-none t l log n =

@@ -1,4 +1,5 @@
 pub mod Alls
+pub mod Arrivals
 pub mod AsideChips
 pub mod Asides
 pub mod ChipParts

@@ -68,6 +68,11 @@ pub record Due (t : Tables) (due : List (Arrival (Unit {0}))) (mesh log : List �
   pub room : n * 6 + length due * 6 ≤ length log
   pub each : All (Arrives (chipsOf mesh)) due
 
+-- The same where the arrivals are what was set aside.
+pub record DueAside (t : Tables) (aside : List (Arrival (Unit {0}))) (mesh log : List ℕ) (n : ℕ) : Type 0 where
+  pub due : Due t aside mesh log n
+  pub few : AsideFew mesh
+
 -- Words and log before and after some arrivals have passed, in order.
 pub record Passed (t : Tables) (due : List (Arrival (Unit {0}))) (mesh log : List ℕ) (n : ℕ) (mesh′ log′ : List ℕ) (n′ : ℕ) : Type 0 where
   pub long : length mesh′ ≡ length mesh

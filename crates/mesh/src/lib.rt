@@ -1,5 +1,6 @@
 // A mesh of routers in a lent buffer of 32-bit words: a header, then a block for each chip. docs/LAYOUT.md has the layout.
 pub mod across;
+pub mod arriving;
 pub mod aside;
 pub mod chip;
 pub mod flight;
