@@ -14,6 +14,7 @@ pub mod Opened
 pub mod Parts
 pub mod Places
 pub mod Ready
+pub mod Refusals
 pub mod Sets
 pub mod SoundAfter
 pub mod SoundArrivals

@@ -21,11 +21,11 @@ use Rattle.mesh.specs.Weights.{inFlight}
 -- ---- refusals: "Order: 8, 7, 9, 6, 5, 11, 10, 1, 2, 3, 4, those that apply to the call". `holds` says whether the buffer holds a mesh.
 
 -- 5: "over 1,024 rows for a chip, route bit 26 to 31 set, bad starts"; 11: "P2P table of wrong size, or a code above 7".
-abbrev pub rowsLent : Tables → ℕ → Bool
-rowsLent t chips = routesFine (t .rows) && startsFine (t .starts) chips (length (t .rows) / 3)
+abbrev pub rowsLent : List ℕ → List ℕ → ℕ → Bool
+rowsLent rows starts chips = routesFine rows && startsFine starts chips (length rows / 3)
 
 abbrev pub tablesRefusals : Tables → ℕ → List Refusal
-tablesRefusals t chips = refuse (not (rowsLent t chips)) 5 ∷ refuse (not (codesFine (t .codes) (chips * chips))) 11 ∷ []
+tablesRefusals t chips = refuse (not (rowsLent (t .rows) (t .starts) chips)) 5 ∷ refuse (not (codesFine (t .codes) (chips * chips))) 11 ∷ []
 
 -- 10: "log shorter than six numbers per packet in flight (per injection: six)". `room` is the log's length.
 abbrev pub injectRefusals : Bool → ℕ → ℕ → Tables → ℕ → List ℕ → List Refusal

@@ -10,6 +10,7 @@ pub mod line;
 pub mod logging;
 pub mod opening;
 pub mod passing;
+pub mod refusing;
 
 use router::Registers;
 

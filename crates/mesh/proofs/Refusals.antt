@@ -1,0 +1,29 @@
+-- The first refusal that applies to a call on a mesh, test by test. Assumes nothing.
+use mathlib.Core.Path.{_≡_, refl, sym, ap, _∙_}
+use mathlib.Core.Bool.{Bool, cond, not}
+use mathlib.Core.List.{List, [], _∷_, _++_}
+use Prim.Native.Nat.{ℕ, _*_}
+use lib.Dec.{eqb, ltb}
+use lib.ListN.{getD}
+use Rattle.packet.specs.Bytes.{takenOf}
+use Rattle.packet.specs.Refusal.{firstOf, readRefusals}
+use Rattle.packet.proofs.First.{first-append}
+use Rattle.packet.proofs.Refusals.{take-refuses}
+use Rattle.router.specs.Call.{isDirect, refuse, packetRefusals}
+use Rattle.mesh.specs.Steps.{Tables}
+use Rattle.mesh.specs.Calls.{tablesRefusals, injectRefusals, roundRefusals}
+
+pub packet-first : (s : List ℕ) → firstOf (packetRefusals s) ≡ cond (eqb (takenOf s .refusal) 0) (cond (isDirect (getD s 0 0)) 4 0) (takenOf s .refusal)
+packet-first s =
+    first-append (readRefusals s) (refuse (isDirect (getD s 0 0)) 4 ∷ []) refl
+    ∙ ap (λ (n : ℕ). cond (eqb n 0) (cond (isDirect (getD s 0 0)) 4 0) n) (sym (take-refuses s))
+
+pub inject-first : (holds : Bool) (chips chip : ℕ) (t : Tables) (room : ℕ) (bytes : List ℕ) → firstOf (injectRefusals holds chips chip t room bytes)
+    ≡ cond (not holds) 8 (cond (not (ltb chip chips)) 9 (cond (eqb (firstOf (tablesRefusals t chips)) 0) (cond (ltb room 6) 10 (firstOf (packetRefusals bytes))) (firstOf (tablesRefusals t chips))))
+inject-first holds chips chip t room bytes =
+    ap (λ (n : ℕ). cond (not holds) 8 (cond (not (ltb chip chips)) 9 n)) (first-append (tablesRefusals t chips) (refuse (ltb room 6) 10 ∷ packetRefusals bytes) refl)
+
+pub round-first : (holds : Bool) (chips flying : ℕ) (t : Tables) (room : ℕ) → firstOf (roundRefusals holds chips flying t room)
+    ≡ cond (not holds) 8 (cond (eqb (firstOf (tablesRefusals t chips)) 0) (cond (ltb room (flying * 6)) 10 0) (firstOf (tablesRefusals t chips)))
+round-first holds chips flying t room =
+    ap (λ (n : ℕ). cond (not holds) 8 n) (first-append (tablesRefusals t chips) (refuse (ltb room (flying * 6)) 10 ∷ []) refl)
