@@ -34,6 +34,9 @@ module _ (l : List ℕ) (holds : holdsMesh l ≡ true) where
   parts : Parts (leb 6 (length l)) (headFine l) (leb (wordsFor (getD l 0 0) (getD l 1 0)) (length l)) (chipsFine 0 (getD l 1 0 * getD l 0 0) l)
   parts = four _ _ _ _ holds
 
+  pub holds-head : headFine l ≡ true
+  holds-head = parts .second
+
   pub holds-size : sizeFine (getD l 0 0) (getD l 1 0) ≡ true
   holds-size = head-size l (parts .second)
 

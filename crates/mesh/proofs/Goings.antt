@@ -163,6 +163,9 @@ module _ (t : Tables) (a : Arrival (Unit {0})) (l log : List ℕ) (n : ℕ) (d :
 pub head-same : (l l′ : List ℕ) → take 6 l′ ≡ take 6 l → (i : ℕ) → i < 6 → getD l′ i 0 ≡ getD l i 0
 head-same l l′ e i h = sym (getD-take 6 l′ i 0 h) ∙ ap (λ (w : List ℕ). getD w i 0) e ∙ getD-take 6 l i 0 h
 
+pub chips-kept : (l l′ : List ℕ) → take 6 l′ ≡ take 6 l → chipsOf l ≤ chipsOf l′
+chips-kept l l′ e = le-of-eq (λ i. sym (head-same l l′ e 1 (lit< tt)) i * sym (head-same l l′ e 0 (lit< tt)) i)
+
 pub head-fine-same : (l l′ : List ℕ) → take 6 l′ ≡ take 6 l → headFine l′ ≡ headFine l
 head-fine-same l l′ e =
     let f = head-same l l′ e in

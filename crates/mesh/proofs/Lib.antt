@@ -1,3 +1,4 @@
+pub mod Accepts
 pub mod Alls
 pub mod Arrivals
 pub mod AsideChips
@@ -8,6 +9,8 @@ pub mod FineSteps
 pub mod Fitting
 pub mod Flights
 pub mod Goings
+pub mod InjectCall
+pub mod Leaving
 pub mod Logs
 pub mod MeshParts
 pub mod Opened
@@ -15,6 +18,8 @@ pub mod Parts
 pub mod Places
 pub mod Ready
 pub mod Refusals
+pub mod RoundCall
+pub mod RoundWords
 pub mod Sets
 pub mod SoundAfter
 pub mod SoundArrivals

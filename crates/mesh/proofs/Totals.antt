@@ -1,9 +1,11 @@
 -- What `total` says of lists joined, mapped, counted, and changed at one place. Assumes nothing.
 use mathlib.Core.Path.{_≡_, refl, ap}
 use mathlib.Core.List.{List, [], _∷_, _++_, map}
-use Prim.Native.Nat.{ℕ, zero, suc, _+_, _<_}
+use Prim.Native.Nat.{ℕ, zero, suc, _+_, _*_, _≤_, _<_}
+use native.Mathlib.Nat.{suc-mul}
 use native.Mathlib.Omega.{arith}
 use lib.ListN.{length, getD, set}
+use Rattle.mesh.specs.Sound.{All}
 use Rattle.mesh.specs.Weights.{total}
 
 pub total-append : {X : Type 0} (w : X → ℕ) (s t : List X) → total w (s ++ t) ≡ total w s + total w t
@@ -33,3 +35,9 @@ unfolding total
 total-set w [] i x d h = absurd (omega arith)
 total-set w (y ∷ l) zero x d h = omega arith
 total-set w (y ∷ l) (suc i) x d h = omega (arith, total-set w l i x d (omega arith))
+
+-- where each weighs at most k, all together weigh at most k each
+pub total-most : {X : Type 0} (w : X → ℕ) (k : ℕ) (l : List X) → All (λ (x : X). w x ≤ k) l → total w l ≤ length l * k
+unfolding total All
+total-most w k [] a = omega arith
+total-most w k (x ∷ l) a = simp suc-mul (omega (arith, a .0, total-most w k l (a .1)))

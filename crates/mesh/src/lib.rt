@@ -8,6 +8,7 @@ pub mod going;
 pub mod holding;
 pub mod line;
 pub mod logging;
+pub mod moving;
 pub mod opening;
 pub mod passing;
 pub mod refusing;

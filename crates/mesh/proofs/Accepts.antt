@@ -1,0 +1,77 @@
+-- What is known where a call on a mesh is accepted. Assumes nothing.
+use mathlib.Core.Path.{_≡_, refl}
+use mathlib.Core.Bool.{Bool, true, false, cond, and-eq-true-iff}
+use mathlib.Core.List.{List}
+use Prim.Native.Nat.{ℕ, _*_, _/_, _≤_, _<_}
+use native.Mathlib.Omega.{arith}
+use lib.Dec.{eqb, ltb, lit<}
+use lib.ListN.{length, getD}
+use borrow.Author.Tests.{ltb-true, ltb-false, eqb-true, not-false}
+use Rattle.packet.specs.Bytes.{wordAt, packetAt, rightLength, usedType}
+use Rattle.packet.specs.Control.{kindOf}
+use Rattle.packet.specs.Refusal.{firstOf}
+use Rattle.packet.proofs.First.{none-applies}
+use Rattle.tables.specs.Accept.{allCodes, routesFine, startsFine, codesFine}
+use Rattle.router.specs.Call.{isDirect}
+use Rattle.mesh.specs.Steps.{Tables}
+use Rattle.mesh.specs.Sound.{Passable}
+use Rattle.mesh.specs.Going.{Lent}
+use Rattle.mesh.specs.Calls.{rowsLent, injectRefusals, roundRefusals}
+
+lent-tables : (t : Tables) (chips : ℕ) → rowsLent (t .rows) (t .starts) chips ≡ true → codesFine (t .codes) (chips * chips) ≡ true → Lent t chips
+lent-tables t chips rows codes =
+    record {
+      starts = and-eq-true-iff (routesFine (t .rows)) (startsFine (t .starts) chips (length (t .rows) / 3)) .0 rows .1;
+      codes = eqb-true _ _ (and-eq-true-iff (eqb (length (t .codes)) (chips * chips)) (allCodes (t .codes)) .0 codes .0);
+    }
+
+pub record RoundGoes (held : Bool) (chips flying : ℕ) (t : Tables) (size : ℕ) : Type 0 where
+  pub holds : held ≡ true
+  pub lent : Lent t chips
+  pub room : flying * 6 ≤ size
+
+pub round-goes : (holds : Bool) (chips flying : ℕ) (t : Tables) (room : ℕ) → firstOf (roundRefusals holds chips flying t room) ≡ 0 → RoundGoes holds chips flying t room
+round-goes holds chips flying t room e =
+    let off = none-applies (roundRefusals holds chips flying t room) refl e in
+    record {
+      holds = not-false _ (off .0);
+      lent = lent-tables t chips (not-false _ (off .1 .0)) (not-false _ (off .1 .1 .0));
+      room = ltb-false _ _ (off .1 .1 .1 .0);
+    }
+
+-- a packet that is accepted may pass
+passable-at : (bytes : List ℕ) → usedType (getD bytes 0 0) ≡ true → isDirect (getD bytes 0 0) ≡ false → Passable (packetAt bytes)
+passable-at bytes used plain =
+    let kind : kindOf (getD bytes 0 0) < 3 = ltb-true _ _ used in
+    record { control = omega arith; used = kind; plain = plain; nine = few (eqb (length bytes) 9); absent = none (eqb (length bytes) 9) }
+  where
+    few : (b : Bool) → cond b 1 0 < 2
+    few true = lit< tt
+    few false = lit< tt
+
+    none : (b : Bool) → _≡_ {A = ℕ} (cond b 1 0) 0 → cond b (wordAt bytes 5) 0 ≡ 0
+    none true e = absurd (omega arith)
+    none false e = refl
+
+pub record InjectGoes (held : Bool) (chips chip : ℕ) (t : Tables) (size : ℕ) (bytes : List ℕ) : Type 0 where
+  pub holds : held ≡ true
+  pub there : chip < chips
+  pub lent : Lent t chips
+  pub room : 6 ≤ size
+  pub whole : rightLength bytes ≡ true
+  pub used : usedType (getD bytes 0 0) ≡ true
+  pub passable : Passable (packetAt bytes)
+
+pub inject-goes : (holds : Bool) (chips chip : ℕ) (t : Tables) (room : ℕ) (bytes : List ℕ) → firstOf (injectRefusals holds chips chip t room bytes) ≡ 0
+    → InjectGoes holds chips chip t room bytes
+inject-goes holds chips chip t room bytes e =
+    let off = none-applies (injectRefusals holds chips chip t room bytes) refl e in
+    record {
+      holds = not-false _ (off .0);
+      there = ltb-true _ _ (not-false _ (off .1 .0));
+      lent = lent-tables t chips (not-false _ (off .1 .1 .0)) (not-false _ (off .1 .1 .1 .0));
+      room = ltb-false _ _ (off .1 .1 .1 .1 .0);
+      whole = not-false _ (off .1 .1 .1 .1 .1 .0);
+      used = not-false _ (off .1 .1 .1 .1 .1 .1 .0);
+      passable = passable-at bytes (not-false _ (off .1 .1 .1 .1 .1 .1 .0)) (off .1 .1 .1 .1 .1 .1 .1 .0);
+    }

@@ -1,0 +1,96 @@
+// The calls that move packets: injection and round.
+use super::Added;
+use super::arriving::pass_chips;
+use super::aside::set_aside;
+use super::going::pass_one;
+use super::refusing::inject_refusal;
+use super::refusing::round_refusal;
+use packet::bytes::take;
+use router::call::chips;
+ghost use mathlib.Core.Path.{_≡_};
+ghost use lib.ListN.{length, getD};
+ghost use Prim.Native.Nat.{_≤_};
+ghost use Rattle.mesh.specs.Steps.{nextPhase};
+ghost use Rattle.mesh.specs.Going.{tablesOf};
+ghost use Rattle.mesh.specs.Calls.{addedOf, loggedOn};
+ghost use Rattle.mesh.specs.Leaving.{Leaves, injectLeft, roundLeft, overWords};
+
+// Passes a local packet at a chip, at once. Refusals, the first that applies: 8 no mesh, 9 chip, 5 rows, 11 codes, 10 log,
+// 2 length, 3 type 11, 4 NN with T = 1.
+pub fn inject(
+    mesh: &mut [u32],
+    log: &mut [u32],
+    chip: u32,
+    bytes: &[u8],
+    rows: &[u32],
+    starts: &[u32],
+    codes: &[u8],
+) -> Added
+    ensures { λ r. ⌜ r ≡ addedOf (injectLeft (now (mesh .entry)) (tablesOf (now (rows .entry)) (now (starts .entry)) (now (codes .entry))) (length (now (log .entry))) chip (now (bytes .entry))) ⌝ }
+    ensures { λ r. ⌜ Leaves (now (mesh .entry)) (now (mesh .exit)) (injectLeft (now (mesh .entry)) (tablesOf (now (rows .entry)) (now (starts .entry)) (now (codes .entry))) (length (now (log .entry))) chip (now (bytes .entry))) ⌝ }
+    ensures { λ r. ⌜ now (log .exit) ≡ loggedOn (injectLeft (now (mesh .entry)) (tablesOf (now (rows .entry)) (now (starts .entry)) (now (codes .entry))) (length (now (log .entry))) chip (now (bytes .entry)) .log) (now (log .entry)) ⌝ }
+{
+    let refusal = inject_refusal(mesh, log.len(), chip, bytes, rows, starts, codes);
+    if refusal != 0 {
+        return Added {
+            refusal,
+            added: 0,
+        };
+    }
+    let taken = take(bytes);
+    let p = taken.packet;
+    let n = pass_one(mesh, log, 0, chip as usize, 7, p, rows, starts, codes);
+    Added {
+        refusal: 0,
+        added: n as u32,
+    }
+}
+
+// Passes all that is in flight; then, after each F rounds, the phase steps on. Refusals, the first that applies: 8 no mesh,
+// 5 rows, 11 codes, 10 log.
+pub fn round(mesh: &mut [u32], log: &mut [u32], rows: &[u32], starts: &[u32], codes: &[u8]) -> Added
+    ensures { λ r. ⌜ r ≡ addedOf (roundLeft (now (mesh .entry)) (tablesOf (now (rows .entry)) (now (starts .entry)) (now (codes .entry))) (length (now (log .entry)))) ⌝ }
+    ensures { λ r. ⌜ Leaves (now (mesh .entry)) (now (mesh .exit)) (roundLeft (now (mesh .entry)) (tablesOf (now (rows .entry)) (now (starts .entry)) (now (codes .entry))) (length (now (log .entry)))) ⌝ }
+    ensures { λ r. ⌜ now (log .exit) ≡ loggedOn (roundLeft (now (mesh .entry)) (tablesOf (now (rows .entry)) (now (starts .entry)) (now (codes .entry))) (length (now (log .entry))) .log) (now (log .entry)) ⌝ }
+{
+    let refusal = round_refusal(mesh, log.len(), rows, starts, codes);
+    if refusal != 0 {
+        return Added {
+            refusal,
+            added: 0,
+        };
+    }
+    let all = chips(mesh[0], mesh[1]);
+    set_aside(mesh, all);
+    let n = pass_chips(mesh, log, all, rows, starts, codes);
+    round_over(mesh);
+    Added {
+        refusal: 0,
+        added: n as u32,
+    }
+}
+
+fn round_over(mesh: &mut [u32])
+    requires { ⌜ (6 ≤ length (now mesh)) × (getD (now mesh) 5 0 ≤ 65535) ⌝ }
+    ensures { λ _. ⌜ now (mesh .exit) ≡ overWords (now (mesh .entry)) ⌝ }
+{
+    let next = mesh[5] + 1;
+    if next < mesh[2] {
+        mesh[5] = next;
+    } else {
+        mesh[5] = 0;
+        mesh[4] = next_phase(mesh[4]);
+    }
+}
+
+// "The phase code runs 00, 01, 11, 10 and round again."
+fn next_phase(phase: u32) -> u32
+    ensures { λ r. ⌜ r ≡ nextPhase phase ⌝ }
+{
+    match phase {
+        0 => 1,
+        1 => 3,
+        3 => 2,
+        _ => 0,
+    }
+}
