@@ -125,7 +125,7 @@ module _ (t : Tables) (f : ℕ → List (Arrival (Unit {0}))) (k m : ℕ) (h : k
   due-step =
       record {
         due = due-first t (f k) (rest f (suc k) (m - suc k)) l₁ log₁ n₁
-        (due-next t (upTo f k) (f k ++ rest f (suc k) (m - suc k)) l log n l₁ log₁ n₁ p (subst (λ (xs : List (Arrival (Unit {0}))). Due t xs l log n) (upto-split f k m h) (d .due)));
+            (due-next t (upTo f k) (f k ++ rest f (suc k) (m - suc k)) l log n l₁ log₁ n₁ p (subst (λ (xs : List (Arrival (Unit {0}))). Due t xs l log n) (upto-split f k m h) (d .due)));
         few = few-same t (upTo f k) l log n l₁ log₁ n₁ p (d .few);
       }
 

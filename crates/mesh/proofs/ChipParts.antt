@@ -14,7 +14,7 @@ use Rattle.mesh.specs.Layout.{part, lineIn, asideIn, registersIn, linePl
 use Rattle.mesh.specs.Chips.{putBack, lineWords}
 use Rattle.mesh.proofs.Parts.{part-same, part-before, part-behind}
 
-pub withLine : Chip (Unit {0}) → ℕ → Line (Unit {0}) → Chip (Unit {0})
+abbrev pub withLine : Chip (Unit {0}) → ℕ → Line (Unit {0}) → Chip (Unit {0})
 withLine c i x = record { registers = c .registers; counters = c .counters; lines = set (c .lines) i x }
 
 -- two numbers, one below the other or equal
@@ -76,7 +76,6 @@ module _ (i : ℕ) (hi : i < 6) (ys l : List ℕ) (long : length l ≡ 322) (siz
       ∙ sym (six idle (set (lines-of l) i (lineIn ys)) (length-set (lines-of l) i (lineIn ys)))
 
   pub chip-line : chipIn (putBack (linePlace i) 51 ys l) ≡ withLine (chipIn l) i (lineIn ys)
-  unfolding withLine
   chip-line =
       let r : part 0 6 (putBack (linePlace i) 51 ys l) ≡ part 0 6 l = part-before (linePlace i) 51 ys l fits sized 0 6 (omega arith) in
       let c : part 6 10 (putBack (linePlace i) 51 ys l) ≡ part 6 10 l = part-before (linePlace i) 51 ys l fits sized 6 10 (omega arith) in

@@ -4,7 +4,7 @@ use mathlib.Core.Logic.{_⊎_, inl, inr}
 use mathlib.Core.Bool.{true, _&&_, and-eq-true-iff}
 use mathlib.Core.List.{List, [], _∷_, _++_, foldl, append-assoc}
 use Prim.Native.Nat.{ℕ, zero, suc, _+_, _-_, _*_, _/_, _≤_, _<_}
-use native.Mathlib.Nat.{sub-zero, mul-le-mul, suc-mul, le-refl, le-trans, le-of-eq, add-sub-cancel-left}
+use native.Mathlib.Nat.{mul-le-mul, suc-mul, le-refl, le-trans, le-of-eq, add-sub-cancel-left}
 use native.Mathlib.Omega.{arith}
 use lib.Dec.{eqb, leb, ltb, lit<}
 use lib.ListN.{length, getD, take, drop, length-append, length-drop}
@@ -28,7 +28,7 @@ use Rattle.mesh.specs.Logs.{Logged}
 use Rattle.mesh.specs.Going.{chipsOf, same, arrival, goingIn, Lent, Due, Passed}
 use Rattle.mesh.proofs.Alls.{all-right}
 use Rattle.mesh.proofs.FineSteps.{head-size}
-use Rattle.mesh.proofs.MeshParts.{chip-at}
+use Rattle.mesh.proofs.MeshParts.{mesh-chip}
 use Rattle.mesh.specs.Sound.{All, Arrives}
 
 -- ---- what a header in range says
@@ -122,8 +122,7 @@ module _ (t : Tables) (a : Arrival (Unit {0})) (l log : List ℕ) (n : ℕ) (d :
       }
 
   chip-here : getD (meshOf l .chips) (a .chip) fresh ≡ chipIn (chipWords (a .chip) l)
-  unfolding meshOf
-  chip-here = ap (λ (k : ℕ). getD (meshOf l .chips) k fresh) (sym (sub-zero (a .chip))) ∙ chip-at (chipsOf l) 0 (a .chip) l (omega arith) (omega (arith, arrives .there))
+  chip-here = mesh-chip l (a .chip) (arrives .there)
 
   -- the pass of the mesh's definition is the one that the router makes with the chip's tables and setting
   outcome-here : outcomeOf (a .flight .packet) (a .source) (rowsAt t (a .chip)) (codesAt t (chipsOf l) (a .chip)) (settingIn l (a .chip)) ≡ outcomeAt t (meshOf l) (a .chip) (a .source) (a .flight .packet)

@@ -33,14 +33,16 @@ module _ (r : ℕ) (m : Mesh (Unit {0})) (g : Going (Unit {0})) where
   accepted-leaves none l l′ mesh holds long past =
       rw (go-left none) (record { refused = λ z. absurd (z refl); mesh = λ z. mesh; holds = λ z. holds; long = long; past = past })
 
+  pub accepted-refusal : r ≡ 0 → 0 ≡ unless r m g .refusal
+  accepted-refusal none = rw (go-left none) refl
+
   -- and the records that it makes, n of them
   pub accepted-log : r ≡ 0 → (log log′ : List ℕ) (n : ℕ) → take (n * 6) log′ ≡ g .log → drop (n * 6) log′ ≡ drop (n * 6) log → length log′ ≡ length log → n * 6 ≤ length log
       → ((record { refusal = 0; added = n } ≡ addedOf (unless r m g)) × (log′ ≡ loggedOn (unless r m g .log) log))
   accepted-log none log log′ n front behind long fits =
       let size : length (g .log) ≡ n * 6 = ap length (sym front) ∙ length-take-le (n * 6) log′ (omega arith) in
       let count : n ≡ length (g .log) / 6 = omega arith in
-      rw (go-left none)
-      ( (λ i. record { refusal = 0; added = count i })
-      , sym (take-append-drop (n * 6) log′) ∙ (λ i. front i ++ behind i) ∙ ap (λ (k : ℕ). g .log ++ drop k log) (sym size)
+      rw (go-left none) (
+        (λ i. record { refusal = 0; added = count i }),
+        sym (take-append-drop (n * 6) log′) ∙ (λ i. front i ++ behind i) ∙ ap (λ (k : ℕ). g .log ++ drop k log) (sym size),
       )
-

@@ -16,7 +16,7 @@ use Rattle.mesh.proofs.Parts.{part-same, part-before, part-behind, getD
 use Rattle.mesh.proofs.ChipParts.{order}
 
 -- chip k of those from c on
-pub chip-at : (n c k : ℕ) (l : List ℕ) → c ≤ k → k < c + n → getD (chipsIn c n l) (k - c) fresh ≡ chipIn (chipWords k l)
+chip-at : (n c k : ℕ) (l : List ℕ) → c ≤ k → k < c + n → getD (chipsIn c n l) (k - c) fresh ≡ chipIn (chipWords k l)
 unfolding chipsIn
 chip-at zero c k l low high = absurd (omega arith)
 chip-at (suc n) c k l low high = go (order c k) (λ h. chip-at n (suc c) k l (omega arith) (omega arith))
@@ -30,6 +30,11 @@ chip-at (suc n) c k l low high = go (order c k) (λ h. chip-at n (suc c) k l (om
         let e : k - c ≡ 0 = omega arith in
         ap (λ (i : ℕ). getD (chipIn (chipWords c l) ∷ chipsIn (suc c) n l) i fresh) e ∙ ap (λ (i : ℕ). chipIn (chipWords i l)) h
     go (inr (inr h)) ih = absurd (omega arith)
+
+pub mesh-chip : (l : List ℕ) (k : ℕ) → k < getD l 1 0 * getD l 0 0 → getD (meshOf l .chips) k fresh ≡ chipIn (chipWords k l)
+unfolding meshOf
+mesh-chip l k h =
+    ap (λ (i : ℕ). getD (meshOf l .chips) i fresh) (sym (sub-zero k)) ∙ chip-at (getD l 1 0 * getD l 0 0) 0 k l (omega arith) (omega arith)
 
 module _ (k : ℕ) (ys l : List ℕ) (fits : chipPlace k + 322 ≤ length l) (sized : length ys ≡ 322) where
   -- the chips behind it are as they were

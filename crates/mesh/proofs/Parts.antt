@@ -10,7 +10,7 @@ use Rattle.mesh.specs.Layout.{part}
 use Rattle.mesh.specs.Chips.{putBack}
 
 -- a part is the end of a beginning
-take-drop : (b k : ℕ) (l : List ℕ) → take k (drop b l) ≡ drop b (take (b + k) l)
+pub take-drop : (b k : ℕ) (l : List ℕ) → take k (drop b l) ≡ drop b (take (b + k) l)
 take-drop zero k l = ap (λ (m : ℕ). take m l) (sym (zero-add k))
 take-drop (suc b) k [] = take-nil k ∙ sym (ap (λ (m : ℕ). drop (suc b) (take m [])) (suc-add b k))
 take-drop (suc b) k (x ∷ l) = take-drop b k l ∙ ap (λ (m : ℕ). drop (suc b) (take m (x ∷ l))) (sym (suc-add b k))

@@ -1,6 +1,6 @@
 -- The first refusal that applies to a call on a mesh, test by test. Assumes nothing.
 use mathlib.Core.Path.{_≡_, refl, sym, ap, _∙_}
-use mathlib.Core.Bool.{Bool, cond, not}
+use mathlib.Core.Bool.{Bool, true, false, cond, _&&_, not}
 use mathlib.Core.List.{List, [], _∷_, _++_}
 use Prim.Native.Nat.{ℕ, _*_}
 use lib.Dec.{eqb, ltb}
@@ -11,7 +11,7 @@ use Rattle.packet.proofs.First.{first-append}
 use Rattle.packet.proofs.Refusals.{take-refuses}
 use Rattle.router.specs.Call.{isDirect, refuse, packetRefusals}
 use Rattle.mesh.specs.Steps.{Tables}
-use Rattle.mesh.specs.Calls.{tablesRefusals, injectRefusals, roundRefusals}
+use Rattle.mesh.specs.Calls.{tablesRefusals, injectRefusals, roundRefusals, chipRefusals, numberRefusals}
 
 pub packet-first : (s : List ℕ) → firstOf (packetRefusals s) ≡ cond (eqb (takenOf s .refusal) 0) (cond (isDirect (getD s 0 0)) 4 0) (takenOf s .refusal)
 packet-first s =
@@ -27,3 +27,14 @@ pub round-first : (holds : Bool) (chips flying : ℕ) (t : Tables) (room : ℕ) 
     ≡ cond (not holds) 8 (cond (eqb (firstOf (tablesRefusals t chips)) 0) (cond (ltb room (flying * 6)) 10 0) (firstOf (tablesRefusals t chips)))
 round-first holds chips flying t room =
     ap (λ (n : ℕ). cond (not holds) 8 n) (first-append (tablesRefusals t chips) (refuse (ltb room (flying * 6)) 10 ∷ []) refl)
+
+pub number-first : (holds : Bool) (chips chip number end : ℕ) → firstOf (numberRefusals holds chips chip number end)
+    ≡ cond (eqb (firstOf (chipRefusals holds chips chip)) 0) (cond (ltb number end) 0 9) (firstOf (chipRefusals holds chips chip))
+number-first holds chips chip number end = go holds (ltb chip chips) (ltb number end)
+  where
+    go : (a b c : Bool) → _≡_ {A = ℕ} (cond (not a) 8 (cond (not (b && c)) 9 0))
+        (cond (eqb (cond (not a) 8 (cond (not b) 9 0)) 0) (cond c 0 9) (cond (not a) 8 (cond (not b) 9 0)))
+    go false b c = refl
+    go true false c = refl
+    go true true false = refl
+    go true true true = refl

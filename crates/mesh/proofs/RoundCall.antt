@@ -103,7 +103,7 @@ module _ (t : Tables) (l log : List ℕ) (none : firstOf (roundRefusals (holdsMe
           lent = subst (Lent t) (sym chips-same) (go .lent);
           room = omega (arith, go .room, ap length all-aside ∙ held-count l (go .holds));
           each = subst (λ (k : ℕ). All (Arrives k) (upTo (asideAt l₁) (chipsOf l))) (sym chips-same)
-          (subst (All (Arrives (chipsOf l))) (sym all-aside) (sound-arrivals (held-sound l (go .holds))));
+              (subst (All (Arrives (chipsOf l))) (sym all-aside) (sound-arrivals (held-sound l (go .holds))));
         };
         few = few-aside l l₁ u (held-head l (go .holds)) (held-few l (go .holds));
       }

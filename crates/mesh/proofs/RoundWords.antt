@@ -4,7 +4,7 @@ use mathlib.Core.Bool.{Bool, true, false, cond}
 use mathlib.Core.List.{List, [], _∷_, _++_, map, append-nil, append-assoc}
 use Prim.Native.Nat.{ℕ, zero, suc, _+_, _-_, _*_, _≤_, _<_}
 use native.Mathlib.Omega.{arith}
-use native.Mathlib.Nat.{zero-add, add-zero, add-suc, suc-add, sub-zero}
+use native.Mathlib.Nat.{zero-add, add-zero, add-suc, suc-add}
 use lib.Dec.{ltb, lit<}
 use lib.ListN.{length, getD, take, drop, set, length-set}
 use lib.Seq.{getD-drop, getD-set-same, getD-set-other, drop-set-lt}
@@ -17,7 +17,7 @@ use Rattle.mesh.specs.Aside.{ChipAside, AsideUpto}
 use Rattle.mesh.specs.Going.{chipsOf, upTo, asideBy, asideAt, asideFor, AsideFew}
 use Rattle.mesh.specs.Leaving.{overWords}
 use Rattle.mesh.proofs.ChipParts.{line-at}
-use Rattle.mesh.proofs.MeshParts.{chip-at}
+use Rattle.mesh.proofs.MeshParts.{mesh-chip}
 use Rattle.mesh.proofs.Places.{length-places}
 use Rattle.mesh.proofs.SoundArrivals.{across-there, opposite-there}
 use Rattle.mesh.proofs.Goings.{Head, head-same}
@@ -57,12 +57,10 @@ module _ (l l₁ : List ℕ) (u : AsideUpto (chipsOf l) (chipsOf l) l l₁) wher
         let from : ℕ = across (getD l 0 0) (getD l 1 0) chip source in
         let there : from < chipsOf l = across-there (getD l 0 0) (getD l 1 0) chip source (fine .wide) (fine .tall) in
         let j = opposite source in
-        let sender : getD (meshOf l .chips) from fresh ≡ chipIn (chipWords from l) =
-        ap (λ (k : ℕ). getD (meshOf l .chips) k fresh) (sym (sub-zero from)) ∙ chip-at (chipsOf l) 0 from l (omega arith) (omega arith) in
         ap (map (λ (f : Flight (Unit {0})). record { chip = chip; source = source; flight = f }))
         ((λ i. asideIn (lineWords j (chipWords (across (number 0 (lit< tt) i) (number 1 (lit< tt) i) chip source) l₁)))
         ∙ u .done from there .aside j (opposite-there source)
-        ∙ sym (ap (λ (c : Chip (Unit {0})). getD (c .lines) j idle .held) sender ∙ ap (λ (x : _). x .held) (line-at j (opposite-there source) (chipWords from l))))
+        ∙ sym (ap (λ (c : Chip (Unit {0})). getD (c .lines) j idle .held) (mesh-chip l from there) ∙ ap (λ (x : _). x .held) (line-at j (opposite-there source) (chipWords from l))))
 
     at-aside : (chip : ℕ) → asideAt l₁ chip ≡ arrivingAt (meshOf l) chip
     unfolding upTo

@@ -39,11 +39,14 @@ roundRefusals holds chips flying t room = refuse (not holds) 8 ∷ (tablesRefusa
 abbrev pub chipRefusals : Bool → ℕ → ℕ → List Refusal
 chipRefusals holds chips chip = refuse (not holds) 8 ∷ refuse (not (ltb chip chips)) 9 ∷ []
 
+abbrev pub numberRefusals : Bool → ℕ → ℕ → ℕ → ℕ → List Refusal
+numberRefusals holds chips chip number end = refuse (not holds) 8 ∷ refuse (not (ltb chip chips && ltb number end)) 9 ∷ []
+
 abbrev pub linkRefusals : Bool → ℕ → ℕ → ℕ → List Refusal
-linkRefusals holds chips chip link = refuse (not holds) 8 ∷ refuse (not (ltb chip chips && ltb link 6)) 9 ∷ []
+linkRefusals holds chips chip link = numberRefusals holds chips chip link 6
 
 abbrev pub counterRefusals : Bool → ℕ → ℕ → ℕ → List Refusal
-counterRefusals holds chips chip counter = refuse (not holds) 8 ∷ refuse (not (ltb chip chips && ltb counter 10)) 9 ∷ []
+counterRefusals holds chips chip counter = numberRefusals holds chips chip counter 10
 
 -- ---- what a call leaves
 
@@ -138,9 +141,10 @@ module _ {A : Type 0} where
       })
       (record { refusal = 8; width = 0; height = 0; «rounds_per_phase» = 0; monitor = 0; phase = 0; «rounds_in_phase» = 0; «in_flight» = 0 })
 
+  abbrev pub lineRead : Line A → LinkRead
+  lineRead l = record { refusal = 0; up = bit (l .up); held = length (l .held); ready = bit (isReady l) }
+
   abbrev pub linkRead : Bool → Mesh A → ℕ → ℕ → LinkRead
   linkRead holds m chip link =
       let refusal = firstOf (linkRefusals holds (many m) chip link) in
-      cond (eqb refusal 0)
-      (record { refusal = 0; up = bit (lineOf m chip link .up); held = length (lineOf m chip link .held); ready = bit (isReady (lineOf m chip link)) })
-      (record { refusal = refusal; up = 0; held = 0; ready = 0 })
+      cond (eqb refusal 0) (lineRead (lineOf m chip link)) (record { refusal = refusal; up = 0; held = 0; ready = 0 })

@@ -35,3 +35,10 @@ registersLeft l chip = emptying (holdsMesh l) (meshOf l) chip
 -- The words after a round: the phase steps on after each F rounds.
 abbrev pub overWords : List ℕ → List ℕ
 overWords l = cond (ltb (getD l 5 0 + 1) (getD l 2 0)) (set l 5 (getD l 5 0 + 1)) (set (set l 5 0) 4 (nextPhase (getD l 4 0)))
+
+-- A link's state word.
+abbrev pub stateOf : Bool → ℕ
+stateOf up = cond up 0 1
+
+abbrev pub stateOn : Bool → ℕ → List ℕ → List ℕ
+stateOn up j w = set w 0 (stateOf up)

@@ -21,7 +21,8 @@ fn across_link(width: u32, height: u32, chip: u32, i: u32) -> u32
     requires { ⌜ (sizeFine width height ≡ true) × (chip < 256) ⌝ }
     ensures { λ r. ⌜ (r ≡ across width height chip i) × (r < 144) ⌝ }
 {
-    (chip / width + step_north(height, i)) % height * width + (chip % width + step_east(width, i)) % width
+    (chip / width + step_north(height, i)) % height * width
+        + (chip % width + step_east(width, i)) % width
 }
 
 fn step_east(width: u32, i: u32) -> u32

@@ -2,12 +2,14 @@
 pub mod across;
 pub mod arriving;
 pub mod aside;
+pub mod changing;
 pub mod chip;
 pub mod flight;
 pub mod going;
 pub mod holding;
 pub mod line;
 pub mod logging;
+pub mod looking;
 pub mod moving;
 pub mod opening;
 pub mod passing;

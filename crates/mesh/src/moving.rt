@@ -32,10 +32,7 @@ pub fn inject(
 {
     let refusal = inject_refusal(mesh, log.len(), chip, bytes, rows, starts, codes);
     if refusal != 0 {
-        return Added {
-            refusal,
-            added: 0,
-        };
+        return Added { refusal, added: 0 };
     }
     let taken = take(bytes);
     let p = taken.packet;
@@ -55,10 +52,7 @@ pub fn round(mesh: &mut [u32], log: &mut [u32], rows: &[u32], starts: &[u32], co
 {
     let refusal = round_refusal(mesh, log.len(), rows, starts, codes);
     if refusal != 0 {
-        return Added {
-            refusal,
-            added: 0,
-        };
+        return Added { refusal, added: 0 };
     }
     let all = chips(mesh[0], mesh[1]);
     set_aside(mesh, all);

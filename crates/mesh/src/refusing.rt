@@ -16,7 +16,7 @@ ghost use Rattle.mesh.specs.Layout.{meshOf};
 ghost use Rattle.mesh.specs.Holding.{holdsMesh};
 ghost use Rattle.mesh.specs.Weights.{inFlight};
 ghost use Rattle.mesh.specs.Going.{tablesOf, chipsOf};
-ghost use Rattle.mesh.specs.Calls.{rowsLent, tablesRefusals, injectRefusals, roundRefusals};
+ghost use Rattle.mesh.specs.Calls.{rowsLent, tablesRefusals, injectRefusals, roundRefusals, chipRefusals, numberRefusals};
 
 // Injection: 8 no mesh, 9 chip, 5 rows, 11 codes, 10 log, 2 length, 3 type 11, 4 NN with T = 1.
 pub fn inject_refusal(
@@ -97,6 +97,33 @@ fn packet_refusal(bytes: &[u8]) -> u32
     let p = taken.packet;
     if is_direct(p.control) {
         return 4;
+    }
+    0
+}
+
+// A chip's registers: 8 no mesh, 9 chip.
+pub fn chip_refusal(mesh: &[u32], chip: u32) -> u32
+    ensures { λ r. ⌜ r ≡ firstOf (chipRefusals (holdsMesh (now (mesh .entry))) (chipsOf (now (mesh .entry))) chip) ⌝ }
+{
+    if !holds(mesh) {
+        return 8;
+    }
+    if chips(mesh[0], mesh[1]) <= (chip as usize) {
+        return 9;
+    }
+    0
+}
+
+// A link or a counter of a chip: 8 no mesh, 9 chip, link or counter.
+pub fn number_refusal(mesh: &[u32], chip: u32, number: u32, end: u32) -> u32
+    ensures { λ r. ⌜ r ≡ firstOf (numberRefusals (holdsMesh (now (mesh .entry))) (chipsOf (now (mesh .entry))) chip number end) ⌝ }
+{
+    let refusal = chip_refusal(mesh, chip);
+    if refusal != 0 {
+        return refusal;
+    }
+    if end <= number {
+        return 9;
     }
     0
 }

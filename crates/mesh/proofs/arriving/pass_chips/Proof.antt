@@ -23,12 +23,12 @@ loop-holds c = (omega arith, arrivals.passed-begin _ _ _ _ _)
 
 -- src/arriving.rt:23:9
 pass-links-requires : tie.Need-pass-links-requires Inv-loop μ-loop
-pass-links-requires c κs = 
+pass-links-requires c κs =
     let at = c .before .before .before .loop in
     let hi : at .chip < c .before .before .before .before .before .before .before .before .before .args .count = c .before .before .loop-test .taken in
-    let pre = c .before .before .before .before .before .before .before .before .before .pre in
-    ( subst (λ (k : ℕ). at .chip < k) (sym (arrivals.chips-same _ _ _ _ _ _ _ _ (at .inv .1))) (lt-of-lt-of-le hi (pre .0))
-    , arrivals.chips-due _ _ _ _ _ _ _ (at .chip) (c .before .before .before .before .before .before .before .before .before .args .count) hi (pre .1) (at .inv .1)
+    let pre = c .before .before .before .before .before .before .before .before .before .pre in (
+      subst (λ (k : ℕ). at .chip < k) (sym (arrivals.chips-same _ _ _ _ _ _ _ _ (at .inv .1))) (lt-of-lt-of-le hi (pre .0)),
+      arrivals.chips-due _ _ _ _ _ _ _ (at .chip) (c .before .before .before .before .before .before .before .before .before .args .count) hi (pre .1) (at .inv .1),
     )
 
 -- src/arriving.rt:24:9
@@ -41,7 +41,7 @@ loop-less c = omega arith
 
 -- src/arriving.rt:22:5
 loop-again : tie.Need-loop-again Inv-loop μ-loop
-loop-again c = 
+loop-again c =
     let at = c .before .before .before .before .before .before .before .before .loop in
     let hi : at .chip < c .before .before .before .before .before .before .before .before .before .before .before .before .before .before .args .count = c .before .before .before .before .before .before .before .loop-test .taken in
     (omega arith, rw add-one (arrivals.chips-step _ _ _ _ _ _ _ (at .chip) (c .before .before .before .before .before .before .before .before .before .before .before .before .before .before .args .count) hi (c .before .before .before .before .before .before .before .before .before .before .before .before .before .before .pre .1) (at .inv .1) _ _ _ (c .before .before .before .before .pass-links .ensures)))

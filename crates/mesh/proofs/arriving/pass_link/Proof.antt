@@ -69,7 +69,7 @@ packet-at-requires c κs = omega (arith, arrivals.place-few _ (c .before .before
 
 -- src/arriving.rt:71:9
 pass-one-requires : tie.Need-pass-one-requires Inv-loop μ-loop
-pass-one-requires c κs = 
+pass-one-requires c κs =
     let at = c .before .before .before .before .before .loop in
     let read : _ = c .before .before .packet-at .ensures in
     arrivals.link-due _ (c .before .before .before .before .before .before .before .before .before .before .before .before .before .before .before .args .mesh .now) (c .before .before .before .before .before .before .before .before .before .before .before .before .before .before .before .args .chip) (c .before .before .before .before .before .before .before .before .before .before .before .before .before .before .before .args .source) (c .before .before .before .before .before .before .before .before .before .before .before .before .before .before .before .args .log .now) (c .before .before .before .before .before .before .before .before .before .before .before .before .before .before .before .args .n) (c .before .before .before .before .before .before .before .before .before .before .before .before .before .before .before .pre .0 .1) (c .before .before .before .before .before .before .before .before .before .before .before .before .before .before .before .pre .1) _ (c .before .before .before .before .before .before .before .aside-place .ensures) (at .i) (c .before .before .before .before .loop-test .taken) (at .mesh) (at .log) (at .done) (at .inv .1) _ read
@@ -84,7 +84,7 @@ loop-less c = omega arith
 
 -- src/arriving.rt:69:5
 loop-again : tie.Need-loop-again Inv-loop μ-loop
-loop-again c = 
+loop-again c =
     let at = c .before .before .before .before .before .before .before .before .before .before .loop in
     (omega arith, rw add-one (arrivals.link-step _ (c .before .before .before .before .before .before .before .before .before .before .before .before .before .before .before .before .before .before .before .before .args .mesh .now) (c .before .before .before .before .before .before .before .before .before .before .before .before .before .before .before .before .before .before .before .before .args .chip) (c .before .before .before .before .before .before .before .before .before .before .before .before .before .before .before .before .before .before .before .before .args .source) (c .before .before .before .before .before .before .before .before .before .before .before .before .before .before .before .before .before .before .before .before .args .log .now) (c .before .before .before .before .before .before .before .before .before .before .before .before .before .before .before .before .before .before .before .before .args .n) (c .before .before .before .before .before .before .before .before .before .before .before .before .before .before .before .before .before .before .before .before .pre .0 .1) (c .before .before .before .before .before .before .before .before .before .before .before .before .before .before .before .before .before .before .before .before .pre .1) _ (c .before .before .before .before .before .before .before .before .before .before .before .before .aside-place .ensures) (at .i) (c .before .before .before .before .before .before .before .before .before .loop-test .taken) (at .mesh) (at .log) (at .done) (at .inv .1) _ (c .before .before .before .before .before .before .before .packet-at .ensures) _ _ _ (c .before .before .before .before .pass-one .ensures)))
 
@@ -98,7 +98,7 @@ same-length-2 c = c .before .loop .inv .1 .room
 
 -- src/arriving.rt:52:1
 returns : tie.Need-returns Inv-loop μ-loop
-returns c = 
+returns c =
     let at = c .before .loop in
     let e : at .i ≡ getD (c .before .before .before .before .before .before .before .before .before .before .before .args .mesh .now) (c .before .before .before .aside-place .result) 0 = omega arith in
     arrivals.link-end _ (c .before .before .before .before .before .before .before .before .before .before .before .args .mesh .now) (c .before .before .before .before .before .before .before .before .before .before .before .args .chip) (c .before .before .before .before .before .before .before .before .before .before .before .args .source) (c .before .before .before .before .before .before .before .before .before .before .before .args .log .now) (c .before .before .before .before .before .before .before .before .before .before .before .args .n) (c .before .before .before .before .before .before .before .before .before .before .before .pre .0 .1) (c .before .before .before .before .before .before .before .before .before .before .before .pre .1) _ (c .before .before .before .aside-place .ensures) _ _ _ (rw e at (at .inv .1))

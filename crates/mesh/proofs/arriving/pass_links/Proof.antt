@@ -22,12 +22,12 @@ loop-holds c = (omega arith, arrivals.passed-begin _ _ _ _ _)
 
 -- src/arriving.rt:45:9
 pass-link-requires : tie.Need-pass-link-requires Inv-loop μ-loop
-pass-link-requires c κs = 
+pass-link-requires c κs =
     let at = c .before .before .before .loop in
     let hi : at .source < 6 = c .before .before .loop-test .taken in
-    let pre = c .before .before .before .before .before .before .before .before .before .pre in
-    ( (subst (λ (k : ℕ). c .before .before .before .before .before .before .before .before .before .args .chip < k) (sym (arrivals.chips-same _ _ _ _ _ _ _ _ (at .inv .1))) (pre .0), hi)
-    , arrivals.links-due _ _ _ _ _ _ _ (c .before .before .before .before .before .before .before .before .before .args .chip) (at .source) hi (pre .1) (at .inv .1)
+    let pre = c .before .before .before .before .before .before .before .before .before .pre in (
+      (subst (λ (k : ℕ). c .before .before .before .before .before .before .before .before .before .args .chip < k) (sym (arrivals.chips-same _ _ _ _ _ _ _ _ (at .inv .1))) (pre .0), hi),
+      arrivals.links-due _ _ _ _ _ _ _ (c .before .before .before .before .before .before .before .before .before .args .chip) (at .source) hi (pre .1) (at .inv .1),
     )
 
 -- src/arriving.rt:46:9
@@ -40,7 +40,7 @@ loop-less c = omega arith
 
 -- src/arriving.rt:44:5
 loop-again : tie.Need-loop-again Inv-loop μ-loop
-loop-again c = 
+loop-again c =
     let at = c .before .before .before .before .before .before .before .before .loop in
     let hi : at .source < 6 = c .before .before .before .before .before .before .before .loop-test .taken in
     (omega arith, rw add-one (arrivals.links-step _ _ _ _ _ _ _ (c .before .before .before .before .before .before .before .before .before .before .before .before .before .before .args .chip) (at .source) hi (c .before .before .before .before .before .before .before .before .before .before .before .before .before .before .pre .1) (at .inv .1) _ _ _ (c .before .before .before .before .pass-link .ensures)))

@@ -45,7 +45,7 @@ set-aside-requires c κs = rw (c .before .chips .ensures) (words-enough (c .befo
 
 -- src/moving.rt:65:9
 pass-chips-requires : tie.Need-pass-chips-requires
-pass-chips-requires c κs = 
+pass-chips-requires c κs =
     let a = c .before .before .before .before .before .before .before .before .before .before .before .before .before .before .before .before .before .args in
     let u = rw (c .before .before .before .before .before .before .chips .ensures) at (c .before .before .before .before .set-aside .ensures) in
     rw (c .before .before .before .before .before .before .chips .ensures) (chips-kept (a .mesh .now) (c .before .before .before .before .set-aside .last .0) (u .head), round-due (tablesOf (c .before .before .before .before .before .before .before .before .before .before .before .before .before .before .before .before .before .args .rows .now) (c .before .before .before .before .before .before .before .before .before .before .before .before .before .before .before .before .before .args .starts .now) (c .before .before .before .before .before .before .before .before .before .before .before .before .before .before .before .before .before .args .codes .now)) (c .before .before .before .before .before .before .before .before .before .before .before .before .before .before .before .before .before .args .mesh .now) (c .before .before .before .before .before .before .before .before .before .before .before .before .before .before .before .before .before .args .log .now) (sym (c .before .before .before .before .before .before .before .before .before .before .round-refusal .ensures) ∙ c .before .before .before .before .before .before .before .before .before .if1 .left) _ u)
@@ -68,7 +68,7 @@ same-length-3 c = search needs
 
 -- src/moving.rt:51:1
 returns-2 : tie.Need-returns-2
-returns-2 c = 
+returns-2 c =
     rw (c .before .before .round-over .ensures) (round-leaves (tablesOf (c .before .before .before .before .before .before .before .before .before .before .before .before .before .before .before .before .before .before .before .before .before .before .before .before .before .before .args .rows .now) (c .before .before .before .before .before .before .before .before .before .before .before .before .before .before .before .before .before .before .before .before .before .before .before .before .before .before .args .starts .now) (c .before .before .before .before .before .before .before .before .before .before .before .before .before .before .before .before .before .before .before .before .before .before .before .before .before .before .args .codes .now)) (c .before .before .before .before .before .before .before .before .before .before .before .before .before .before .before .before .before .before .before .before .before .before .before .before .before .before .args .mesh .now) (c .before .before .before .before .before .before .before .before .before .before .before .before .before .before .before .before .before .before .before .before .before .before .before .before .before .before .args .log .now) (sym (c .before .before .before .before .before .before .before .before .before .before .before .before .before .before .before .before .before .before .before .round-refusal .ensures) ∙ c .before .before .before .before .before .before .before .before .before .before .before .before .before .before .before .before .before .before .if1 .left) _ (rw (c .before .before .before .before .before .before .before .before .before .before .before .before .before .before .before .chips .ensures) at (c .before .before .before .before .before .before .before .before .before .before .before .before .before .set-aside .ensures)) _ _ _ (rw (c .before .before .before .before .before .before .before .before .before .before .before .before .before .before .before .chips .ensures) at (c .before .before .before .before .before .before .before .before .pass-chips .ensures)))
 
 pub round-spec : {M : Type 1} → statement M

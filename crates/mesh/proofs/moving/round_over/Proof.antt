@@ -57,7 +57,7 @@ same-length-2 c = search needs
 
 -- src/moving.rt:73:1
 returns-2 : tie.Need-returns-2
-returns-2 c = 
+returns-2 c =
     let l = c .before .before .before .before .before .before .args .mesh .now in
     let e : getD (set l 5 0) 4 0 ≡ getD l 4 0 = getD-set-other l 5 4 0 0 (λ z. omega arith) in
     (λ i. set (set l 5 0) 4 ((c .next-phase .ensures ∙ ap nextPhase e) i)) ∙ simp (le-ltb _ _ (c .before .before .if1 .left))

@@ -46,13 +46,13 @@ tables-refusal-requires c κs = rw (c .before .chips .ensures) (chips-small _ _ 
 
 -- src/refusing.rt:42:9
 returns-3 : tie.Need-returns-3
-returns-3 c = 
+returns-3 c =
     let e = rw (c .before .before .before .chips .ensures) at (sym (c .before .tables-refusal .ensures)) in
     sym (inject-first (holdsMesh (c .before .before .before .before .before .before .before .before .before .before .before .before .before .args .mesh .now)) (chipsOf (c .before .before .before .before .before .before .before .before .before .before .before .before .before .args .mesh .now)) (c .before .before .before .before .before .before .before .before .before .before .before .before .before .args .chip) (tablesOf (c .before .before .before .before .before .before .before .before .before .before .before .before .before .args .rows .now) (c .before .before .before .before .before .before .before .before .before .before .before .before .before .args .starts .now) (c .before .before .before .before .before .before .before .before .before .before .before .before .before .args .codes .now)) (c .before .before .before .before .before .before .before .before .before .before .before .before .before .args .room) (c .before .before .before .before .before .before .before .before .before .before .before .before .before .args .bytes .now) ∙ simp (sym (c .before .before .before .before .before .before .before .holds .ensures) ∙ not-false _ (c .before .before .before .before .before .before .if1 .left), lt-ltb _ _ (rw (c .before .before .before .chips .ensures) at (c .before .before .if2 .left)), e, ne-eqb _ 0 (c .if3 .taken)))
 
 -- src/refusing.rt:45:9
 returns-4 : tie.Need-returns-4
-returns-4 c = 
+returns-4 c =
     let e = rw (c .before .before .before .before .chips .ensures) at (sym (c .before .before .tables-refusal .ensures)) in
     sym (inject-first (holdsMesh (c .before .before .before .before .before .before .before .before .before .before .before .before .before .before .args .mesh .now)) (chipsOf (c .before .before .before .before .before .before .before .before .before .before .before .before .before .before .args .mesh .now)) (c .before .before .before .before .before .before .before .before .before .before .before .before .before .before .args .chip) (tablesOf (c .before .before .before .before .before .before .before .before .before .before .before .before .before .before .args .rows .now) (c .before .before .before .before .before .before .before .before .before .before .before .before .before .before .args .starts .now) (c .before .before .before .before .before .before .before .before .before .before .before .before .before .before .args .codes .now)) (c .before .before .before .before .before .before .before .before .before .before .before .before .before .before .args .room) (c .before .before .before .before .before .before .before .before .before .before .before .before .before .before .args .bytes .now) ∙ simp (sym (c .before .before .before .before .before .before .before .before .holds .ensures) ∙ not-false _ (c .before .before .before .before .before .before .before .if1 .left), lt-ltb _ _ (rw (c .before .before .before .before .chips .ensures) at (c .before .before .before .if2 .left)), e, eq-eqb _ 0 (c .before .if3 .left), lt-ltb _ _ (c .if4 .taken)))
 
@@ -62,7 +62,7 @@ packet-refusal-requires c κs = search needs
 
 -- src/refusing.rt:22:1
 returns-5 : tie.Need-returns-5
-returns-5 c = 
+returns-5 c =
     let e = rw (c .before .before .before .before .before .chips .ensures) at (sym (c .before .before .before .tables-refusal .ensures)) in
     c .packet-refusal .ensures ∙ sym (inject-first (holdsMesh (c .before .before .before .before .before .before .before .before .before .before .before .before .before .before .before .args .mesh .now)) (chipsOf (c .before .before .before .before .before .before .before .before .before .before .before .before .before .before .before .args .mesh .now)) (c .before .before .before .before .before .before .before .before .before .before .before .before .before .before .before .args .chip) (tablesOf (c .before .before .before .before .before .before .before .before .before .before .before .before .before .before .before .args .rows .now) (c .before .before .before .before .before .before .before .before .before .before .before .before .before .before .before .args .starts .now) (c .before .before .before .before .before .before .before .before .before .before .before .before .before .before .before .args .codes .now)) (c .before .before .before .before .before .before .before .before .before .before .before .before .before .before .before .args .room) (c .before .before .before .before .before .before .before .before .before .before .before .before .before .before .before .args .bytes .now) ∙ simp (sym (c .before .before .before .before .before .before .before .before .before .holds .ensures) ∙ not-false _ (c .before .before .before .before .before .before .before .before .if1 .left), lt-ltb _ _ (rw (c .before .before .before .before .before .chips .ensures) at (c .before .before .before .before .if2 .left)), e, eq-eqb _ 0 (c .before .before .if3 .left), le-ltb _ _ (c .before .if4 .left)))
 

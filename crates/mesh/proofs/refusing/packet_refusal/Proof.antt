@@ -21,7 +21,7 @@ take-requires c κs = search needs
 
 -- src/refusing.rt:95:9
 returns : tie.Need-returns
-returns c = 
+returns c =
     let bytes = c .before .before .before .before .args .bytes .now in
     let r = c .before .before .take .result .refusal in
     let e : r ≡ takenOf bytes .refusal = ap (λ (x : Taken). x .refusal) (c .before .before .take .ensures) in
@@ -33,7 +33,7 @@ is-direct-requires c κs = search needs
 
 -- src/refusing.rt:99:9
 returns-2 : tie.Need-returns-2
-returns-2 c = 
+returns-2 c =
     let bytes = c .before .before .before .before .before .before .before .args .bytes .now in
     let whole = taken-whole (c .before .before .before .before .before .before .before .args .bytes .now) (c .before .before .before .before .before .take .result) (c .before .before .before .before .before .take .ensures) (c .before .before .before .if1 .left) in
     let none : takenOf bytes .refusal ≡ 0 = ap (λ (x : Taken). x .refusal) (sym (c .before .before .before .before .before .take .ensures) ∙ whole) in
@@ -42,7 +42,7 @@ returns-2 c =
 
 -- src/refusing.rt:90:1
 returns-3 : tie.Need-returns-3
-returns-3 c = 
+returns-3 c =
     let bytes = c .before .before .before .before .before .before .before .args .bytes .now in
     let whole = taken-whole (c .before .before .before .before .before .before .before .args .bytes .now) (c .before .before .before .before .before .take .result) (c .before .before .before .before .before .take .ensures) (c .before .before .before .if1 .left) in
     let none : takenOf bytes .refusal ≡ 0 = ap (λ (x : Taken). x .refusal) (sym (c .before .before .before .before .before .take .ensures) ∙ whole) in

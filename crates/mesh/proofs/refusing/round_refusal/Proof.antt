@@ -44,7 +44,7 @@ tables-refusal-requires c κs = rw (c .chips .ensures) (chips-small _ _ (holds-s
 
 -- src/refusing.rt:60:9
 returns-2 : tie.Need-returns-2
-returns-2 c = 
+returns-2 c =
     let e = rw (c .before .before .chips .ensures) at (sym (c .before .tables-refusal .ensures)) in
     sym (round-first (holdsMesh (c .before .before .before .before .before .before .before .before .before .before .before .args .mesh .now)) (chipsOf (c .before .before .before .before .before .before .before .before .before .before .before .args .mesh .now)) (inFlight (meshOf (c .before .before .before .before .before .before .before .before .before .before .before .args .mesh .now))) (tablesOf (c .before .before .before .before .before .before .before .before .before .before .before .args .rows .now) (c .before .before .before .before .before .before .before .before .before .before .before .args .starts .now) (c .before .before .before .before .before .before .before .before .before .before .before .args .codes .now)) (c .before .before .before .before .before .before .before .before .before .before .before .args .room) ∙ simp (sym (c .before .before .before .before .before .before .holds .ensures) ∙ not-false _ (c .before .before .before .before .before .if1 .left), e, ne-eqb _ 0 (c .if2 .taken)))
 
@@ -62,13 +62,13 @@ mul-if3 c = search needs
 
 -- src/refusing.rt:63:9
 returns-3 : tie.Need-returns-3
-returns-3 c = 
+returns-3 c =
     let e = rw (c .before .before .before .before .chips .ensures) at (sym (c .before .before .before .tables-refusal .ensures)) in
     sym (round-first (holdsMesh (c .before .before .before .before .before .before .before .before .before .before .before .before .before .args .mesh .now)) (chipsOf (c .before .before .before .before .before .before .before .before .before .before .before .before .before .args .mesh .now)) (inFlight (meshOf (c .before .before .before .before .before .before .before .before .before .before .before .before .before .args .mesh .now))) (tablesOf (c .before .before .before .before .before .before .before .before .before .before .before .before .before .args .rows .now) (c .before .before .before .before .before .before .before .before .before .before .before .before .before .args .starts .now) (c .before .before .before .before .before .before .before .before .before .before .before .before .before .args .codes .now)) (c .before .before .before .before .before .before .before .before .before .before .before .before .before .args .room) ∙ simp (sym (c .before .before .before .before .before .before .before .before .holds .ensures) ∙ not-false _ (c .before .before .before .before .before .before .before .if1 .left), e, eq-eqb _ 0 (c .before .before .if2 .left), lt-ltb _ _ (rw (c .before .in-flight .ensures) at (c .if3 .taken))))
 
 -- src/refusing.rt:51:1
 returns-4 : tie.Need-returns-4
-returns-4 c = 
+returns-4 c =
     let e = rw (c .before .before .before .before .chips .ensures) at (sym (c .before .before .before .tables-refusal .ensures)) in
     sym (round-first (holdsMesh (c .before .before .before .before .before .before .before .before .before .before .before .before .before .args .mesh .now)) (chipsOf (c .before .before .before .before .before .before .before .before .before .before .before .before .before .args .mesh .now)) (inFlight (meshOf (c .before .before .before .before .before .before .before .before .before .before .before .before .before .args .mesh .now))) (tablesOf (c .before .before .before .before .before .before .before .before .before .before .before .before .before .args .rows .now) (c .before .before .before .before .before .before .before .before .before .before .before .before .before .args .starts .now) (c .before .before .before .before .before .before .before .before .before .before .before .before .before .args .codes .now)) (c .before .before .before .before .before .before .before .before .before .before .before .before .before .args .room) ∙ simp (sym (c .before .before .before .before .before .before .before .before .holds .ensures) ∙ not-false _ (c .before .before .before .before .before .before .before .if1 .left), e, eq-eqb _ 0 (c .before .before .if2 .left), le-ltb _ _ (rw (c .before .in-flight .ensures) at (c .if3 .left))))
 

@@ -1,0 +1,42 @@
+-- A sound mesh stays sound over a link change and over a chip's registers being read. Assumes nothing.
+use mathlib.Core.Path.{_≡_, refl, _∙_}
+use mathlib.Core.Bool.{Bool}
+use Prim.Native.Nat.{ℕ, _*_, _<_}
+use native.Mathlib.Omega.{arith}
+use lib.ListN.{getD, length-set}
+use Rattle.mesh.specs.Mesh.{Chip, Mesh, idle, fresh}
+use Rattle.mesh.specs.Steps.{withChip}
+use Rattle.mesh.specs.Calls.{withLink, withEmpty}
+use Rattle.mesh.specs.Sound.{SoundLine, SoundChip, SoundMesh}
+use Rattle.mesh.proofs.Alls.{all-getD, all-set}
+
+-- a chip changed, all else as it was
+sound-chip : {A : Type 0} {m : Mesh A} (chip : ℕ) (c : Chip A) → SoundMesh m → SoundChip c → SoundMesh (withChip m chip c)
+sound-chip {m} chip c sound h =
+    record {
+      size = sound .size;
+      rounds = sound .rounds;
+      monitor = sound .monitor;
+      phase = sound .phase;
+      elapsed = sound .elapsed;
+      many = length-set (m .chips) chip c ∙ sound .many;
+      chips = all-set SoundChip (m .chips) chip c (sound .chips) h;
+    }
+
+module _ {A : Type 0} {m : Mesh A} (sound : SoundMesh m) where
+  pub chip-sound : (chip : ℕ) → chip < m .height * m .width → SoundChip (getD (m .chips) chip fresh)
+  chip-sound chip h = all-getD SoundChip (m .chips) chip fresh (sound .chips) (omega (arith, sound .many))
+
+  pub sound-linked : (chip link : ℕ) (up : Bool) → chip < m .height * m .width → link < 6 → SoundMesh (withLink m chip link up)
+  sound-linked chip link up h k =
+      let c = chip-sound chip h in
+      let l : SoundLine (getD (getD (m .chips) chip fresh .lines) link idle) = all-getD SoundLine (getD (m .chips) chip fresh .lines) link idle (c .lines) (omega (arith, c .six)) in
+      sound-chip chip _ sound
+      (record {
+        six = length-set (getD (m .chips) chip fresh .lines) link _ ∙ c .six;
+        registers = c .registers;
+        lines = all-set SoundLine (getD (m .chips) chip fresh .lines) link _ (c .lines) (record { few = l .few; fine = l .fine });
+      })
+
+  pub sound-emptied : (chip : ℕ) → chip < m .height * m .width → SoundMesh (withEmpty m chip)
+  sound-emptied chip h = let c = chip-sound chip h in sound-chip chip _ sound (record { six = c .six; registers = refl; lines = c .lines })

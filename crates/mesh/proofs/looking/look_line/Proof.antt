@@ -1,0 +1,48 @@
+use borrow.Author.Needs.{needs}
+use mathlib.Core.Path.{_∙_, sym, ap}
+use lib.ListN.{getD, drop}
+use Rattle.mesh.specs.Calls.{bit}
+use Rattle.mesh.proofs.Places.{length-places}
+use Rattle.mesh.proofs.looking.look_line.Statement.{statement}
+use Rattle.mesh.proofs.looking.look_line.Tie as tie
+use Rattle.mesh.proofs.looking.look_line.Reads as reads
+use Rattle.mesh.proofs.looking.look_line.Lts as lts
+use Rattle.mesh.proofs.line.is_ready.Reads as is-ready-reads
+use Rattle.router.proofs.errors.flag_of.Reads as flag-of-reads
+
+-- src/looking.rt:88:21
+shared-slice-read-flag-of : tie.Need-shared-slice-read-flag-of
+shared-slice-read-flag-of c = search needs
+
+-- src/looking.rt:88:13
+flag-of-requires : tie.Need-flag-of-requires
+flag-of-requires c κs = search needs
+
+-- src/looking.rt:89:15
+shared-slice-read-t7 : tie.Need-shared-slice-read-t7
+shared-slice-read-t7 c = search needs
+
+-- src/looking.rt:90:24
+is-ready-requires : tie.Need-is-ready-requires
+is-ready-requires c κs = search needs
+
+-- src/looking.rt:90:16
+flag-of-requires-2 : tie.Need-flag-of-requires-2
+flag-of-requires-2 c κs = search needs
+
+-- src/looking.rt:82:1
+returns : tie.Need-returns
+returns c =
+    let l = c .before .before .before .before .before .before .args .line .now in
+    λ i. record { refusal = 0; up = c .before .before .before .flag-of .ensures .0 i; held = sym (length-places (getD l 1 0) (drop 2 l)) i; ready = (c .flag-of2 .ensures .0 ∙ ap bit (c .before .is-ready .ensures)) i }
+
+pub look-line-spec : {M : Type 1} → statement M
+look-line-spec =
+    tie.close
+    (tie.spec
+    shared-slice-read-flag-of
+    flag-of-requires
+    shared-slice-read-t7
+    is-ready-requires
+    flag-of-requires-2
+    returns)

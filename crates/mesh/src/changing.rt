@@ -1,0 +1,77 @@
+// The calls that change one thing: a link's state, a chip's registers.
+use super::RegistersRead;
+use super::holding::registers_at;
+use super::opening::clear;
+use super::refusing::chip_refusal;
+use super::refusing::number_refusal;
+use router::keeping::empty_registers;
+ghost use mathlib.Core.Path.{_≡_};
+ghost use mathlib.Core.List.{_++_};
+ghost use lib.ListN.{length, drop, replicate, set};
+ghost use Prim.Native.Nat.{_<_};
+ghost use Rattle.mesh.specs.Layout.{part, meshOf};
+ghost use Rattle.mesh.specs.Holding.{holdsMesh};
+ghost use Rattle.mesh.specs.Chips.{putBack, changedOn};
+ghost use Rattle.mesh.specs.Calls.{registersRead};
+ghost use Rattle.mesh.specs.Leaving.{Leaves, linkLeft, registersLeft, stateOf, stateOn};
+
+// Takes one directed link of a chip up or down. Refusals, the first that applies: 8 no mesh, 9 chip or link.
+pub fn set_link(mesh: &mut [u32], chip: u32, link: u32, up: bool) -> u32
+    ensures { λ r. ⌜ r ≡ linkLeft (now (mesh .entry)) chip link up .refusal ⌝ }
+    ensures { λ r. ⌜ Leaves (now (mesh .entry)) (now (mesh .exit)) (linkLeft (now (mesh .entry)) chip link up) ⌝ }
+{
+    let refusal = number_refusal(mesh, chip, link, 6);
+    if refusal != 0 {
+        return refusal;
+    }
+    let at = 6 + (chip as usize) * 322;
+    link_on_chip(&mut mesh[at..at + 322], link as usize, up);
+    0
+}
+
+fn link_on_chip(chip: &mut [u32], link: usize, up: bool)
+    requires { ⌜ (length (now chip) ≡ 322) × (link < 6) ⌝ }
+    ensures { λ _. ⌜ now (chip .exit) ≡ changedOn (stateOn up) (now (chip .entry)) link ⌝ }
+{
+    let at = 16 + link * 51;
+    state_of_line(&mut chip[at..at + 51], up);
+}
+
+fn state_of_line(line: &mut [u32], up: bool)
+    requires { ⌜ length (now line) ≡ 51 ⌝ }
+    ensures { λ _. ⌜ now (line .exit) ≡ set (now (line .entry)) 0 (stateOf up) ⌝ }
+{
+    if up {
+        line[0] = 0;
+    } else {
+        line[0] = 1;
+    }
+}
+
+// Hands over a chip's error registers and empties them. Refusals, the first that applies: 8 no mesh, 9 chip.
+pub fn read_registers(mesh: &mut [u32], chip: u32) -> RegistersRead
+    ensures { λ r. ⌜ r ≡ registersRead (holdsMesh (now (mesh .entry))) (meshOf (now (mesh .entry))) chip ⌝ }
+    ensures { λ r. ⌜ Leaves (now (mesh .entry)) (now (mesh .exit)) (registersLeft (now (mesh .entry)) chip) ⌝ }
+{
+    let refusal = chip_refusal(mesh, chip);
+    if refusal != 0 {
+        return RegistersRead {
+            refusal,
+            registers: empty_registers(),
+        };
+    }
+    let at = 6 + (chip as usize) * 322;
+    let registers = registers_at(&mesh[at..at + 6]);
+    empty_chip(&mut mesh[at..at + 322]);
+    RegistersRead {
+        refusal: 0,
+        registers,
+    }
+}
+
+fn empty_chip(chip: &mut [u32])
+    requires { ⌜ length (now chip) ≡ 322 ⌝ }
+    ensures { λ _. ⌜ now (chip .exit) ≡ putBack 0 6 (replicate 6 0 ++ drop 6 (part 0 6 (now (chip .entry)))) (now (chip .entry)) ⌝ }
+{
+    clear(&mut chip[0..6], 6);
+}

@@ -1,0 +1,89 @@
+// The calls that only look.
+use super::CountRead;
+use super::LinkRead;
+use super::MeshRead;
+use super::flight::in_flight;
+use super::holding::holds;
+use super::line::is_ready;
+use super::refusing::number_refusal;
+use router::call::chips;
+use router::errors::flag_of;
+ghost use mathlib.Core.Path.{_≡_};
+ghost use lib.ListN.{length};
+ghost use Rattle.mesh.specs.Layout.{meshOf, lineIn};
+ghost use Rattle.mesh.specs.Holding.{holdsMesh};
+ghost use Rattle.mesh.specs.Calls.{countRead, meshRead, lineRead, linkRead};
+
+// One of a chip's ten counters. Refusals, the first that applies: 8 no mesh, 9 chip or counter.
+pub fn read_counter(mesh: &[u32], chip: u32, counter: u32) -> CountRead
+    ensures { λ r. ⌜ r ≡ countRead (holdsMesh (now (mesh .entry))) (meshOf (now (mesh .entry))) chip counter ⌝ }
+{
+    let refusal = number_refusal(mesh, chip, counter, 10);
+    if refusal != 0 {
+        return CountRead { refusal, count: 0 };
+    }
+    let at = 6 + (chip as usize) * 322 + (6 + counter as usize);
+    CountRead {
+        refusal: 0,
+        count: mesh[at],
+    }
+}
+
+// The mesh's size, phase and monitor, and how many packets are in flight: 8 where there is no mesh.
+pub fn look_mesh(mesh: &[u32]) -> MeshRead
+    ensures { λ r. ⌜ r ≡ meshRead (holdsMesh (now (mesh .entry))) (meshOf (now (mesh .entry))) ⌝ }
+{
+    if !holds(mesh) {
+        return MeshRead {
+            refusal: 8,
+            width: 0,
+            height: 0,
+            rounds_per_phase: 0,
+            monitor: 0,
+            phase: 0,
+            rounds_in_phase: 0,
+            in_flight: 0,
+        };
+    }
+    let all = chips(mesh[0], mesh[1]);
+    MeshRead {
+        refusal: 0,
+        width: mesh[0],
+        height: mesh[1],
+        rounds_per_phase: mesh[2],
+        monitor: mesh[3],
+        phase: mesh[4],
+        rounds_in_phase: mesh[5],
+        in_flight: in_flight(mesh, all),
+    }
+}
+
+// One directed link of a chip: whether it is up, how many packets it holds, whether it is ready. Refusals, the first that
+// applies: 8 no mesh, 9 chip or link.
+pub fn look_link(mesh: &[u32], chip: u32, link: u32) -> LinkRead
+    ensures { λ r. ⌜ r ≡ linkRead (holdsMesh (now (mesh .entry))) (meshOf (now (mesh .entry))) chip link ⌝ }
+{
+    let refusal = number_refusal(mesh, chip, link, 6);
+    if refusal != 0 {
+        return LinkRead {
+            refusal,
+            up: 0,
+            held: 0,
+            ready: 0,
+        };
+    }
+    let at = 6 + (chip as usize) * 322 + (16 + (link as usize) * 51);
+    look_line(&mesh[at..at + 51])
+}
+
+fn look_line(line: &[u32]) -> LinkRead
+    requires { ⌜ length (now line) ≡ 51 ⌝ }
+    ensures { λ r. ⌜ r ≡ lineRead (lineIn (now (line .entry))) ⌝ }
+{
+    LinkRead {
+        refusal: 0,
+        up: flag_of(line[0] == 0, 1),
+        held: line[1],
+        ready: flag_of(is_ready(line), 1),
+    }
+}
