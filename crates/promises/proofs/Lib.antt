@@ -1,1 +1,2 @@
+pub mod Flights
 pub mod Told
