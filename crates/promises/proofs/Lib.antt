@@ -1,1 +1,3 @@
+pub mod Accepts
+pub mod Histories
 pub mod Told
