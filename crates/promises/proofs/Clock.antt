@@ -1,15 +1,17 @@
 -- The phase of a mesh after so many rounds, and when a stamp is too old: just at the round that ends its span. Assumes nothing.
 use mathlib.Core.Path.{_≡_, refl, sym, ap, _∙_}
-use mathlib.Core.Bool.{Bool, true, false, cond, and-eq-true-iff}
+use mathlib.Core.Bool.{Bool, true, false, and-eq-true-iff}
+use mathlib.Core.List.{List}
 use Prim.Native.Nat.{ℕ, zero, suc, _+_, _-_, _*_, _/_, _%_, _≤_, _<_}
 use native.Mathlib.Nat.{mod-lt, zero-mod, zero-div, div-add-mod', div-eq-of-lt-le, mul-div-cancel, le-div-iff-mul-le, div-lt-iff-lt-mul}
 use native.Mathlib.Decide.{ℕ-discrete}
 use native.Mathlib.Omega.{arith}
 use lib.Dec.{ltb, leb}
 use borrow.Author.Tests.{ltb-true, leb-true, ltb-false}
-use Rattle.mesh.specs.Mesh.{Mesh, opened}
-use Rattle.mesh.specs.Steps.{nextPhase, roundOver}
+use Rattle.mesh.specs.Mesh.{Chip, Mesh, opened}
+use Rattle.mesh.specs.Steps.{nextPhase, withChips, roundOver}
 use Rattle.mesh.specs.Opening.{roundsFine}
+use Rattle.mesh.proofs.SoundSteps.{SameHead}
 use Rattle.promises.specs.Demand3.{span}
 
 -- ---- the phase code after so many steps
@@ -99,6 +101,13 @@ pub record Clock {A : Type 0} (f n : ℕ) (m : Mesh A) : Type 0 where
   pub rounds : m .rounds ≡ f
   pub elapsed : m .elapsed ≡ n % f
   pub phase : m .phase ≡ code (n / f)
+
+-- only the header counts
+pub clock-chips : {A : Type 0} {f n : ℕ} {m : Mesh A} (chips : List (Chip A)) → Clock f n m → Clock f n (withChips m chips)
+clock-chips chips c = record { rounds = c .rounds; elapsed = c .elapsed; phase = c .phase }
+
+pub clock-same : {A : Type 0} {f n : ℕ} {m k : Mesh A} → SameHead m k → Clock f n m → Clock f n k
+clock-same h c = record { rounds = h .rounds ∙ c .rounds; elapsed = h .elapsed ∙ c .elapsed; phase = h .phase ∙ c .phase }
 
 -- "F, the rounds in a phase, is 1 to 65,535."
 pub rounds-some : (f : ℕ) → roundsFine f ≡ true → 0 < f

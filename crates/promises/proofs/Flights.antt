@@ -2,19 +2,20 @@
 -- them; and what each such pass shows, every record of them shows. Assumes nothing.
 use mathlib.Core.Path.{_≡_, refl, sym, subst}
 use mathlib.Core.Bool.{Bool, true, false}
-use mathlib.Core.List.{List, [], _∷_, _++_, map, foldl}
+use mathlib.Core.List.{List, [], _∷_, _++_, foldl}
 use Prim.Native.Nat.{ℕ, zero, suc, _+_, _*_, _≤_, _<_}
 use native.Mathlib.Omega.{arith}
+use lib.Dec.{lit<}
 use lib.ListN.{length, getD}
 use Rattle.packet.specs.declared.Packet.{Packet}
 use Rattle.router.specs.declared.Outcome.{Outcome}
 use Rattle.router.specs.Links.{has}
 use Rattle.router.specs.Deciding.{packetOn, legPacket}
-use Rattle.mesh.specs.Mesh.{Flight, Line, Chip, Mesh, idle, fresh, across, opposite}
-use Rattle.mesh.specs.Steps.{Tables, Arrival, Going, rowsAt, codesAt, settingAt, outcomeAt, sent, lineAfter, linesAfter, chipAfter, emptied, emptiedChip, setAside, arrivingBy, arrivingAt, arrivingFrom, arrivals, passAt}
+use Rattle.mesh.specs.Mesh.{Flight, Line, Chip, Mesh, idle, fresh, opened, across, opposite}
+use Rattle.mesh.specs.Steps.{Tables, Arrival, Going, rowsAt, codesAt, settingAt, outcomeAt, sent, lineAfter, linesAfter, emptied, emptiedChip, setAside, arrivingBy, arrivingAt, arrivingFrom, arrivals, passAt}
 use Rattle.mesh.specs.Calls.{chipOf, withLink, withEmpty}
 use Rattle.mesh.specs.Sound.{All, Arrives, SoundChip, SoundMesh}
-use Rattle.mesh.proofs.Alls.{all-nil, all-append, all-getD, all-set, all-map, all-replicate}
+use Rattle.mesh.proofs.Alls.{all-nil, all-append, all-getD, all-set, all-map, all-weaken, all-replicate}
 use Rattle.mesh.proofs.SoundSteps.{CodesFor, sound-pass}
 use Rattle.promises.specs.History.{Tag, Passage, turned, passages}
 use Rattle.promises.specs.Told.{EachFlight, EachPass}
@@ -66,6 +67,9 @@ module _ {A : Type 0} (Q : Flight A → Type 0) where
   fresh-each : EachOn fresh
   fresh-each = all-replicate EachHeld 6 idle (all-nil Q)
 
+  pub each-opened : (w h f monitor : ℕ) → EachFlight Q (opened w h f monitor)
+  each-opened w h f monitor = all-replicate EachOn (h * w) fresh fresh-each
+
   -- ---- what a round begins with
 
   pub each-aside : (m : Mesh A) → EachFlight Q (setAside m)
@@ -75,11 +79,12 @@ module _ {A : Type 0} (Q : Flight A → Type 0) where
 
   -- ---- arrivals
 
-  abbrev Arriving : Arrival A → Type 0
-  Arriving a = Q (a .flight)
+  -- a packet that comes by a link
+  abbrev pub Arriving : Arrival A → Type 0
+  Arriving a = (a .source < 6) × Q (a .flight)
 
-  each-by : (m : Mesh A) → EachFlight Q m → (chip source : ℕ) → All Arriving (arrivingBy m chip source)
-  each-by m each chip source = all-map Arriving _ _ line
+  each-by : (m : Mesh A) → EachFlight Q m → (chip source : ℕ) → source < 6 → All Arriving (arrivingBy m chip source)
+  each-by m each chip source near = all-map Arriving _ _ (all-weaken Q _ (λ f q. (near, q)) _ line)
     where
       sender : EachOn (getD (m .chips) (across (m .width) (m .height) chip source) fresh)
       sender = all-or EachOn (m .chips) _ fresh each fresh-each
@@ -88,12 +93,13 @@ module _ {A : Type 0} (Q : Flight A → Type 0) where
       line = all-or EachHeld _ (opposite source) idle sender (all-nil Q)
 
   each-at : (m : Mesh A) → EachFlight Q m → (chip : ℕ) → All Arriving (arrivingAt m chip)
-  each-at m each chip = join _ _ (join _ _ (join _ _ (join _ _ (join _ _ (by 0) (by 1)) (by 2)) (by 3)) (by 4)) (by 5)
+  each-at m each chip =
+      join _ _ (join _ _ (join _ _ (join _ _ (join _ _ (by 0 (lit< tt)) (by 1 (lit< tt))) (by 2 (lit< tt))) (by 3 (lit< tt))) (by 4 (lit< tt))) (by 5 (lit< tt))
     where
       join : (xs ys : List (Arrival A)) → All Arriving xs → All Arriving ys → All Arriving (xs ++ ys)
       join = all-append Arriving
 
-      by : (source : ℕ) → All Arriving (arrivingBy m chip source)
+      by : (source : ℕ) → source < 6 → All Arriving (arrivingBy m chip source)
       by = each-by m each chip
 
   each-from : (m : Mesh A) → EachFlight Q m → (n chip : ℕ) → All Arriving (arrivingFrom m chip n)
@@ -102,7 +108,7 @@ module _ {A : Type 0} (Q : Flight A → Type 0) where
   each-from m each (suc n) chip = all-append Arriving _ _ (each-at m each chip) (each-from m each n (suc chip))
 
   -- what is in flight arrives in the next round
-  pub each-arrival : (m : Mesh A) → EachFlight Q m → All (λ (a : Arrival A). Q (a .flight)) (arrivals m)
+  pub each-arrival : (m : Mesh A) → EachFlight Q m → All Arriving (arrivals m)
   each-arrival m each = each-from m each (m .height * m .width) 0
 
   -- ---- the calls that pass nothing
@@ -118,13 +124,16 @@ module _ {A : Type 0} (Q : Flight A → Type 0) where
   pub each-emptied : (m : Mesh A) (chip : ℕ) → EachFlight Q m → EachFlight Q (withEmpty m chip)
   each-emptied m chip each = all-set EachOn (m .chips) chip _ each (each-here m chip each)
 
+pub each-weaken : {A : Type 0} (P Q : Flight A → Type 0) → ((x : Flight A) → P x → Q x) → (m : Mesh A) → EachFlight P m → EachFlight Q m
+each-weaken P Q f m = all-weaken (EachOn P) (EachOn Q) (λ c. all-weaken (EachHeld P) (EachHeld Q) (λ l. all-weaken P Q f (l .held)) (c .lines)) (m .chips)
+
 -- ---- passes, one after the other
 
 -- what holds of a pass of arrival a, in any sound mesh of a phase
 abbrev pub InPhase : {A : Type 0} → Tables → ℕ → (Arrival A → Type 0) → (Mesh A → Arrival A → Type 0) → Type 0
 InPhase t phase P R = (m : Mesh _) → m .phase ≡ phase → SoundMesh m → CodesFor t m → (a : Arrival _) → Arrives (m .height * m .width) a → P a → R m a
 
-module _ {A : Type 0} (t : Tables) (turn : A → A) (P : Arrival A → Type 0) (Q : Flight A → Type 0) where
+module _ {A : Type 0} (t : Tables) (turn : A → A) (Q : Flight A → Type 0) where
   -- all that the pass of an arrival sends
   abbrev pub HandsOn : Mesh A → Arrival A → Type 0
   HandsOn m a = Sends Q (outcomeAt t m (a .chip) (a .source) (a .flight .packet)) (turn (a .flight .tag))
@@ -146,12 +155,12 @@ module _ {A : Type 0} (t : Tables) (turn : A → A) (P : Arrival A → Type 0) (
       lines : EachOn Q (getD (g .mesh .chips) (a .chip) fresh)
       lines = all-getD (EachOn Q) (g .mesh .chips) (a .chip) fresh each there
 
-  pub each-after-passes : (phase : ℕ) → InPhase t phase P HandsOn → (g : Going A) (later : List (Arrival A)) → g .mesh .phase ≡ phase → SoundMesh (g .mesh) → CodesFor t (g .mesh)
+  pub each-after-passes : (P : Arrival A → Type 0) (phase : ℕ) → InPhase t phase P HandsOn → (g : Going A) (later : List (Arrival A)) → g .mesh .phase ≡ phase → SoundMesh (g .mesh) → CodesFor t (g .mesh)
       → All (Arrives (g .mesh .height * g .mesh .width)) later → All P later → EachFlight Q (g .mesh) → EachFlight Q (foldl (passAt t turn) g later .mesh)
   unfolding All
-  each-after-passes phase hands g [] now sound codes h p each = each
-  each-after-passes phase hands g (a ∷ later) now sound codes h p each =
-      each-after-passes phase hands (passAt t turn g a) later now (sound-pass t turn g a sound codes (h .0)) codes (h .1) (p .1)
+  each-after-passes P phase hands g [] now sound codes h p each = each
+  each-after-passes P phase hands g (a ∷ later) now sound codes h p each =
+      each-after-passes P phase hands (passAt t turn g a) later now (sound-pass t turn g a sound codes (h .0)) codes (h .1) (p .1)
       (each-after-pass g a sound (h .0) (hands (g .mesh) now sound codes a (h .0) (p .0)) each)
 
 -- the record of a pass
