@@ -1,3 +1,5 @@
 pub mod Accepts
+pub mod Forgets
 pub mod Histories
+pub mod Plains
 pub mod Told
