@@ -2,4 +2,6 @@ pub mod Accepts
 pub mod Forgets
 pub mod Histories
 pub mod Plains
+pub mod Records
+pub mod Runs
 pub mod Told
