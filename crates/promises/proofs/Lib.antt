@@ -1,4 +1,5 @@
 pub mod Accepts
+pub mod Counted
 pub mod Forgets
 pub mod Histories
 pub mod Plains
