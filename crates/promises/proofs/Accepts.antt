@@ -115,11 +115,11 @@ module _ (s : State) where
   afterRead chip =
       record { mesh = withEmpty (s .mesh) chip; injections = s .injections; rounds = s .rounds; events = s .events ++ emptied chip ∷ []; log = s .log }
 
-  -- what a call answers that is accepted
+  -- what a call leaves
   abbrev here : Call → Left Tag
   here c = leftBy turned (tagNow s) (s .mesh) c
 
-  -- a state to which nothing is added
+  -- a state, field by field
   abbrev plainly : Mesh Tag → List Event → List ℕ → ℕ → ℕ → State
   plainly m events log i r = record { mesh = m; injections = i; rounds = r; events = events; log = log }
 

@@ -19,7 +19,8 @@ use Rattle.promises.specs.Demand3.{Always, span, LinksCrossed, GoneInTim
 use Rattle.promises.proofs.Told.{each-append}
 use Rattle.promises.proofs.Accepts as accepts
 use Rattle.promises.proofs.Histories.{Kept, always-kept}
-use Rattle.promises.proofs.Flights.{Arriving, HandsOn, InPhase, passageOf, each-weaken, each-opened, each-aside, each-arrival, each-linked, each-emptied, each-after-pass, each-after-passes, each-passage}
+use Rattle.promises.proofs.Runs.{passage}
+use Rattle.promises.proofs.Flights.{Arriving, HandsOn, InPhase, each-weaken, each-opened, each-aside, each-arrival, each-linked, each-emptied, each-after-pass, each-after-passes, each-passage}
 use Rattle.promises.proofs.Clock.{Clock, clock-opened, clock-chips, clock-same, clock-over, rounds-some}
 use Rattle.promises.proofs.Aged.{Ages, aged-crossing, aged-sent, aged-injected, old-late}
 
@@ -90,10 +91,10 @@ module _ (f : ℕ) (s : State) (t : Tables) (sound : SoundMesh (s .mesh)) (codes
       sends m now sound′ codes′ a arrives come =
           aged-sent f (s .rounds) some _ _ _ _ _ (checked t m a sound′ codes′ arrives) (arrives .from) (now ∙ ageing .clock .phase) (a .flight .tag) (come .0) (come .1)
 
-      crosses : InPhase t (s .mesh .phase) (Arriving (Ages f (s .rounds))) (λ m a. Crossing f (passageOf t (s .rounds) m a))
+      crosses : InPhase t (s .mesh .phase) (Arriving (Ages f (s .rounds))) (λ m a. Crossing f (passage t (s .rounds) m a))
       crosses m now sound′ codes′ a arrives come low = aged-crossing f (s .rounds) (a .flight) (come .1 low)
 
-      stops : InPhase t (s .mesh .phase) (Arriving (Ages f (s .rounds))) (λ m a. Timely f (passageOf t (s .rounds) m a))
+      stops : InPhase t (s .mesh .phase) (Arriving (Ages f (s .rounds))) (λ m a. Timely f (passage t (s .rounds) m a))
       stops m now sound′ codes′ a arrives come =
           old-late f (s .rounds) some _ _ _ _ _ (checked t m a sound′ codes′ arrives) (arrives .from) (now ∙ ageing .clock .phase) (a .flight .tag) (λ near. come .1)
 

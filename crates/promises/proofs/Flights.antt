@@ -12,13 +12,14 @@ use Rattle.router.specs.declared.Outcome.{Outcome}
 use Rattle.router.specs.Links.{has}
 use Rattle.router.specs.Deciding.{packetOn, legPacket}
 use Rattle.mesh.specs.Mesh.{Flight, Line, Chip, Mesh, idle, fresh, opened, across, opposite}
-use Rattle.mesh.specs.Steps.{Tables, Arrival, Going, rowsAt, codesAt, settingAt, outcomeAt, sent, lineAfter, linesAfter, emptied, emptiedChip, setAside, arrivingBy, arrivingAt, arrivingFrom, arrivals, passAt}
+use Rattle.mesh.specs.Steps.{Tables, Arrival, Going, outcomeAt, sent, lineAfter, linesAfter, emptied, emptiedChip, setAside, arrivingBy, arrivingAt, arrivingFrom, arrivals, passAt}
 use Rattle.mesh.specs.Calls.{chipOf, withLink, withEmpty}
 use Rattle.mesh.specs.Sound.{All, Arrives, SoundChip, SoundMesh}
 use Rattle.mesh.proofs.Alls.{all-nil, all-append, all-getD, all-set, all-map, all-weaken, all-replicate}
 use Rattle.mesh.proofs.SoundSteps.{CodesFor, sound-pass}
 use Rattle.promises.specs.History.{Tag, Passage, turned, passages}
 use Rattle.promises.specs.Told.{EachFlight, EachPass}
+use Rattle.promises.proofs.Runs.{passage}
 
 -- ---- lists
 
@@ -163,20 +164,7 @@ module _ {A : Type 0} (t : Tables) (turn : A → A) (Q : Flight A → Type 0) wh
       each-after-passes P phase hands (passAt t turn g a) later now (sound-pass t turn g a sound codes (h .0)) codes (h .1) (p .1)
       (each-after-pass g a sound (h .0) (hands (g .mesh) now sound codes a (h .0) (p .0)) each)
 
--- the record of a pass
-abbrev pub passageOf : Tables → ℕ → Mesh Tag → Arrival Tag → Passage
-passageOf t n m a =
-    record {
-      arrival = a;
-      rounds = n;
-      here = getD (m .chips) (a .chip) fresh;
-      rows = rowsAt t (a .chip);
-      codes = codesAt t (m .height * m .width) (a .chip);
-      setting = settingAt m (getD (m .chips) (a .chip) fresh);
-      outcome = outcomeAt t m (a .chip) (a .source) (a .flight .packet);
-    }
-
-pub each-passage : (t : Tables) (P : Arrival Tag → Type 0) (R : Passage → Type 0) (n phase : ℕ) → InPhase t phase P (λ m a. R (passageOf t n m a)) → (g : Going Tag) (later : List (Arrival Tag))
+pub each-passage : (t : Tables) (P : Arrival Tag → Type 0) (R : Passage → Type 0) (n phase : ℕ) → InPhase t phase P (λ m a. R (passage t n m a)) → (g : Going Tag) (later : List (Arrival Tag))
     → g .mesh .phase ≡ phase → SoundMesh (g .mesh) → CodesFor t (g .mesh) → All (Arrives (g .mesh .height * g .mesh .width)) later → All P later → EachPass R (passages t n g later)
 unfolding All EachPass passages
 each-passage t P R n phase shows g [] now sound codes h p = tt

@@ -2,7 +2,12 @@ pub mod Accepts
 pub mod Aged
 pub mod Ages
 pub mod Clock
+pub mod Counted
 pub mod Flights
+pub mod Forgets
 pub mod Histories
+pub mod Plains
+pub mod Records
+pub mod Runs
 pub mod Stamps
 pub mod Told
