@@ -68,6 +68,9 @@ module _ {A : Type 0} (Q : Flight A → Type 0) where
   fresh-each : EachOn fresh
   fresh-each = all-replicate EachHeld 6 idle (all-nil Q)
 
+  pub each-any : ((x : Flight A) → Q x) → (m : Mesh A) → EachFlight Q m
+  each-any h m = all-any EachOn (λ c. all-any EachHeld (λ l. all-any Q h (l .held)) (c .lines)) (m .chips)
+
   pub each-opened : (w h f monitor : ℕ) → EachFlight Q (opened w h f monitor)
   each-opened w h f monitor = all-replicate EachOn (h * w) fresh fresh-each
 

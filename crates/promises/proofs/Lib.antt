@@ -1,4 +1,5 @@
 pub mod Accepts
+pub mod Accounts
 pub mod Aged
 pub mod Ages
 pub mod Clock
@@ -11,3 +12,4 @@ pub mod Records
 pub mod Runs
 pub mod Stamps
 pub mod Told
+pub mod Weighs
