@@ -1,8 +1,10 @@
 pub mod Accepts
 pub mod Counted
+pub mod Dropped
 pub mod Forgets
 pub mod Histories
 pub mod Plains
 pub mod Records
+pub mod Registered
 pub mod Runs
 pub mod Told
