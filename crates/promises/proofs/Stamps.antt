@@ -25,18 +25,18 @@ pub record SameStamp (p q : Packet) : Type 0 where
   pub kind : kindOf (q .control) ≡ kindOf (p .control)
   pub stamp : stampOf (q .control) ≡ stampOf (p .control)
 
-scaled : (b : Bool) (n : ℕ) → flag b n ≡ n * flag b 1
-scaled true n = omega arith
-scaled false n = omega arith
+flag-scaled : (b : Bool) (n : ℕ) → flag b n ≡ n * flag b 1
+flag-scaled true n = omega arith
+flag-scaled false n = omega arith
 
-few : (b : Bool) → flag b 1 ≤ 1
-few true = omega arith
-few false = omega arith
+flag-small : (b : Bool) → flag b 1 ≤ 1
+flag-small true = omega arith
+flag-small false = omega arith
 
 -- the second of four flags
-second : (a b c d : Bool) → (flag a 1 + flag b 2 + flag c 4 + flag d 8) / 2 % 2 ≡ 1 → b ≡ true
-second a true c d e = refl
-second a false c d e = absurd (omega (arith, few a, scaled c 4, scaled d 8))
+second-flag : (a b c d : Bool) → (flag a 1 + flag b 2 + flag c 4 + flag d 8) / 2 % 2 ≡ 1 → b ≡ true
+second-flag a true c d e = refl
+second-flag a false c d e = absurd (omega (arith, flag-small a, flag-scaled c 4, flag-scaled d 8))
 
 module _ (p : Packet) (s : ℕ) (rows codes : List ℕ) (t : Setting) (h : Checked p s codes t) (from : pass.Source s) where
   sent-kept : (i : ℕ) → SameStamp (outcomeOf p s rows codes t .packet) (packetOn (outcomeOf p s rows codes t) i)
@@ -88,7 +88,7 @@ module _ (p : Packet) (s : ℕ) (rows codes : List ℕ) (t : Setting) (h : Check
   pub old : outcomeOf p s rows codes t .errors / 2 % 2 ≡ 1 → (s < 6) × Stamped p × (stampOf (p .control) ≡ 3 - t .phase)
   unfolding outcomeOf decided
   old e =
-      let found : tooOld (p .control) s (t .phase) ≡ true = second (not (isOdd p)) (tooOld (p .control) s (t .phase)) (wrongLength p) (badLocal (p .control) s) e in
+      let found : tooOld (p .control) s (t .phase) ≡ true = second-flag (not (isOdd p)) (tooOld (p .control) s (t .phase)) (wrongLength p) (badLocal (p .control) s) e in
       let parts = and-eq-true-iff (ltb s 6 && ltb (kindOf (p .control)) 2) (eqb (stampOf (p .control)) (3 - t .phase)) .0 found in
       let near = and-eq-true-iff (ltb s 6) (ltb (kindOf (p .control)) 2) .0 (parts .0) in
       (ltb-true _ _ (near .0), ltb-true _ _ (near .1), eqb-true _ _ (parts .1))
