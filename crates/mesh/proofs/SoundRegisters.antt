@@ -25,7 +25,7 @@ use Rattle.mesh.proofs.Fitting.{no-link-wanted}
 use Rattle.mesh.proofs.SoundSends.{stamped-passable}
 
 -- a packet of odd parity is not all zeros
-odd-some : (q : Packet) → isOdd q ≡ true → (eqb (q .control) 0 && eqb (q .word) 0 && eqb (q .payload) 0) ≡ false
+pub odd-some : (q : Packet) → isOdd q ≡ true → (eqb (q .control) 0 && eqb (q .word) 0 && eqb (q .payload) 0) ≡ false
 unfolding ones
 odd-some q odd = go (eqb (q .control) 0 && eqb (q .word) 0 && eqb (q .payload) 0) refl
   where

@@ -117,7 +117,7 @@ module _ {A : Type 0} where
 
   -- ---- passes
 
-  checked : (t : Tables) (m : Mesh A) (a : Arrival A) → SoundMesh m → CodesFor t m → Arrives (m .height * m .width) a
+  pub checked : (t : Tables) (m : Mesh A) (a : Arrival A) → SoundMesh m → CodesFor t m → Arrives (m .height * m .width) a
       → Checked (a .flight .packet) (a .source) (codesAt t (m .height * m .width) (a .chip)) (settingAt m (getD (m .chips) (a .chip) fresh))
   checked t m a sound codes h =
       let size = inputs.size (m .width) (m .height) (sound .size) in

@@ -1,1 +1,17 @@
+pub mod Accepts
+pub mod Accounts
+pub mod Aged
+pub mod Ages
+pub mod Clock
+pub mod Counted
+pub mod Dropped
+pub mod Flights
+pub mod Forgets
+pub mod Histories
+pub mod Plains
+pub mod Records
+pub mod Registered
+pub mod Runs
+pub mod Stamps
 pub mod Told
+pub mod Weighs

@@ -1,0 +1,171 @@
+-- What is known of a call that is accepted: the numbers that it names are there, its tables are for this mesh, its packet may pass; and the
+-- state that it leaves, by the kind of the call. Assumes nothing.
+use mathlib.Core.Path.{_≡_, refl, ap, _∙_}
+use mathlib.Core.Bool.{Bool, true, false, cond, and-eq-true-iff}
+use mathlib.Core.List.{List, [], _∷_, _++_, append-nil}
+use Prim.Native.Nat.{ℕ, _+_, _*_, _<_}
+use native.Mathlib.Nat.{add-zero}
+use native.Mathlib.Omega.{arith}
+use lib.Dec.{eqb, ltb, lit<}
+use lib.ListN.{length, getD}
+use borrow.Author.Tests.{ltb-true, eqb-true, not-false}
+use Rattle.packet.specs.Bytes.{wordAt, packetAt, usedType}
+use Rattle.packet.specs.Control.{kindOf}
+use Rattle.packet.specs.Refusal.{firstOf}
+use Rattle.packet.proofs.First.{none-applies}
+use Rattle.tables.specs.Accept.{codesFine, allCodes}
+use Rattle.router.specs.Call.{isDirect}
+use Rattle.mesh.specs.Mesh.{Mesh}
+use Rattle.mesh.specs.Steps.{Tables, Arrival, Going, setAside, arrivals, injected, rounded}
+use Rattle.mesh.specs.Calls.{Left, many, unless, withLink, withEmpty, injectRefusals, roundRefusals, chipRefusals, linkRefusals}
+use Rattle.mesh.specs.Weights.{inFlight}
+use Rattle.mesh.specs.Sound.{Passable}
+use Rattle.mesh.proofs.SoundSteps.{CodesFor}
+use Rattle.promises.specs.History.{Call, inject, round, setLink, readRegisters, readCounter, lookMesh, lookLink, Tag, State, Event, emptied, leftBy, turned, tagNow, passages, accepted}
+
+-- ---- the tests that have passed
+
+module _ {A : Type 0} where
+  pub unless-accepts : (n : ℕ) (m : Mesh A) (g : Going A) → unless n m g .refusal ≡ 0 → n ≡ 0
+  unless-accepts n m g e = go (eqb n 0) refl e
+    where
+      go : (b : Bool) → eqb n 0 ≡ b
+          → (cond {A = Left A} b (record { refusal = 0; mesh = g .mesh; log = g .log }) (record { refusal = n; mesh = m; log = [] })) .refusal ≡ 0 → n ≡ 0
+      go true h e = eqb-true n 0 h
+      go false h e = e
+
+  pub unless-leaves : (n : ℕ) (m : Mesh A) (g : Going A) → unless n m g .refusal ≡ 0 → unless n m g ≡ record { refusal = 0; mesh = g .mesh; log = g .log }
+  unless-leaves n m g e = ap (λ (k : ℕ). unless k m g) (unless-accepts n m g e)
+
+  -- an injection that is accepted
+  pub record Injects (m : Mesh A) (chip : ℕ) (bytes : List ℕ) (t : Tables) : Type 0 where
+    pub there : chip < m .height * m .width
+    pub passable : Passable (packetAt bytes)
+    pub codes : CodesFor t m
+
+  codes-for : (t : Tables) (m : Mesh A) → codesFine (t .codes) (many m * many m) ≡ true → CodesFor t m
+  codes-for t m e = eqb-true _ _ (and-eq-true-iff (eqb (length (t .codes)) (many m * many m)) (allCodes (t .codes)) .0 e .0)
+
+-- a packet that is accepted may pass
+passable-at : (bytes : List ℕ) → usedType (getD bytes 0 0) ≡ true → isDirect (getD bytes 0 0) ≡ false → Passable (packetAt bytes)
+passable-at bytes used plain =
+    let kind : kindOf (getD bytes 0 0) < 3 = ltb-true _ _ used in
+    record { control = omega arith; used = kind; plain = plain; nine = few (eqb (length bytes) 9); absent = none (eqb (length bytes) 9) }
+  where
+    few : (b : Bool) → cond b 1 0 < 2
+    few true = lit< tt
+    few false = lit< tt
+
+    none : (b : Bool) → _≡_ {A = ℕ} (cond b 1 0) 0 → cond b (wordAt bytes 5) 0 ≡ 0
+    none true e = absurd (omega arith)
+    none false e = refl
+
+module _ {A : Type 0} where
+  pub inject-accepts : (m : Mesh A) (chip : ℕ) (bytes : List ℕ) (t : Tables) (room : ℕ) → firstOf (injectRefusals true (many m) chip t room bytes) ≡ 0 → Injects m chip bytes t
+  inject-accepts m chip bytes t room e =
+      let off = none-applies (injectRefusals true (many m) chip t room bytes) refl e in
+      record {
+        there = ltb-true _ _ (not-false _ (off .1 .0));
+        codes = codes-for t m (not-false _ (off .1 .1 .1 .0));
+        passable = passable-at bytes (not-false _ (off .1 .1 .1 .1 .1 .1 .0)) (off .1 .1 .1 .1 .1 .1 .1 .0);
+      }
+
+  pub round-accepts : (m : Mesh A) (flying : ℕ) (t : Tables) (room : ℕ) → firstOf (roundRefusals true (many m) flying t room) ≡ 0 → CodesFor t m
+  round-accepts m flying t room e = let off = none-applies (roundRefusals true (many m) flying t room) refl e in codes-for t m (not-false _ (off .1 .1 .0))
+
+  pub chip-accepts : (m : Mesh A) (chip : ℕ) → firstOf (chipRefusals true (many m) chip) ≡ 0 → chip < m .height * m .width
+  chip-accepts m chip e = ltb-true _ _ (not-false _ (none-applies (chipRefusals true (many m) chip) refl e .1 .0))
+
+  pub link-accepts : (m : Mesh A) (chip link : ℕ) → firstOf (linkRefusals true (many m) chip link) ≡ 0 → (chip < m .height * m .width) × (link < 6)
+  link-accepts m chip link e =
+      let both = and-eq-true-iff (ltb chip (many m)) (ltb link 6) .0 (not-false _ (none-applies (linkRefusals true (many m) chip link) refl e .1 .0)) in
+      (ltb-true _ _ (both .0), ltb-true _ _ (both .1))
+
+-- ---- the state that is left
+
+module _ (s : State) where
+  -- what an injection hands in
+  abbrev pub arrivalNow : ℕ → List ℕ → Arrival Tag
+  arrivalNow chip bytes = record { chip = chip; source = 7; flight = record { packet = packetAt bytes; tag = tagNow s } }
+
+  abbrev pub afterInjection : ℕ → List ℕ → Tables → State
+  afterInjection chip bytes t =
+      record {
+        mesh = injected t turned (s .mesh) chip (arrivalNow chip bytes .flight) .mesh;
+        injections = s .injections + 1;
+        rounds = s .rounds;
+        events = s .events ++ passages t (s .rounds) (record { mesh = s .mesh; log = [] }) (arrivalNow chip bytes ∷ []);
+        log = s .log ++ injected t turned (s .mesh) chip (arrivalNow chip bytes .flight) .log;
+      }
+
+  abbrev pub afterRound : Tables → State
+  afterRound t =
+      record {
+        mesh = rounded t turned (s .mesh) .mesh;
+        injections = s .injections;
+        rounds = s .rounds + 1;
+        events = s .events ++ passages t (s .rounds) (record { mesh = setAside (s .mesh); log = [] }) (arrivals (s .mesh));
+        log = s .log ++ rounded t turned (s .mesh) .log;
+      }
+
+  abbrev pub afterLink : ℕ → ℕ → Bool → State
+  afterLink chip link up = record { mesh = withLink (s .mesh) chip link up; injections = s .injections; rounds = s .rounds; events = s .events; log = s .log }
+
+  abbrev pub afterRead : ℕ → State
+  afterRead chip =
+      record { mesh = withEmpty (s .mesh) chip; injections = s .injections; rounds = s .rounds; events = s .events ++ emptied chip ∷ []; log = s .log }
+
+  -- what a call leaves
+  abbrev here : Call → Left Tag
+  here c = leftBy turned (tagNow s) (s .mesh) c
+
+  -- a state, field by field
+  abbrev plainly : Mesh Tag → List Event → List ℕ → ℕ → ℕ → State
+  plainly m events log i r = record { mesh = m; injections = i; rounds = r; events = events; log = log }
+
+  pub inject-leaves : (chip : ℕ) (bytes : List ℕ) (t : Tables) (room : ℕ) → here (inject chip bytes t room) .refusal ≡ 0
+      → accepted s (here (inject chip bytes t room)) (inject chip bytes t room) ≡ afterInjection chip bytes t
+  inject-leaves chip bytes t room e =
+      let k = afterInjection chip bytes t in
+      ap (λ (r : Left Tag). accepted s r (inject chip bytes t room))
+      (unless-leaves (firstOf (injectRefusals true (many (s .mesh)) chip t room bytes)) (s .mesh) (injected t turned (s .mesh) chip (arrivalNow chip bytes .flight)) e)
+      ∙ ap (λ (n : ℕ). plainly (k .mesh) (k .events) (k .log) (s .injections + 1) n) (add-zero (s .rounds))
+
+  pub round-leaves : (t : Tables) (room : ℕ) → here (round t room) .refusal ≡ 0 → accepted s (here (round t room)) (round t room) ≡ afterRound t
+  round-leaves t room e =
+      let k = afterRound t in
+      ap (λ (r : Left Tag). accepted s r (round t room))
+      (unless-leaves (firstOf (roundRefusals true (many (s .mesh)) (inFlight (s .mesh)) t room)) (s .mesh) (rounded t turned (s .mesh)) e)
+      ∙ ap (λ (n : ℕ). plainly (k .mesh) (k .events) (k .log) n (s .rounds + 1)) (add-zero (s .injections))
+
+  -- nothing but the mesh and the events is another
+  still : (m : Mesh Tag) (events : List Event)
+      → plainly m events (s .log ++ []) (s .injections + 0) (s .rounds + 0) ≡ plainly m events (s .log) (s .injections) (s .rounds)
+  still m events = λ i. plainly m events (append-nil (s .log) i) (add-zero (s .injections) i) (add-zero (s .rounds) i)
+
+  -- nothing but the mesh is another
+  quiet : (m : Mesh Tag)
+      → plainly m (s .events ++ []) (s .log ++ []) (s .injections + 0) (s .rounds + 0) ≡ plainly m (s .events) (s .log) (s .injections) (s .rounds)
+  quiet m = still m (s .events ++ []) ∙ ap (λ (events : List Event). plainly m events (s .log) (s .injections) (s .rounds)) (append-nil (s .events))
+
+  pub link-leaves : (chip link : ℕ) (up : Bool) → here (setLink chip link up) .refusal ≡ 0 → accepted s (here (setLink chip link up)) (setLink chip link up) ≡ afterLink chip link up
+  link-leaves chip link up e =
+      ap (λ (r : Left Tag). accepted s r (setLink chip link up))
+      (unless-leaves (firstOf (linkRefusals true (many (s .mesh)) chip link)) (s .mesh) (record { mesh = withLink (s .mesh) chip link up; log = [] }) e)
+      ∙ quiet (withLink (s .mesh) chip link up)
+
+  pub read-leaves : (chip : ℕ) → here (readRegisters chip) .refusal ≡ 0 → accepted s (here (readRegisters chip)) (readRegisters chip) ≡ afterRead chip
+  read-leaves chip e =
+      ap (λ (r : Left Tag). accepted s r (readRegisters chip))
+      (unless-leaves (firstOf (chipRefusals true (many (s .mesh)) chip)) (s .mesh) (record { mesh = withEmpty (s .mesh) chip; log = [] }) e)
+      ∙ still (withEmpty (s .mesh) chip) (s .events ++ emptied chip ∷ [])
+
+  -- the calls that only look
+  pub count-leaves : (chip counter : ℕ) → accepted s (here (readCounter chip counter)) (readCounter chip counter) ≡ s
+  count-leaves chip counter = quiet (s .mesh)
+
+  pub mesh-leaves : accepted s (here lookMesh) lookMesh ≡ s
+  mesh-leaves = quiet (s .mesh)
+
+  pub look-leaves : (chip link : ℕ) → accepted s (here (lookLink chip link)) (lookLink chip link) ≡ s
+  look-leaves chip link = quiet (s .mesh)

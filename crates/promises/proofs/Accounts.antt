@@ -1,0 +1,160 @@
+-- The account of units closes throughout every history: each pass's own account closes, what it sends lands on the links, and a round takes all that
+-- is in flight. Assumes nothing.
+use mathlib.Core.Path.{_≡_, refl, sym, ap, _∙_}
+use mathlib.Core.Logic.{inr}
+use mathlib.Core.Bool.{Bool}
+use mathlib.Core.List.{List, [], _∷_, _++_, foldl}
+use Prim.Native.Nat.{ℕ, _+_, _*_, _<_}
+use native.Mathlib.Nat.{add-zero}
+use native.Mathlib.Omega.{arith}
+use lib.ListN.{replicate}
+use borrow.Author.Tests.{lt-ltb}
+use Rattle.router.specs.Counting.{delivered, swallowed}
+use Rattle.router.specs.Keeping.{dropCount}
+use Rattle.router.specs.Units.{weightIn, extra, ended, weightSent}
+use Rattle.router.proofs.Inputs as inputs
+use Rattle.router.proofs.OnePass as pass
+use Rattle.mesh.specs.Mesh.{Chip, Mesh, idle, fresh, opened}
+use Rattle.mesh.specs.Steps.{Tables, Arrival, Going, rowsAt, codesAt, settingAt, outcomeAt, withChip, emptied, emptiedChip, setAside, arrivals, passAt}
+use Rattle.mesh.specs.Calls.{chipOf, lineOf, withUp, withLink, withEmpty}
+use Rattle.mesh.specs.Weights.{total, onLine, onChip, onMesh}
+use Rattle.mesh.specs.Sound.{All, Arrives, SoundMesh}
+use Rattle.mesh.proofs.Alls.{all-replicate}
+use Rattle.mesh.proofs.SoundArrivals.{sound-arrivals}
+use Rattle.mesh.proofs.SoundSteps.{CodesFor, checked, sound-aside, sound-pass}
+use Rattle.mesh.proofs.Torus.{arrivals-weigh}
+use Rattle.mesh.proofs.Totals.{total-map, total-set}
+use Rattle.promises.specs.History.{Tag, State, Event, turned, passages, emptied as read}
+use Rattle.promises.specs.Told.{sumOf}
+use Rattle.promises.specs.Demand3.{Account}
+use Rattle.promises.proofs.Told.{sum-append}
+use Rattle.promises.proofs.Accepts as accepts
+use Rattle.promises.proofs.Histories.{Kept, chip-sound, always-kept}
+use Rattle.promises.proofs.Flights.{Arriving, each-any, each-arrival}
+use Rattle.promises.proofs.Weighs.{weighed, chip-weighs-sent}
+
+-- ---- totals
+
+module _ {X : Type 0} where
+  total-same : (f g : X → ℕ) (P : X → Type 0) → ((x : X) → P x → f x ≡ g x) → (l : List X) → All P l → total f l ≡ total g l
+  unfolding total All
+  total-same f g P e [] h = refl
+  total-same f g P e (x ∷ l) h = omega (arith, e x (h .0), total-same f g P e l (h .1))
+
+  total-none : (f : X → ℕ) → ((x : X) → f x ≡ 0) → (l : List X) → total f l ≡ 0
+  unfolding total
+  total-none f e [] = refl
+  total-none f e (x ∷ l) = omega (arith, e x, total-none f e l)
+
+-- an open mesh has nothing in flight
+opened-weighs : (w h f monitor : ℕ) → onMesh weighed (opened {A = Tag} w h f monitor) ≡ 0
+unfolding total
+opened-weighs w h f monitor =
+    let chips : List (Chip Tag) = replicate (h * w) fresh in
+    total-same (onChip weighed) (λ c. 0) (λ c. onChip weighed c ≡ 0) (λ c e. e) chips (all-replicate _ (h * w) fresh refl) ∙ total-none (λ c. 0) (λ c. refl) chips
+
+abbrev weightOf : {A : Type 0} → Arrival A → ℕ
+weightOf a = weightIn (a .flight .packet) (a .source)
+
+module _ {A : Type 0} (m : Mesh A) where
+  -- after all is set aside nothing is in flight
+  aside-weighs : onMesh weighed (setAside m) ≡ 0
+  unfolding total
+  aside-weighs =
+      total-map (onChip weighed) emptiedChip (m .chips)
+      ∙ total-none _ (λ c. total-map (onLine weighed) emptied (c .lines) ∙ total-none _ (λ l. refl) (c .lines)) (m .chips)
+
+  -- what arrives in a round weighs what was in flight
+  arrivals-weigh-in : SoundMesh m → total weightOf (arrivals m) ≡ onMesh weighed m
+  arrivals-weigh-in sound =
+      let size = inputs.size (m .width) (m .height) (sound .size) in
+      total-same weightOf (λ a. weighed (a .flight)) (Arriving (λ x. Unit {0})) (λ a h. simp (lt-ltb _ _ (h .0))) (arrivals m) (each-arrival (λ x. Unit {0}) m (each-any (λ x. Unit {0}) (λ x. tt) m))
+      ∙ arrivals-weigh weighed m (size .width-low) (size .height-low) (sound .many) (λ k h. chip-sound sound k h .six)
+
+  module _ (sound : SoundMesh m) (chip : ℕ) (there : chip < m .height * m .width) where
+    -- a chip changed
+    more-weighs : (c : Chip A) (n : ℕ) → onChip weighed c ≡ onChip weighed (chipOf m chip) + n → onMesh weighed (withChip m chip c) ≡ onMesh weighed m + n
+    more-weighs c n e = omega (arith, total-set (onChip weighed) (m .chips) chip c fresh (omega (arith, sound .many)))
+
+    linked-weighs : (link : ℕ) (up : Bool) → link < 6 → onMesh weighed (withLink m chip link up) ≡ onMesh weighed m
+    linked-weighs link up h =
+        let six = chip-sound sound chip there .six in
+        let lines = total-set (onLine weighed) (chipOf m chip .lines) link (withUp up (lineOf m chip link)) idle (omega arith) in
+        more-weighs _ 0 (omega (arith, lines)) ∙ add-zero (onMesh weighed m)
+
+    emptied-weighs : onMesh weighed (withEmpty m chip) ≡ onMesh weighed m
+    emptied-weighs = more-weighs _ 0 (sym (add-zero (onChip weighed (chipOf m chip)))) ∙ add-zero (onMesh weighed m)
+
+-- ---- passes
+
+-- "extra branches", and "units delivered, ended in error, dropped, swallowed", over some passes
+abbrev extras : List Event → ℕ
+extras es = sumOf (λ p. extra (p .outcome)) es
+
+abbrev settled : List Event → ℕ
+settled es =
+    sumOf (λ p. delivered (p .outcome)) es + sumOf (λ p. ended (p .outcome) (p .arrival .source)) es + sumOf (λ p. dropCount (p .outcome)) es
+    + sumOf (λ p. swallowed (p .outcome)) es
+
+pass-weighs : {A : Type 0} (t : Tables) (turn : A → A) (g : Going A) (a : Arrival A) → SoundMesh (g .mesh) → CodesFor t (g .mesh) → Arrives (g .mesh .height * g .mesh .width) a
+    → onMesh weighed (passAt t turn g a .mesh) ≡ onMesh weighed (g .mesh) + weightSent (outcomeAt t (g .mesh) (a .chip) (a .source) (a .flight .packet))
+pass-weighs t turn g a sound codes h =
+    more-weighs (g .mesh) sound (a .chip) (h .there) _ _
+    (chip-weighs-sent _ _ _ _ _ (checked t (g .mesh) a sound codes h) (h .from) (turn (a .flight .tag)) (chipOf (g .mesh) (a .chip)) (chip-sound sound (a .chip) (h .there) .six))
+
+passes-account : (t : Tables) (n : ℕ) (g : Going Tag) (later : List (Arrival Tag)) → SoundMesh (g .mesh) → CodesFor t (g .mesh) → All (Arrives (g .mesh .height * g .mesh .width)) later
+    → total weightOf later + extras (passages t n g later) + onMesh weighed (g .mesh) ≡ settled (passages t n g later) + onMesh weighed (foldl (passAt t turned) g later .mesh)
+unfolding total sumOf passages All
+passes-account t n g [] sound codes h = omega arith
+passes-account t n g (a ∷ later) sound codes h =
+    omega (
+      arith,
+      passes-account t n (passAt t turned g a) later (sound-pass t turned g a sound codes (h .0)) codes (h .1),
+      pass-weighs t turned g a sound codes (h .0),
+      pass.account (a .flight .packet) (a .source) (rowsAt t (a .chip)) (codesAt t (g .mesh .height * g .mesh .width) (a .chip)) (settingAt (g .mesh) (chipOf (g .mesh) (a .chip))) (checked t (g .mesh) a sound codes (h .0)) (h .0 .from),
+    )
+
+-- ---- every history
+
+abbrev Closes : ℕ → State → Type 0
+Closes f s = s .injections + extras (s .events) ≡ settled (s .events) + onMesh weighed (s .mesh)
+
+extras-append : (es later : List Event) → extras (es ++ later) ≡ extras es + extras later
+extras-append es later = sum-append _ es later
+
+settled-append : (es later : List Event) → settled (es ++ later) ≡ settled es + settled later
+settled-append es later = simp sum-append (omega arith)
+
+account-kept : Kept Closes
+unfolding sumOf All total
+account-kept =
+    record {
+      opens = λ w h f monitor o. ap (λ (n : ℕ). 0 + n) (sym (opened-weighs w h f monitor));
+      injects = λ f s chip bytes t sound h closes.
+          let a = accepts.arrivalNow s chip bytes in
+          let g : Going Tag = record { mesh = s .mesh; log = [] } in
+          omega (
+            arith,
+            closes,
+            extras-append (s .events) (passages t (s .rounds) g (a ∷ [])),
+            settled-append (s .events) (passages t (s .rounds) g (a ∷ [])),
+            passes-account t (s .rounds) g (a ∷ []) sound (h .codes) (record { there = h .there; from = inr refl; passable = h .passable }, tt),
+          );
+      rounds = λ f s t sound codes closes.
+          let g : Going Tag = record { mesh = setAside (s .mesh); log = [] } in
+          omega (
+            arith,
+            closes,
+            extras-append (s .events) (passages t (s .rounds) g (arrivals (s .mesh))),
+            settled-append (s .events) (passages t (s .rounds) g (arrivals (s .mesh))),
+            passes-account t (s .rounds) g (arrivals (s .mesh)) (sound-aside sound) codes (sound-arrivals sound),
+            aside-weighs (s .mesh),
+            arrivals-weigh-in (s .mesh) sound,
+          );
+      links = λ f s chip link up sound there six closes. closes ∙ ap (λ (n : ℕ). settled (s .events) + n) (sym (linked-weighs (s .mesh) sound chip there link up six));
+      reads = λ f s chip sound there closes.
+          omega (arith, closes, extras-append (s .events) (read chip ∷ []), settled-append (s .events) (read chip ∷ []), emptied-weighs (s .mesh) sound chip there);
+    }
+
+pub account : Account
+account = always-kept Closes account-kept

@@ -1,0 +1,78 @@
+-- The age of a copy of an MC or P2P packet, and what a pass makes of it: what it sends is a round older, with the stamp of the phase that the packet
+-- was injected in, and its span is not over; a pass finds age just at the end of the span. Assumes nothing.
+use mathlib.Core.Path.{_≡_, sym, ap, _∙_}
+use mathlib.Core.List.{List}
+use Prim.Native.Nat.{ℕ, _+_, _-_, _/_, _%_, _≤_, _<_}
+use native.Mathlib.Nat.{le-of-eq}
+use native.Mathlib.Omega.{arith}
+use Rattle.packet.specs.declared.Packet.{Packet}
+use Rattle.packet.specs.Control.{stampOf}
+use Rattle.router.specs.declared.Setting.{Setting}
+use Rattle.router.specs.Errors.{errorsOf}
+use Rattle.router.specs.Deciding.{outcomeOf, Checked}
+use Rattle.router.proofs.OnePass as pass
+use Rattle.mesh.specs.Mesh.{Flight}
+use Rattle.promises.specs.History.{Tag, turned}
+use Rattle.promises.specs.Told.{Stamped}
+use Rattle.promises.specs.Demand3.{span}
+use Rattle.promises.proofs.Flights.{Sends}
+use Rattle.promises.proofs.Clock.{code, old-at-end, young-before}
+use Rattle.promises.proofs.Stamps.{SameStamp, sends-same, kind-kept, stamp-from-link, stamp-local, young, old}
+
+-- a copy in flight after n rounds, with F rounds to a phase
+pub record Aged (f n : ℕ) (x : Flight Tag) : Type 0 where
+  pub begun : x .tag .before ≤ n
+  pub crossed : x .tag .crossed + x .tag .before ≡ n + 1
+  pub stamp : stampOf (x .packet .control) ≡ code (x .tag .before / f)
+  pub due : n ≤ x .tag .before + span f (x .tag .before)
+
+abbrev pub Ages : ℕ → ℕ → Flight Tag → Type 0
+Ages f n x = Stamped (x .packet) → Aged f n x
+
+-- the links that it has crossed
+pub aged-crossing : (f n : ℕ) (x : Flight Tag) → Aged f n x → x .tag .crossed ≤ span f (x .tag .before) + 1
+aged-crossing f n x h = omega (arith, h .crossed, h .due)
+
+module _ (f n : ℕ) (some : 0 < f) (p : Packet) (s : ℕ) (rows codes : List ℕ) (t : Setting) (h : Checked p s codes t) (from : pass.Source s) (phase : t .phase ≡ code (n / f)) (tag : Tag) where
+  -- what is sent has the type of what arrived
+  low-before : (q : Packet) → SameStamp (outcomeOf p s rows codes t .packet) q → Stamped q → Stamped p
+  low-before q same low = omega (arith, same .kind, kind-kept p s rows codes t h from)
+
+  -- in a round
+  pub aged-sent : s < 6 → Ages f n (record { packet = p; tag = tag }) → Sends (Ages f (n + 1)) (outcomeOf p s rows codes t) (turned tag)
+  aged-sent near ages = sends-same p s rows codes t h from (Ages f (n + 1)) (turned tag) each
+    where
+      each : (q : Packet) → errorsOf p s (t .phase) ≡ 0 → SameStamp (outcomeOf p s rows codes t .packet) q → Ages f (n + 1) (record { packet = q; tag = turned tag })
+      each q none same low =
+          let before : Stamped p = low-before q same low in
+          let x = ages before in
+          let fresh : ¬ (n ≡ tag .before + span f (tag .before)) = λ e.
+          young p s rows codes t h from near none before (x .stamp ∙ old-at-end f some (tag .before) n e ∙ ap (λ (k : ℕ). 3 - k) (sym phase)) in
+          record {
+            begun = omega (arith, x .begun);
+            crossed = omega (arith, x .crossed);
+            stamp = same .stamp ∙ ap (λ (q : Packet). stampOf (q .control)) (stamp-from-link p s rows codes t h from near) ∙ x .stamp;
+            due = omega (arith, x .due, fresh);
+          }
+
+  -- where it is injected
+  pub aged-injected : s ≡ 7 → tag .before ≡ n → tag .crossed ≡ 0 → Sends (Ages f n) (outcomeOf p s rows codes t) (turned tag)
+  aged-injected local now none-yet = sends-same p s rows codes t h from (Ages f n) (turned tag) each
+    where
+      each : (q : Packet) → errorsOf p s (t .phase) ≡ 0 → SameStamp (outcomeOf p s rows codes t .packet) q → Ages f n (record { packet = q; tag = turned tag })
+      each q none same low =
+          record {
+            begun = le-of-eq now;
+            crossed = omega arith;
+            stamp = same .stamp ∙ stamp-local p s rows codes t h from local none (low-before q same low) ∙ phase ∙ ap (λ (b : ℕ). code (b / f)) (sym now);
+            due = omega arith;
+          }
+
+  -- age is found at the end of the span
+  pub old-late : (s < 6 → Ages f n (record { packet = p; tag = tag })) → outcomeOf p s rows codes t .errors / 2 % 2 ≡ 1 → tag .before + span f (tag .before) ≤ n
+  old-late ages e =
+      let found = old p s rows codes t h from e in
+      let x = ages (found .0) (found .1) in
+      let late : ¬ (n < tag .before + span f (tag .before)) = λ l.
+      young-before f some (tag .before) n (x .begun) l (sym (x .stamp) ∙ found .2 ∙ ap (λ (k : ℕ). 3 - k) phase) in
+      omega (arith, late)

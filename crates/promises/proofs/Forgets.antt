@@ -1,0 +1,137 @@
+-- Forgetting the tags gives, call by call, the meshes, answers and logs of the calls' contracts; so a buffer that holds a state's mesh holds the
+-- next state's after the call. Assumes nothing.
+use mathlib.Core.Path.{_≡_, refl, sym, ap, _∙_}
+use mathlib.Core.Bool.{Bool, true, false, cond}
+use mathlib.Core.List.{List, []}
+use Prim.Native.Nat.{ℕ}
+use lib.Dec.{eqb}
+use lib.ListN.{length, getD, set, length-map}
+use borrow.Author.Tests.{eqb-true, eqb-false}
+use Rattle.packet.specs.Bytes.{packetAt}
+use Rattle.packet.specs.Refusal.{firstOf}
+use Rattle.router.specs.Keeping.{empty}
+use Rattle.mesh.specs.declared.LinkRead.{LinkRead}
+use Rattle.mesh.specs.Mesh.{Flight, Line, Chip, Mesh, idle, fresh, isReady}
+use Rattle.mesh.specs.Layout.{meshOf}
+use Rattle.mesh.specs.Holding.{holdsMesh}
+use Rattle.mesh.specs.Steps.{Going, withChip, injected, rounded}
+use Rattle.mesh.specs.Calls as calls
+use Rattle.mesh.specs.Weights.{inFlight}
+use Rattle.mesh.specs.Going.{same}
+use Rattle.promises.specs.History.{Call, inject, round, setLink, readRegisters, readCounter, lookMesh, lookLink, ofAdded, ofRefusal, ofRegisters, ofCount, ofMesh, ofLink, Tag, leftBy, answerOf, turned, tagNow, accepted, after}
+use Rattle.promises.specs.Told.{plainFlight, plainLine, plainChip, plain, plainLeft}
+use Rattle.promises.specs.Demand3.{Forgetting, Program}
+use Rattle.promises.proofs.Plains.{map-set, plainGoing, plain-chip, plain-line, plain-ready, plain-flying, plain-with, plain-pass, plain-rounded}
+
+module _ {A : Type 0} where
+  plain-unless : (n : ℕ) (m : Mesh A) (g : Going A) → plainLeft (calls.unless n m g) ≡ calls.unless n (plain m) (plainGoing g)
+  plain-unless n m g = go (eqb n 0)
+    where
+      go : (b : Bool)
+          → plainLeft (cond b (record { refusal = 0; mesh = g .mesh; log = g .log }) (record { refusal = n; mesh = m; log = [] }))
+          ≡ cond b (record { refusal = 0; mesh = plain (g .mesh); log = g .log }) (record { refusal = n; mesh = plain m; log = [] })
+      go true = refl
+      go false = refl
+
+  plain-of : (m : Mesh A) (chip link : ℕ) → calls.lineOf (plain m) chip link ≡ plainLine (calls.lineOf m chip link)
+  plain-of m chip link =
+      ap (λ (c : Chip (Unit {0})). getD (c .lines) link idle) (plain-chip m chip) ∙ plain-line (getD (m .chips) chip fresh) link
+
+  plain-link : (m : Mesh A) (chip link : ℕ) (up : Bool) → plain (calls.withLink m chip link up) ≡ calls.withLink (plain m) chip link up
+  plain-link m chip link up =
+      let c = getD (m .chips) chip fresh in
+      let chip-with : Chip (Unit {0}) → List (Line (Unit {0})) → Chip (Unit {0}) = λ x lines. record { registers = x .registers; counters = x .counters; lines = lines } in
+      plain-with m chip _
+      ∙ ap (λ (lines : List (Line (Unit {0}))). withChip (plain m) chip (chip-with (plainChip c) lines)) (map-set plainLine (c .lines) link (calls.withUp up (calls.lineOf m chip link)))
+      ∙ (λ k. withChip (plain m) chip (chip-with (sym (plain-chip m chip) k) (set (sym (plain-chip m chip) k .lines) link (calls.withUp up (sym (plain-of m chip link) k)))))
+
+  plain-empty : (m : Mesh A) (chip : ℕ) → plain (calls.withEmpty m chip) ≡ calls.withEmpty (plain m) chip
+  plain-empty m chip =
+      plain-with m chip _
+      ∙ ap (λ (x : Chip (Unit {0})). withChip (plain m) chip (record { registers = empty; counters = x .counters; lines = x .lines })) (sym (plain-chip m chip))
+
+  plain-looked : (m : Mesh A) (chip link : ℕ) → calls.linkRead true m chip link ≡ calls.linkRead true (plain m) chip link
+  plain-looked m chip link =
+      let n = firstOf (calls.linkRefusals true (calls.many m) chip link) in
+      let l = calls.lineOf m chip link in
+      let answer : Bool → ℕ → Bool → LinkRead =
+      λ up held ready.
+      cond (eqb n 0) (record { refusal = 0; up = calls.bit up; held = held; ready = calls.bit ready })
+      (record { refusal = n; up = 0; held = 0; ready = 0 }) in
+      (λ k. answer (l .up) (sym (length-map (l .held) plainFlight) k) (sym (plain-ready l) k))
+      ∙ ap (λ (x : Line (Unit {0})). answer (x .up) (length (x .held)) (isReady x)) (sym (plain-of m chip link))
+
+  module _ (turn : A → A) (tag : A) (m : Mesh A) where
+    forgets-left : (c : Call) → plainLeft (leftBy turn tag m c) ≡ leftBy same tt (plain m) c
+    forgets-left (inject chip bytes t room) =
+        let n = firstOf (calls.injectRefusals true (calls.many m) chip t room bytes) in
+        let f : Flight A = record { packet = packetAt bytes; tag = tag } in
+        plain-unless n m (injected t turn m chip f)
+        ∙ ap (λ (g : Going (Unit {0})). calls.unless n (plain m) g)
+        (plain-pass t turn (record { mesh = m; log = [] }) (record { chip = chip; source = 7; flight = f }))
+    forgets-left (round t room) =
+        plain-unless (firstOf (calls.roundRefusals true (calls.many m) (inFlight m) t room)) m (rounded t turn m)
+        ∙ (λ k. calls.unless (firstOf (calls.roundRefusals true (calls.many m) (sym (plain-flying m) k) t room)) (plain m) (plain-rounded t turn m k))
+    forgets-left (setLink chip link up) =
+        let n = firstOf (calls.linkRefusals true (calls.many m) chip link) in
+        plain-unless n m (record { mesh = calls.withLink m chip link up; log = [] })
+        ∙ ap (λ (x : Mesh (Unit {0})). calls.unless n (plain m) (record { mesh = x; log = [] })) (plain-link m chip link up)
+    forgets-left (readRegisters chip) =
+        let n = firstOf (calls.chipRefusals true (calls.many m) chip) in
+        plain-unless n m (record { mesh = calls.withEmpty m chip; log = [] })
+        ∙ ap (λ (x : Mesh (Unit {0})). calls.unless n (plain m) (record { mesh = x; log = [] })) (plain-empty m chip)
+    forgets-left (readCounter chip counter) = refl
+    forgets-left lookMesh = refl
+    forgets-left (lookLink chip link) = ap (λ (r : LinkRead). record { refusal = r .refusal; mesh = plain m; log = [] }) (plain-looked m chip link)
+
+    forgets-answer : (c : Call) → answerOf turn tag m c ≡ answerOf same tt (plain m) c
+    forgets-answer (inject chip bytes t room) = ap (λ (r : calls.Left (Unit {0})). ofAdded (calls.addedOf r)) (forgets-left (inject chip bytes t room))
+    forgets-answer (round t room) = ap (λ (r : calls.Left (Unit {0})). ofAdded (calls.addedOf r)) (forgets-left (round t room))
+    forgets-answer (setLink chip link up) = ap (λ (r : calls.Left (Unit {0})). ofRefusal (r .refusal)) (forgets-left (setLink chip link up))
+    forgets-answer (readRegisters chip) =
+        let n = firstOf (calls.chipRefusals true (calls.many m) chip) in
+        ap (λ (x : Chip (Unit {0})). ofRegisters (record { refusal = n; registers = cond (eqb n 0) (x .registers) empty })) (sym (plain-chip m chip))
+    forgets-answer (readCounter chip counter) =
+        let n = firstOf (calls.counterRefusals true (calls.many m) chip counter) in
+        ap (λ (x : Chip (Unit {0})). ofCount (record { refusal = n; count = cond (eqb n 0) (getD (x .counters .count) counter 0) 0 })) (sym (plain-chip m chip))
+    forgets-answer lookMesh =
+        ap
+        (λ (flying : ℕ).
+        ofMesh
+        (record {
+          refusal = 0;
+          width = m .width;
+          height = m .height;
+          «rounds_per_phase» = m .rounds;
+          monitor = m .monitor;
+          phase = m .phase;
+          «rounds_in_phase» = m .elapsed;
+          «in_flight» = flying;
+        }))
+        (sym (plain-flying m))
+    forgets-answer (lookLink chip link) = ap ofLink (plain-looked m chip link)
+
+pub forgetting : Forgetting
+forgetting A turn tag m c = (forgets-left turn tag m c, forgets-answer turn tag m c)
+
+pub program : Program
+unfolding after
+program s c before after′ holds e leaves = go (eqb (r .refusal) 0) refl
+  where
+    r : calls.Left Tag
+    r = leftBy turned (tagNow s) (s .mesh) c
+
+    forgotten : leftBy same tt (meshOf before) c ≡ plainLeft (leftBy turned (tagNow s) (s .mesh) c)
+    forgotten = ap (λ (m : Mesh (Unit {0})). leftBy same tt m c) e ∙ sym (forgets-left turned (tagNow s) (s .mesh) c)
+
+    refusal : leftBy same tt (meshOf before) c .refusal ≡ leftBy turned (tagNow s) (s .mesh) c .refusal
+    refusal = ap (λ (x : calls.Left (Unit {0})). x .refusal) forgotten
+
+    go : (b : Bool) → eqb (leftBy turned (tagNow s) (s .mesh) c .refusal) 0 ≡ b
+        → (holdsMesh after′ ≡ true) × (meshOf after′ ≡ plain (cond b (accepted s (leftBy turned (tagNow s) (s .mesh) c) c) s .mesh))
+    go true z =
+        let none = refusal ∙ eqb-true _ _ z in
+        (leaves .holds none, leaves .mesh none ∙ ap (λ (x : calls.Left (Unit {0})). x .mesh) forgotten)
+    go false z =
+        let kept : after′ ≡ before = leaves .refused (λ none. eqb-false _ _ z (sym refusal ∙ none)) in
+        (ap holdsMesh kept ∙ holds, ap meshOf kept ∙ e)

@@ -1,0 +1,157 @@
+-- What holds of every history: it holds of a mesh just opened, and of the state after a call that is accepted where it held before. A call that
+-- is refused changes nothing, and the mesh of every history is sound. Assumes nothing.
+use mathlib.Core.Path.{_≡_, refl, sym, _∙_, subst}
+use mathlib.Core.Bool.{Bool, true, false, cond}
+use mathlib.Core.List.{List, [], _∷_, foldl}
+use Prim.Native.Nat.{ℕ, _*_, _<_}
+use native.Mathlib.Omega.{arith}
+use lib.Dec.{eqb}
+use lib.ListN.{getD, length-set}
+use borrow.Author.Tests.{eqb-true}
+use Rattle.packet.specs.Bytes.{packetAt}
+use Rattle.packet.specs.Refusal.{firstOf}
+use Rattle.mesh.specs.Mesh.{Flight, Chip, Mesh, idle, fresh}
+use Rattle.mesh.specs.Steps.{Tables, Going, withChip, injected, rounded}
+use Rattle.mesh.specs.Calls.{Left, many, unless, withLink, withEmpty, injectRefusals, roundRefusals, chipRefusals, linkRefusals}
+use Rattle.mesh.specs.Weights.{inFlight}
+use Rattle.mesh.specs.Sound.{SoundLine, SoundChip, SoundMesh}
+use Rattle.mesh.proofs.Alls.{all-getD, all-set}
+use Rattle.mesh.proofs.SoundSteps.{CodesFor, sound-opened, sound-injected, sound-rounded}
+use Rattle.promises.specs.History.{Call, inject, round, setLink, readRegisters, readCounter, lookMesh, lookLink, Tag, State, Opens, leftBy, turned, tagNow, accepted, after, begun, history}
+use Rattle.promises.specs.Demand3.{Always}
+use Rattle.promises.proofs.Accepts as accepts
+
+-- What a call answers in a state.
+abbrev pub answered : State → Call → Left Tag
+answered s c = leftBy turned (tagNow s) (s .mesh) c
+
+module _ (P : ℕ → State → Type 0) where
+  after-keeps : (f : ℕ) (s : State) (c : Call) → P f s → (answered s c .refusal ≡ 0 → P f (accepted s (answered s c) c)) → P f (after s c)
+  unfolding after
+  after-keeps f s c p step = go (eqb (answered s c .refusal) 0) refl
+    where
+      go : (b : Bool) → eqb (answered s c .refusal) 0 ≡ b → P f (cond b (accepted s (answered s c) c) s)
+      go true e = step (eqb-true _ _ e)
+      go false e = p
+
+  pub always : ((w h f monitor : ℕ) → Opens w h f monitor → P f (begun w h f monitor))
+      → ((f : ℕ) (s : State) (c : Call) → answered s c .refusal ≡ 0 → P f s → P f (accepted s (answered s c) c))
+      → Always P
+  unfolding history
+  always opens step w h f monitor o cs = go cs (begun w h f monitor) (opens w h f monitor o)
+    where
+      go : (cs : List Call) (s : State) → P f s → P f (foldl after s cs)
+      go [] s p = p
+      go (c ∷ cs) s p = go cs (after s c) (after-keeps f s c p (λ e. step f s c e p))
+
+-- ---- every mesh is sound
+
+-- a chip changed, all else as it was
+sound-chip : {A : Type 0} {m : Mesh A} (chip : ℕ) (c : Chip A) → SoundMesh m → SoundChip c → SoundMesh (withChip m chip c)
+sound-chip {m} chip c sound h =
+    record {
+      size = sound .size;
+      rounds = sound .rounds;
+      monitor = sound .monitor;
+      phase = sound .phase;
+      elapsed = sound .elapsed;
+      many = length-set (m .chips) chip c ∙ sound .many;
+      chips = all-set SoundChip (m .chips) chip c (sound .chips) h;
+    }
+
+module _ {A : Type 0} {m : Mesh A} (sound : SoundMesh m) where
+  pub chip-sound : (chip : ℕ) → chip < m .height * m .width → SoundChip (getD (m .chips) chip fresh)
+  chip-sound chip h = all-getD SoundChip (m .chips) chip fresh (sound .chips) (omega (arith, sound .many))
+
+  pub sound-linked : (chip link : ℕ) (up : Bool) → chip < m .height * m .width → link < 6 → SoundMesh (withLink m chip link up)
+  sound-linked chip link up h k =
+      let c = chip-sound chip h in
+      let l : SoundLine (getD (getD (m .chips) chip fresh .lines) link idle) = all-getD SoundLine (getD (m .chips) chip fresh .lines) link idle (c .lines) (omega (arith, c .six)) in
+      sound-chip chip _ sound
+      (record {
+        six = length-set (getD (m .chips) chip fresh .lines) link _ ∙ c .six;
+        registers = c .registers;
+        lines = all-set SoundLine (getD (m .chips) chip fresh .lines) link _ (c .lines) (record { few = l .few; fine = l .fine });
+      })
+
+  pub sound-emptied : (chip : ℕ) → chip < m .height * m .width → SoundMesh (withEmpty m chip)
+  sound-emptied chip h = let c = chip-sound chip h in sound-chip chip _ sound (record { six = c .six; registers = refl; lines = c .lines })
+
+  -- a call that is accepted leaves what it makes
+  left : (n : ℕ) (g : Going A) → unless n m g .refusal ≡ 0 → (n ≡ 0 → SoundMesh (g .mesh)) → SoundMesh (unless n m g .mesh)
+  left n g e h = subst (λ (r : Left A). SoundMesh (r .mesh)) (sym (accepts.unless-leaves n m g e)) (h (accepts.unless-accepts n m g e))
+
+  pub sound-left : (turn : A → A) (tag : A) (c : Call) → leftBy turn tag m c .refusal ≡ 0 → SoundMesh (leftBy turn tag m c .mesh)
+  sound-left turn tag (inject chip bytes t room) e =
+      let f : Flight A = record { packet = packetAt bytes; tag = tag } in
+      left (firstOf (injectRefusals true (many m) chip t room bytes)) (injected t turn m chip f) e
+      (λ z. let h = accepts.inject-accepts m chip bytes t room z in sound-injected t turn m chip f sound (h .there) (h .passable) (h .codes))
+  sound-left turn tag (round t room) e =
+      left (firstOf (roundRefusals true (many m) (inFlight m) t room)) (rounded t turn m) e
+      (λ z. sound-rounded t turn sound (accepts.round-accepts m (inFlight m) t room z))
+  sound-left turn tag (setLink chip link up) e =
+      left (firstOf (linkRefusals true (many m) chip link)) (record { mesh = withLink m chip link up; log = [] }) e
+      (λ z. let h = accepts.link-accepts m chip link z in sound-linked chip link up (h .0) (h .1))
+  sound-left turn tag (readRegisters chip) e =
+      left (firstOf (chipRefusals true (many m) chip)) (record { mesh = withEmpty m chip; log = [] }) e (λ z. sound-emptied chip (accepts.chip-accepts m chip z))
+  sound-left turn tag (readCounter chip counter) e = sound
+  sound-left turn tag lookMesh e = sound
+  sound-left turn tag (lookLink chip link) e = sound
+
+module _ (P : ℕ → State → Type 0) where
+  pub always-sound : ((w h f monitor : ℕ) → Opens w h f monitor → P f (begun w h f monitor))
+      → ((f : ℕ) (s : State) (c : Call) → SoundMesh (s .mesh) → answered s c .refusal ≡ 0 → P f s → P f (accepted s (answered s c) c))
+      → Always P
+  always-sound opens step w h f monitor o cs =
+      always (λ f s. SoundMesh (s .mesh) × P f s)
+      (λ w h f monitor o. (sound-opened w h f monitor (o .size) (o .phases) (o .monitored), opens w h f monitor o))
+      (λ f s c e p. (sound-left (p .0) turned (tagNow s) c e, step f s c (p .0) e (p .1)))
+      w
+      h
+      f
+      monitor
+      o
+      cs
+      .1
+
+-- the mesh of every history is sound
+pub sound-always : Always (λ f s. SoundMesh (s .mesh))
+sound-always = always-sound (λ f s. SoundMesh (s .mesh)) (λ w h f monitor o. sound-opened w h f monitor (o .size) (o .phases) (o .monitored)) (λ f s c sound e p. sound-left sound turned (tagNow s) c e)
+
+-- ---- by the kind of the call
+
+-- What is to be shown of each kind of call that changes something; each is accepted.
+pub record Kept (P : ℕ → State → Type 0) : Type 0 where
+  pub opens : (w h f monitor : ℕ) → Opens w h f monitor → P f (begun w h f monitor)
+  pub injects : (f : ℕ) (s : State) (chip : ℕ) (bytes : List ℕ) (t : Tables) → SoundMesh (s .mesh) → accepts.Injects (s .mesh) chip bytes t → P f s
+      → P f (accepts.afterInjection s chip bytes t)
+  pub rounds : (f : ℕ) (s : State) (t : Tables) → SoundMesh (s .mesh) → CodesFor t (s .mesh) → P f s → P f (accepts.afterRound s t)
+  pub links : (f : ℕ) (s : State) (chip link : ℕ) (up : Bool) → SoundMesh (s .mesh) → chip < s .mesh .height * s .mesh .width → link < 6 → P f s
+      → P f (accepts.afterLink s chip link up)
+  pub reads : (f : ℕ) (s : State) (chip : ℕ) → SoundMesh (s .mesh) → chip < s .mesh .height * s .mesh .width → P f s → P f (accepts.afterRead s chip)
+
+module _ (P : ℕ → State → Type 0) (kept : Kept P) where
+  kept-step : (f : ℕ) (s : State) (c : Call) → SoundMesh (s .mesh) → answered s c .refusal ≡ 0 → P f s → P f (accepted s (answered s c) c)
+  kept-step f s (inject chip bytes t room) sound e p =
+      let n = firstOf (injectRefusals true (many (s .mesh)) chip t room bytes) in
+      let z : n ≡ 0 = accepts.unless-accepts n (s .mesh) (injected t turned (s .mesh) chip (accepts.arrivalNow s chip bytes .flight)) e in
+      subst (P f) (sym (accepts.inject-leaves s chip bytes t room e)) (kept .injects f s chip bytes t sound (accepts.inject-accepts (s .mesh) chip bytes t room z) p)
+  kept-step f s (round t room) sound e p =
+      let n = firstOf (roundRefusals true (many (s .mesh)) (inFlight (s .mesh)) t room) in
+      let z : n ≡ 0 = accepts.unless-accepts n (s .mesh) (rounded t turned (s .mesh)) e in
+      subst (P f) (sym (accepts.round-leaves s t room e)) (kept .rounds f s t sound (accepts.round-accepts (s .mesh) (inFlight (s .mesh)) t room z) p)
+  kept-step f s (setLink chip link up) sound e p =
+      let n = firstOf (linkRefusals true (many (s .mesh)) chip link) in
+      let z : n ≡ 0 = accepts.unless-accepts n (s .mesh) (record { mesh = withLink (s .mesh) chip link up; log = [] }) e in
+      let h = accepts.link-accepts (s .mesh) chip link z in
+      subst (P f) (sym (accepts.link-leaves s chip link up e)) (kept .links f s chip link up sound (h .0) (h .1) p)
+  kept-step f s (readRegisters chip) sound e p =
+      let n = firstOf (chipRefusals true (many (s .mesh)) chip) in
+      let z : n ≡ 0 = accepts.unless-accepts n (s .mesh) (record { mesh = withEmpty (s .mesh) chip; log = [] }) e in
+      subst (P f) (sym (accepts.read-leaves s chip e)) (kept .reads f s chip sound (accepts.chip-accepts (s .mesh) chip z) p)
+  kept-step f s (readCounter chip counter) sound e p = subst (P f) (sym (accepts.count-leaves s chip counter)) p
+  kept-step f s lookMesh sound e p = subst (P f) (sym (accepts.mesh-leaves s)) p
+  kept-step f s (lookLink chip link) sound e p = subst (P f) (sym (accepts.look-leaves s chip link)) p
+
+  pub always-kept : Always P
+  always-kept = always-sound P (kept .opens) kept-step

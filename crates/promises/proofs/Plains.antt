@@ -1,0 +1,156 @@
+-- Forgetting the tags of a mesh goes with everything that happens in it: ready sets, outcomes, what is in flight, passes one after the other,
+-- what a round begins and ends with. Assumes nothing.
+use mathlib.Core.Path.{_≡_, refl, sym, ap, _∙_, fun-ext}
+use mathlib.Core.Bool.{Bool, true, false, _&&_}
+use mathlib.Core.List.{List, [], _∷_, _++_, map, foldl, map-map, map-append}
+use Prim.Native.Nat.{ℕ, zero, suc, _*_}
+use lib.Dec.{leb}
+use lib.ListN.{getD, set, length-map, List·getD-map}
+use Rattle.packet.specs.declared.Packet.{Packet}
+use Rattle.router.specs.declared.Outcome.{Outcome}
+use Rattle.router.specs.Links.{has, setOf}
+use Rattle.router.specs.Deciding.{outcomeOf, packetOn, legPacket}
+use Rattle.router.specs.Keeping.{keptOf}
+use Rattle.router.specs.Counting.{countedOf}
+use Rattle.mesh.specs.Mesh.{Flight, Line, Chip, Mesh, idle, fresh, isReady, readyOf, across, opposite}
+use Rattle.mesh.specs.Steps.{Tables, Arrival, Going, rowsAt, codesAt, outcomeAt, logOf, sent, lineAfter, linesAfter, chipAfter, withChips, withChip, emptied, emptiedChip, setAside, arrivingBy, arrivingAt, arrivingFrom, arrivals, roundOver, passAt, passed, rounded}
+use Rattle.mesh.specs.Weights.{total, onLine, onChip, inFlight}
+use Rattle.mesh.specs.Going.{same}
+use Rattle.mesh.proofs.Totals.{total-map, total-ones}
+use Rattle.promises.specs.Told.{plainFlight, plainLine, plainChip, plain}
+
+-- an element changed, and then every element's image
+pub map-set : {X Y : Type 0} (f : X → Y) (l : List X) (i : ℕ) (x : X) → map f (set l i x) ≡ set (map f l) i (f x)
+map-set f [] i x = refl
+map-set f (y ∷ l) zero x = refl
+map-set f (y ∷ l) (suc i) x = ap (λ (k : List _). f y ∷ k) (map-set f l i x)
+
+module _ {A : Type 0} where
+  abbrev pub plainArrival : Arrival A → Arrival (Unit {0})
+  plainArrival a = record { chip = a .chip; source = a .source; flight = plainFlight (a .flight) }
+
+  abbrev pub plainGoing : Going A → Going (Unit {0})
+  plainGoing g = record { mesh = plain (g .mesh); log = g .log }
+
+  -- ---- looking
+
+  pub plain-chip : (m : Mesh A) (chip : ℕ) → getD (plain m .chips) chip fresh ≡ plainChip (getD (m .chips) chip fresh)
+  plain-chip m chip = List·getD-map plainChip (m .chips) chip fresh
+
+  pub plain-line : (c : Chip A) (i : ℕ) → getD (plainChip c .lines) i idle ≡ plainLine (getD (c .lines) i idle)
+  plain-line c i = List·getD-map plainLine (c .lines) i idle
+
+  pub plain-ready : (l : Line A) → isReady (plainLine l) ≡ isReady l
+  plain-ready l = ap (λ (n : ℕ). l .up && leb n 6) (length-map (l .held) plainFlight)
+
+  ready-of : (c : Chip A) → readyOf (plainChip c) ≡ readyOf c
+  ready-of c = ap setOf (fun-ext (λ i. ap isReady (plain-line c i) ∙ plain-ready (getD (c .lines) i idle)))
+
+  pub plain-outcome : (t : Tables) (m : Mesh A) (chip source : ℕ) (p : Packet) → outcomeAt t (plain m) chip source p ≡ outcomeAt t m chip source p
+  plain-outcome t m chip source p =
+      ap
+      (λ (ready : ℕ).
+      outcomeOf p source (rowsAt t chip) (codesAt t (m .height * m .width) chip)
+      (record { width = m .width; height = m .height; monitor = m .monitor; phase = m .phase; ready = ready }))
+      (ap readyOf (plain-chip m chip) ∙ ready-of (getD (m .chips) chip fresh))
+
+  on-line : (l : Line A) → onLine (λ f. 1) (plainLine l) ≡ onLine (λ f. 1) l
+  on-line l = total-ones (map plainFlight (l .held)) ∙ length-map (l .held) plainFlight ∙ sym (total-ones (l .held))
+
+  on-chip : (c : Chip A) → onChip (λ f. 1) (plainChip c) ≡ onChip (λ f. 1) c
+  on-chip c = total-map (onLine (λ f. 1)) plainLine (c .lines) ∙ ap (λ (w : Line A → ℕ). total w (c .lines)) (fun-ext on-line)
+
+  pub plain-flying : (m : Mesh A) → inFlight (plain m) ≡ inFlight m
+  plain-flying m = total-map (onChip (λ f. 1)) plainChip (m .chips) ∙ ap (λ (w : Chip A → ℕ). total w (m .chips)) (fun-ext on-chip)
+
+  -- ---- one pass
+
+  plain-sent : (b : Bool) (p : Packet) (tag : A) → map plainFlight (sent b p tag) ≡ sent b p tt
+  plain-sent true p tag = refl
+  plain-sent false p tag = refl
+
+  line-after : (o : Outcome) (tag : A) (i : ℕ) (l : Line A) → plainLine (lineAfter o tag i l) ≡ lineAfter o tt i (plainLine l)
+  line-after o tag i l =
+      ap (λ (held : List (Flight (Unit {0}))). record { up = l .up; held = held })
+      (map-append plainFlight (l .held ++ sent (has (o .sent) i) (packetOn o i) tag) (sent (has (o .leg) i) (legPacket o) tag)
+      ∙ (λ k.
+      (map-append plainFlight (l .held) (sent (has (o .sent) i) (packetOn o i) tag)
+      ∙ ap (λ (x : List (Flight (Unit {0}))). map plainFlight (l .held) ++ x) (plain-sent (has (o .sent) i) (packetOn o i) tag))
+      k
+      ++ plain-sent (has (o .leg) i) (legPacket o) tag k))
+
+  lines-after : (o : Outcome) (tag : A) (i : ℕ) (ls : List (Line A)) → map plainLine (linesAfter o tag i ls) ≡ linesAfter o tt i (map plainLine ls)
+  unfolding linesAfter
+  lines-after o tag i [] = refl
+  lines-after o tag i (l ∷ ls) = λ k. line-after o tag i l k ∷ lines-after o tag (suc i) ls k
+
+  chip-after : (o : Outcome) (tag : A) (c : Chip A) → plainChip (chipAfter o tag c) ≡ chipAfter o tt (plainChip c)
+  chip-after o tag c =
+      ap (λ (lines : List (Line (Unit {0}))). record { registers = keptOf (c .registers) o; counters = countedOf (c .counters) o; lines = lines })
+      (lines-after o tag 0 (c .lines))
+
+  pub plain-with : (m : Mesh A) (chip : ℕ) (c : Chip A) → plain (withChip m chip c) ≡ withChip (plain m) chip (plainChip c)
+  plain-with m chip c = ap (λ (chips : List (Chip (Unit {0}))). withChips (plain m) chips) (map-set plainChip (m .chips) chip c)
+
+  module _ (t : Tables) (turn : A → A) where
+    pub plain-pass : (g : Going A) (a : Arrival A) → plainGoing (passAt t turn g a) ≡ passAt t same (plainGoing g) (plainArrival a)
+    plain-pass g a =
+        let m = g .mesh in
+        let c = getD (m .chips) (a .chip) fresh in
+        let o = outcomeAt t m (a .chip) (a .source) (a .flight .packet) in
+        let e = sym (plain-outcome t m (a .chip) (a .source) (a .flight .packet)) in
+        let mesh : plain (passAt t turn g a .mesh) ≡ passAt t same (plainGoing g) (plainArrival a) .mesh =
+        plain-with m (a .chip) (chipAfter o (turn (a .flight .tag)) c)
+        ∙ ap (λ (x : Chip (Unit {0})). withChip (plain m) (a .chip) x) (chip-after o (turn (a .flight .tag)) c)
+        ∙ (λ k. withChip (plain m) (a .chip) (chipAfter (e k) tt (sym (plain-chip m (a .chip)) k))) in
+        λ k. record { mesh = mesh k; log = g .log ++ logOf (a .chip) (e k) }
+
+    pub plain-passes : (g : Going A) (later : List (Arrival A))
+        → plainGoing (foldl (passAt t turn) g later) ≡ foldl (passAt t same) (plainGoing g) (map plainArrival later)
+    plain-passes g [] = refl
+    plain-passes g (a ∷ later) =
+        plain-passes (passAt t turn g a) later
+        ∙ ap (λ (h : Going (Unit {0})). foldl (passAt t same) h (map plainArrival later)) (plain-pass g a)
+
+  -- ---- a round
+
+  plain-emptied : (c : Chip A) → plainChip (emptiedChip c) ≡ emptiedChip (plainChip c)
+  plain-emptied c =
+      ap (λ (lines : List (Line (Unit {0}))). record { registers = c .registers; counters = c .counters; lines = lines })
+      (map-map plainLine emptied (c .lines) ∙ sym (map-map emptied plainLine (c .lines)))
+
+  plain-aside : (m : Mesh A) → plain (setAside m) ≡ setAside (plain m)
+  plain-aside m =
+      ap (λ (chips : List (Chip (Unit {0}))). withChips (plain m) chips)
+      (map-map plainChip emptiedChip (m .chips)
+      ∙ ap (λ (f : Chip A → Chip (Unit {0})). map f (m .chips)) (fun-ext plain-emptied)
+      ∙ sym (map-map emptiedChip plainChip (m .chips)))
+
+  arriving-by : (m : Mesh A) (chip source : ℕ) → map plainArrival (arrivingBy m chip source) ≡ arrivingBy (plain m) chip source
+  arriving-by m chip source =
+      let c = getD (m .chips) (across (m .width) (m .height) chip source) fresh in
+      let l = getD (c .lines) (opposite source) idle in
+      let arrive : Flight (Unit {0}) → Arrival (Unit {0}) = λ f. record { chip = chip; source = source; flight = f } in
+      let line : getD (getD (plain m .chips) (across (m .width) (m .height) chip source) fresh .lines) (opposite source) idle ≡ plainLine l =
+      ap (λ (x : Chip (Unit {0})). getD (x .lines) (opposite source) idle) (plain-chip m (across (m .width) (m .height) chip source)) ∙ plain-line c (opposite source) in
+      map-map plainArrival _ (l .held) ∙ sym (map-map arrive plainFlight (l .held)) ∙ ap (λ (x : Line (Unit {0})). map arrive (x .held)) (sym line)
+
+  arriving-at : (m : Mesh A) (chip : ℕ) → map plainArrival (arrivingAt m chip) ≡ arrivingAt (plain m) chip
+  arriving-at m chip =
+      simp map-append
+      (λ k.
+      arriving-by m chip 0 k ++ arriving-by m chip 1 k ++ arriving-by m chip 2 k ++ arriving-by m chip 3 k ++ arriving-by m chip 4 k
+      ++ arriving-by m chip 5 k)
+
+  arriving-from : (m : Mesh A) (chip n : ℕ) → map plainArrival (arrivingFrom m chip n) ≡ arrivingFrom (plain m) chip n
+  unfolding arrivingFrom
+  arriving-from m chip zero = refl
+  arriving-from m chip (suc n) =
+      map-append plainArrival (arrivingAt m chip) (arrivingFrom m (suc chip) n) ∙ (λ k. arriving-at m chip k ++ arriving-from m (suc chip) n k)
+
+  pub plain-rounded : (t : Tables) (turn : A → A) (m : Mesh A) → plainGoing (rounded t turn m) ≡ rounded t same (plain m)
+  plain-rounded t turn m =
+      let all : plainGoing (passed t turn m) ≡ passed t same (plain m) =
+      plain-passes t turn (record { mesh = setAside m; log = [] }) (arrivals m)
+      ∙ (λ k. foldl (passAt t same) (record { mesh = plain-aside m k; log = [] }) (arriving-from m 0 (m .height * m .width) k)) in
+      ap (λ (g : Going (Unit {0})). record { mesh = roundOver (g .mesh); log = g .log }) all

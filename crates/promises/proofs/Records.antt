@@ -1,0 +1,55 @@
+-- The joined records of a history's log are those of its passes, in order; and every pass is decided by the link states and counts that it
+-- found. Assumes nothing.
+use mathlib.Core.Path.{_≡_, refl, sym, _∙_}
+use mathlib.Core.List.{List, [], _∷_, _++_, append-nil}
+use Prim.Native.Nat.{ℕ, _<_}
+use lib.ListN.{getD}
+use Rattle.router.specs.Links.{has}
+use Rattle.router.specs.Deciding.{outcomeOf}
+use Rattle.mesh.specs.Mesh.{idle, isReady}
+use Rattle.mesh.specs.Steps.{logOf}
+use Rattle.mesh.proofs.Sets.{has-set}
+use Rattle.promises.specs.History.{Passage, Event, passed, emptied}
+use Rattle.promises.specs.Told.{EachPass, recordsOf}
+use Rattle.promises.specs.Demand3.{Log, NoStaleBlock}
+use Rattle.promises.proofs.Told.{each-append, records-append}
+use Rattle.promises.proofs.Runs.{passage, always-steady}
+
+one-record : (p : Passage) (es : List Event) (log : List ℕ) → log ≡ recordsOf es → log ++ logOf (p .arrival .chip) (p .outcome) ≡ recordsOf (es ++ passed p ∷ [])
+unfolding recordsOf
+one-record p es log e =
+    (λ i. e i ++ sym (append-nil (logOf (p .arrival .chip) (p .outcome))) i) ∙ sym (records-append es (passed p ∷ []))
+
+pub log-told : Log
+unfolding recordsOf
+log-told =
+    always-steady (λ m es log. log ≡ recordsOf es)
+    (record {
+      opens = λ w h f monitor. refl;
+      aside = λ m es log p. p;
+      passes = λ t n m a es log sound codes h p. one-record (passage t n m a) es log p;
+      over = λ m es log p. p;
+      links = λ m chip link up es log p. p;
+      reads = λ m chip es log sound h p. p ∙ sym (append-nil (recordsOf es)) ∙ sym (records-append es (emptied chip ∷ []));
+    })
+
+-- What is said of a pass: what decides it, and that the ready set has just the links that are up and hold at most 6.
+abbrev Afresh : Passage → Type 0
+Afresh p =
+    (p .outcome ≡ outcomeOf (p .arrival .flight .packet) (p .arrival .source) (p .rows) (p .codes) (p .setting))
+    × ((i : ℕ) → i < 6 → has (p .setting .ready) i ≡ isReady (getD (p .here .lines) i idle))
+
+pub no-stale-block : NoStaleBlock
+unfolding EachPass
+no-stale-block =
+    always-steady (λ m es log. EachPass Afresh es)
+    (record {
+      opens = λ w h f monitor. tt;
+      aside = λ m es log p. p;
+      passes = λ t n m a es log sound codes h p.
+          each-append Afresh es (passed (passage t n m a) ∷ []) p
+          ((refl, has-set (λ i. isReady (getD (passage t n m a .here .lines) i idle))), tt);
+      over = λ m es log p. p;
+      links = λ m chip link up es log p. p;
+      reads = λ m chip es log sound h p. each-append Afresh es (emptied chip ∷ []) p tt;
+    })

@@ -1,0 +1,89 @@
+-- Passes one after the other, in a history: what each single thing that happens keeps is kept throughout. Single things are a pass, a mesh's
+-- packets set aside, the end of a round, a link change, registers read. Assumes nothing.
+use mathlib.Core.Path.{_≡_, refl, subst}
+use mathlib.Core.Logic.{inr}
+use mathlib.Core.Bool.{Bool}
+use mathlib.Core.List.{List, [], _∷_, _++_, foldl, append-nil, append-assoc}
+use Prim.Native.Nat.{ℕ, zero, suc, _*_, _<_}
+use lib.ListN.{getD, set}
+use Rattle.mesh.specs.Mesh.{Mesh, fresh, opened}
+use Rattle.mesh.specs.Steps.{Tables, Arrival, Going, rowsAt, codesAt, settingAt, outcomeAt, logOf, setAside, arrivals, roundOver, passAt}
+use Rattle.mesh.specs.Calls.{withLink, withEmpty}
+use Rattle.mesh.specs.Sound.{All, Arrives, SoundMesh}
+use Rattle.mesh.proofs.SoundArrivals.{sound-arrivals}
+use Rattle.mesh.proofs.SoundSteps.{CodesFor, sound-aside, sound-pass}
+use Rattle.promises.specs.History.{Tag, Passage, Event, passed, emptied, turned, passages}
+use Rattle.promises.specs.Demand3.{Always}
+use Rattle.promises.proofs.Accepts.{arrivalNow}
+use Rattle.promises.proofs.Histories.{Kept, always-kept}
+
+-- The record of one pass.
+abbrev pub passage : Tables → ℕ → Mesh Tag → Arrival Tag → Passage
+passage t n m a =
+    record {
+      arrival = a;
+      rounds = n;
+      here = getD (m .chips) (a .chip) fresh;
+      rows = rowsAt t (a .chip);
+      codes = codesAt t (m .height * m .width) (a .chip);
+      setting = settingAt m (getD (m .chips) (a .chip) fresh);
+      outcome = outcomeAt t m (a .chip) (a .source) (a .flight .packet);
+    }
+
+-- What is to be shown of each single thing that happens, where P speaks of a mesh, of what happened before, and of the log.
+pub record Steady (P : Mesh Tag → List Event → List ℕ → Type 0) : Type 0 where
+  pub opens : (w h f monitor : ℕ) → P (opened w h f monitor) [] []
+  pub aside : (m : Mesh Tag) (es : List Event) (log : List ℕ) → P m es log → P (setAside m) es log
+  pub passes : (t : Tables) (n : ℕ) (m : Mesh Tag) (a : Arrival Tag) (es : List Event) (log : List ℕ) → SoundMesh m → CodesFor t m → Arrives (m .height * m .width) a → P m es log
+      → P (passAt t turned (record { mesh = m; log = [] }) a .mesh) (es ++ passed (passage t n m a) ∷ []) (log ++ logOf (a .chip) (outcomeAt t m (a .chip) (a .source) (a .flight .packet)))
+  pub over : (m : Mesh Tag) (es : List Event) (log : List ℕ) → P m es log → P (roundOver m) es log
+  pub links : (m : Mesh Tag) (chip link : ℕ) (up : Bool) (es : List Event) (log : List ℕ) → P m es log → P (withLink m chip link up) es log
+  pub reads : (m : Mesh Tag) (chip : ℕ) (es : List Event) (log : List ℕ) → SoundMesh m → chip < m .height * m .width → P m es log
+      → P (withEmpty m chip) (es ++ emptied chip ∷ []) log
+
+module _ (P : Mesh Tag → List Event → List ℕ → Type 0) (steady : Steady P) where
+  -- the passes of some arrivals; `log` is what the log had before them
+  run : (t : Tables) (n : ℕ) (g : Going Tag) (later : List (Arrival Tag)) (es : List Event) (log : List ℕ) → SoundMesh (g .mesh) → CodesFor t (g .mesh)
+      → All (Arrives (g .mesh .height * g .mesh .width)) later
+      → P (g .mesh) es (log ++ g .log)
+      → P (foldl (passAt t turned) g later .mesh) (es ++ passages t n g later) (log ++ foldl (passAt t turned) g later .log)
+  unfolding All passages
+  run t n g [] es log sound codes h p = rw append-nil p
+  run t n g (a ∷ later) es log sound codes h p =
+      let o = outcomeAt t (g .mesh) (a .chip) (a .source) (a .flight .packet) in
+      let e = passed (passage t n (g .mesh) a) in
+      let q = steady .passes t n (g .mesh) a es (log ++ g .log) sound codes (h .0) p in
+      let q′ = subst (λ (l : List ℕ). P (passAt t turned g a .mesh) (es ++ e ∷ []) l) (append-assoc log (g .log) (logOf (a .chip) o)) q in
+      subst (λ (l : List Event). P (foldl (passAt t turned) g (a ∷ later) .mesh) l (log ++ foldl (passAt t turned) g (a ∷ later) .log))
+      (append-assoc es (e ∷ []) (passages t n (passAt t turned g a) later))
+      (run t n (passAt t turned g a) later (es ++ e ∷ []) log (sound-pass t turned g a sound codes (h .0)) codes (h .1) q′)
+
+  kept : Kept (λ f s. P (s .mesh) (s .events) (s .log))
+  unfolding All
+  kept =
+      record {
+        opens = λ w h f monitor o. steady .opens w h f monitor;
+        injects = λ f s chip bytes t sound h p.
+            run t (s .rounds) (record { mesh = s .mesh; log = [] }) (arrivalNow s chip bytes ∷ []) (s .events) (s .log) sound (h .codes)
+            (record { there = h .there; from = inr refl; passable = h .passable }, tt)
+            (rw append-nil p);
+        rounds = λ f s t sound codes p.
+            steady .over _ _ _
+            (run t (s .rounds) (record { mesh = setAside (s .mesh); log = [] }) (arrivals (s .mesh)) (s .events) (s .log) (sound-aside sound) codes (sound-arrivals sound)
+            (rw append-nil (steady .aside (s .mesh) (s .events) (s .log) p)));
+        links = λ f s chip link up sound h k p. steady .links (s .mesh) chip link up (s .events) (s .log) p;
+        reads = λ f s chip sound h p. steady .reads (s .mesh) chip (s .events) (s .log) sound h p;
+      }
+
+  pub always-steady : Always (λ f s. P (s .mesh) (s .events) (s .log))
+  always-steady = always-kept (λ f s. P (s .mesh) (s .events) (s .log)) kept
+
+-- ---- one chip
+
+-- a part of a chip that a change at one place keeps
+pub set-keeps : {X Y : Type 0} (f : X → Y) (l : List X) (i j : ℕ) (x d : X) → f x ≡ f (getD l i d) → f (getD (set l i x) j d) ≡ f (getD l j d)
+set-keeps f [] i j x d e = refl
+set-keeps f (y ∷ l) zero zero x d e = e
+set-keeps f (y ∷ l) zero (suc j) x d e = refl
+set-keeps f (y ∷ l) (suc i) zero x d e = refl
+set-keeps f (y ∷ l) (suc i) (suc j) x d e = set-keeps f l i j x d e

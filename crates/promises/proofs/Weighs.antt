@@ -1,0 +1,101 @@
+-- What a pass sends weighs, on the links where it lands, what the pass's own account says: a link marked 01 two, any other packet one. Assumes nothing.
+use mathlib.Core.Path.{_≡_, refl, sym, ap, _∙_, subst}
+use mathlib.Core.Bool.{Bool, true, false, cond, _&&_, and-false}
+use mathlib.Core.List.{List}
+use Prim.Native.Nat.{ℕ, _+_, _<_}
+use native.Mathlib.Omega.{arith}
+use lib.Count.{ones, onesIn}
+use lib.Dec.{eqb}
+use lib.ListN.{length, getD}
+use borrow.Author.Tests.{eqb-true}
+use Rattle.packet.specs.declared.Packet.{Packet}
+use Rattle.packet.specs.Control.{markOf, kindOf}
+use Rattle.packet.proofs.Small.{every, at}
+use Rattle.router.specs.declared.Outcome.{Outcome}
+use Rattle.router.specs.declared.Setting.{Setting}
+use Rattle.router.specs.Links.{has}
+use Rattle.router.specs.Deciding.{isMc, decided, outcomeOf, markOn, packetOn, legPacket, Checked}
+use Rattle.router.specs.Units.{weight, overLinks, weightSent}
+use Rattle.router.proofs.Bounds.{outcome-sets}
+use Rattle.router.proofs.LowestFirst.{six}
+use Rattle.router.proofs.OnePass as pass
+use Rattle.mesh.specs.Mesh.{Flight, Line, Chip, idle}
+use Rattle.mesh.specs.Steps.{sent, lineAfter, linesAfter, chipAfter}
+use Rattle.mesh.specs.Weights.{total, onLine, onChip}
+use Rattle.mesh.proofs.Totals.{total-append}
+use Rattle.mesh.proofs.Fitting.{has-none}
+
+-- ---- a chip after a pass
+
+-- what link i gets
+abbrev gained : Outcome → ℕ → ℕ
+gained o i = cond (has (o .sent) i) (weight (packetOn o i)) 0 + cond (has (o .leg) i) (weight (legPacket o)) 0
+
+module _ {A : Type 0} where
+  abbrev pub weighed : Flight A → ℕ
+  weighed x = weight (x .packet)
+
+  total-sent : (b : Bool) (p : Packet) (tag : A) → total weighed (sent b p tag) ≡ cond b (weight p) 0
+  unfolding total
+  total-sent true p tag = omega arith
+  total-sent false p tag = refl
+
+  line-gains : (o : Outcome) (tag : A) (i : ℕ) (l : Line A) → onLine weighed (lineAfter o tag i l) ≡ onLine weighed l + gained o i
+  line-gains o tag i l =
+      simp total-append (omega (arith, total-sent (has (o .sent) i) (packetOn o i) tag, total-sent (has (o .leg) i) (legPacket o) tag))
+
+  chip-gains : (o : Outcome) (tag : A) (c : Chip A) → length (c .lines) ≡ 6 → onChip weighed (chipAfter o tag c) ≡ onChip weighed c + overLinks (gained o)
+  unfolding total linesAfter
+  chip-gains o tag c h =
+      subst (λ (ls : List (Line A)). total (onLine weighed) (linesAfter o tag 0 ls) ≡ total (onLine weighed) ls + overLinks (gained o)) (sym (six idle (c .lines) h))
+      (omega (arith, gains 0, gains 1, gains 2, gains 3, gains 4, gains 5))
+    where
+      gains : (i : ℕ) → onLine weighed (lineAfter o tag i (getD (c .lines) i idle)) ≡ onLine weighed (getD (c .lines) i idle) + gained o i
+      gains i = line-gains o tag i (getD (c .lines) i idle)
+
+-- ---- what is sent
+
+-- a set of links has a bit for each
+bits-test : ℕ → Bool
+bits-test n = eqb (overLinks (λ i. cond (has n i) 1 0)) (ones n)
+
+links-ones : (n : ℕ) → n < 64 → overLinks (λ i. cond (has n i) 1 0) ≡ ones n
+unfolding every bits-test ones onesIn
+links-ones n h = eqb-true _ _ (at 64 bits-test refl n h)
+
+over-add : (f g : ℕ → ℕ) → overLinks (λ i. f i + g i) ≡ overLinks f + overLinks g
+over-add f g = omega arith
+
+-- type and mark decide the weight
+weight-of : (q : Packet) (k m : ℕ) → kindOf (q .control) ≡ k → markOf (q .control) ≡ m → weight q ≡ cond (eqb k 0 && eqb m 1) 2 1
+weight-of q k m ek em = λ i. cond (eqb (ek i) 0 && eqb (em i) 1) 2 1
+
+module _ (p : Packet) (s : ℕ) (rows codes : List ℕ) (t : Setting) (h : Checked p s codes t) (from : pass.Source s) where
+  -- only MC takes detours
+  no-detour : isMc (outcomeOf p s rows codes t .packet) ≡ false → outcomeOf p s rows codes t .carried ≡ 0
+  unfolding outcomeOf decided
+  no-detour other = simp other
+
+  on-weighs : (i : ℕ) → weight (packetOn (outcomeOf p s rows codes t) i) ≡ cond (eqb (markOn (outcomeOf p s rows codes t) i) 1) 2 1
+  on-weighs i = go (isMc (outcomeOf p s rows codes t .packet)) refl
+    where
+      go : (b : Bool) → isMc (outcomeOf p s rows codes t .packet) ≡ b → weight (packetOn (outcomeOf p s rows codes t) i) ≡ cond (eqb (markOn (outcomeOf p s rows codes t) i) 1) 2 1
+      go true mc = let f = pass.sent-mc p s rows codes t h from i mc in weight-of (packetOn (outcomeOf p s rows codes t) i) 0 (markOn (outcomeOf p s rows codes t) i) (f .kind ∙ eqb-true _ _ mc) (f .new)
+      go false other =
+          let plain : markOn (outcomeOf p s rows codes t) i ≡ 0 = simp (no-detour other, has-none) in
+          ap weight (pass.sent-plain p s rows codes t h from i other) ∙ simp (other, plain)
+
+  leg-weighs : weight (legPacket (outcomeOf p s rows codes t)) ≡ 1
+  leg-weighs = weight-of (legPacket (outcomeOf p s rows codes t)) _ 3 refl (pass.sent-leg p s rows codes t h from .new) ∙ simp and-false
+
+  sent-weighs : overLinks (gained (outcomeOf p s rows codes t)) ≡ weightSent (outcomeOf p s rows codes t)
+  sent-weighs =
+      let o = outcomeOf p s rows codes t in
+      (λ j. overLinks (λ i. cond (has (o .sent) i) (on-weighs i j) 0 + cond (has (o .leg) i) (leg-weighs j) 0))
+      ∙ over-add (λ i. cond (has (o .sent) i) (cond (eqb (markOn o i) 1) 2 1) 0) (λ i. cond (has (o .leg) i) 1 0)
+      ∙ ap (λ (n : ℕ). overLinks (λ i. cond (has (o .sent) i) (cond (eqb (markOn o i) 1) 2 1) 0) + n) (links-ones (o .leg) (outcome-sets p s rows codes t .leg))
+
+  -- so a chip of six links weighs more by what the pass sends
+  pub chip-weighs-sent : {A : Type 0} (tag : A) (c : Chip A) → length (c .lines) ≡ 6
+      → onChip weighed (chipAfter (outcomeOf p s rows codes t) tag c) ≡ onChip weighed c + weightSent (outcomeOf p s rows codes t)
+  chip-weighs-sent tag c lines = chip-gains (outcomeOf p s rows codes t) tag c lines ∙ ap (λ (n : ℕ). onChip weighed c + n) sent-weighs
