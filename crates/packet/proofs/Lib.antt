@@ -2,6 +2,7 @@ pub mod Determined
 pub mod First
 pub mod Folded
 pub mod Masks
+pub mod Packing
 pub mod Ranges
 pub mod Refusals
 pub mod Rewrite

@@ -6,8 +6,8 @@ use super::control::kind_of;
 ghost use mathlib.Core.Path.{_≡_};
 ghost use mathlib.Core.Bool.{cond};
 ghost use lib.ListN.{length};
-ghost use Prim.Native.Nat.{_+_, _≤_, _<_};
-ghost use Rattle.packet.specs.Bytes.{wordAt, packetAt, usedType, notTaken, takenOf, packedAs, packedBytes};
+ghost use Prim.Native.Nat.{_+_, _/_, _%_, _≤_, _<_};
+ghost use Rattle.packet.specs.Bytes.{wordAt, packetAt, usedType, notTaken, takenOf, packedUnder, packedBytes};
 
 // The packet that stands in the bytes: 2 for a length other than 5 or 9, then 3 for type 11.
 pub fn take(s: &[u8]) -> Taken
@@ -28,9 +28,9 @@ pub fn bytes_of(p: Packet) -> Packed
     ensures { λ r. ⌜ r ≡ packedBytes p ⌝ }
 {
     if p.nine == 0 {
-        packed(p, 5, 0)
+        packed(0, p, 5, 0)
     } else {
-        packed(p, 9, p.payload)
+        packed(0, p, 9, p.payload)
     }
 }
 
@@ -99,22 +99,32 @@ pub fn not_taken(refusal: u32) -> Taken
     Taken { refusal, packet }
 }
 
-fn packed(p: Packet, length: u32, payload: u32) -> Packed
-    ensures { λ r. ⌜ r ≡ packedAs p length payload ⌝ }
+// The packet's places under a refusal's number. Both words are turned first, so that each is stored at once.
+pub fn packed(refusal: u32, p: Packet, length: u32, payload: u32) -> Packed
+    ensures { λ r. ⌜ r ≡ packedUnder refusal p length payload ⌝ }
 {
+    let word = turned(p.word);
+    let last = turned(payload);
     Packed {
-        refusal: 0,
+        refusal,
         length,
         bytes: [
             (p.control % 256) as u8,
-            (p.word / 16777216) as u8,
-            (p.word / 65536 % 256) as u8,
-            (p.word / 256 % 256) as u8,
-            (p.word % 256) as u8,
-            (payload / 16777216) as u8,
-            (payload / 65536 % 256) as u8,
-            (payload / 256 % 256) as u8,
-            (payload % 256) as u8,
+            (word % 256) as u8,
+            (word / 256 % 256) as u8,
+            (word / 65536 % 256) as u8,
+            (word / 16777216) as u8,
+            (last % 256) as u8,
+            (last / 256 % 256) as u8,
+            (last / 65536 % 256) as u8,
+            (last / 16777216) as u8,
         ],
     }
+}
+
+// The four bytes of a word in the other order.
+fn turned(w: u32) -> u32
+    ensures { λ r. ⌜ (r % 256 ≡ w / 16777216) × ((r / 256 % 256 ≡ w / 65536 % 256) × ((r / 65536 % 256 ≡ w / 256 % 256) × (r / 16777216 ≡ w % 256))) ⌝ }
+{
+    w % 256 * 16777216 + w / 256 % 256 * 65536 + w / 65536 % 256 * 256 + w / 16777216
 }

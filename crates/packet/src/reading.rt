@@ -4,7 +4,7 @@ use super::FieldsRead;
 use super::Packed;
 use super::Packet;
 use super::Taken;
-use super::bytes::bytes_of;
+use super::bytes::packed;
 use super::bytes::take;
 use super::control::beside;
 use super::control::carries_of;
@@ -17,8 +17,11 @@ use super::control::route_of;
 use super::control::sequence_of;
 use super::control::stamp_of;
 ghost use mathlib.Core.Path.{_≡_};
-ghost use mathlib.Core.Bool.{true};
-ghost use Rattle.packet.specs.Fields.{endFields, mcFields, p2pFields, nnFields, fieldsOf, noFields, readFrom, readOf, mcInRange, p2pInRange, nnInRange, endInRange, inRange, controlOf, wordOf, packetOf, notPacked, packedOf};
+ghost use mathlib.Core.Bool.{true, cond};
+ghost use lib.Dec.{eqb};
+ghost use Rattle.packet.specs.Bytes.{nothing};
+ghost use Rattle.packet.specs.Refusal.{firstOf, packRefusals};
+ghost use Rattle.packet.specs.Fields.{endFields, mcFields, p2pFields, nnFields, fieldsOf, noFields, readFrom, readOf, mcInRange, p2pInRange, nnInRange, endInRange, inRange, controlOf, wordOf, packetOf, packedOf};
 
 // The fields of a packet in bytes: 2 for a length other than 5 or 9, then 3 for type 11.
 pub fn read(s: &[u8]) -> FieldsRead
@@ -31,15 +34,9 @@ pub fn read(s: &[u8]) -> FieldsRead
 pub fn pack(f: Fields) -> Packed
     ensures { λ r. ⌜ r ≡ packedOf f ⌝ }
 {
-    if in_range(f) {
-        if f.kind == 3 {
-            not_packed(3)
-        } else {
-            bytes_of(packet_of(f))
-        }
-    } else {
-        not_packed(6)
-    }
+    let refusal = pack_refusal(f);
+    let p = packet_unless(refusal, f);
+    packed(refusal, p, length_unless(refusal, p.nine), p.payload)
 }
 
 pub fn fields_of(p: Packet) -> Fields
@@ -189,13 +186,40 @@ fn end_in_range(f: Fields) -> bool
     (f.carries < 2) & (f.parity < 2) & (f.nine < 2) & ((f.nine == 1) | (f.payload == 0))
 }
 
-fn not_packed(refusal: u32) -> Packed
-    ensures { λ r. ⌜ r ≡ notPacked refusal ⌝ }
+fn pack_refusal(f: Fields) -> u32
+    ensures { λ r. ⌜ r ≡ firstOf (packRefusals f) ⌝ }
 {
-    Packed {
-        refusal,
-        length: 0,
-        bytes: [0, 0, 0, 0, 0, 0, 0, 0, 0],
+    if in_range(f) {
+        if f.kind == 3 { 3 } else { 0 }
+    } else {
+        6
+    }
+}
+
+// The packet of the fields, or zeros where they are refused.
+fn packet_unless(refusal: u32, f: Fields) -> Packet
+    requires { ⌜ (refusal ≡ 0 → inRange f ≡ true) ⌝ }
+    ensures { λ r. ⌜ r ≡ cond (eqb refusal 0) (packetOf f) nothing ⌝ }
+{
+    if refusal == 0 {
+        packet_of(f)
+    } else {
+        Packet {
+            control: 0,
+            nine: 0,
+            word: 0,
+            payload: 0,
+        }
+    }
+}
+
+fn length_unless(refusal: u32, nine: u32) -> u32
+    ensures { λ r. ⌜ r ≡ cond (eqb refusal 0) (cond (eqb nine 0) 5 9) 0 ⌝ }
+{
+    if refusal == 0 {
+        if nine == 0 { 5 } else { 9 }
+    } else {
+        0
     }
 }
 

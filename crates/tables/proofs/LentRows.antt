@@ -9,8 +9,8 @@ use lib.ListN.{length, getD, drop}
 use Rattle.tables.specs.declared.Found.{Found}
 use Rattle.tables.specs.declared.Found.the-variants.{At, Nothing}
 use Rattle.tables.specs.declared.Row.{Row}
-use Rattle.tables.specs.Rows.{matches, rowsOf, numbersOf, firstMatch}
-use Rattle.tables.proofs.RowByRow.{later, later-zero, search-here, search-on, search-end}
+use Rattle.tables.specs.Rows.{matches, rowsOf, numbersOf, later, firstMatch}
+use Rattle.tables.proofs.RowByRow.{later-zero, search-here, search-on, search-end}
 
 -- what stands past the end
 abbrev pub blank : Row

@@ -2,7 +2,7 @@
 use mathlib.Core.Path.{_≡_, refl, sym, ap, _∙_, subst}
 use mathlib.Core.Bool.{Bool, true, false, _&&_, and-assoc, and-true}
 use mathlib.Core.List.{List, [], _∷_}
-use Prim.Native.Nat.{ℕ, suc, _+_, _*_, _/_, _<_, _≤_}
+use Prim.Native.Nat.{ℕ, suc, _+_, _*_, _/_, _^_, _<_, _≤_}
 use native.Mathlib.Omega.{arith}
 use native.Mathlib.Numerals.{add-one}
 use lib.ListN.{length, getD, drop, drop-of-length-le}
@@ -15,8 +15,8 @@ use Rattle.tables.specs.Accept.{allRoutes, allCodes}
 use Rattle.tables.proofs.RowByRow.{rows-step, rows-end}
 
 -- two numbers joined are below a power of two when both are
-or-below : (a b : ℕ) → ltb (bitOr a b) 67108864 ≡ (ltb a 67108864 && ltb b 67108864)
-or-below a b = go (ltb a 67108864) (ltb b 67108864) refl refl
+or-below : (k a b : ℕ) → ltb (bitOr a b) (2 ^ k) ≡ (ltb a (2 ^ k) && ltb b (2 ^ k))
+or-below k a b = go (ltb a (2 ^ k)) (ltb b (2 ^ k)) refl refl
   where
     sum : bitOr a b + bitAnd a b ≡ a + b
     sum = or-add-and a b
@@ -27,10 +27,15 @@ or-below a b = go (ltb a 67108864) (ltb b 67108864) refl refl
     right : bitAnd a b ≤ b
     right = and-le-r a b
 
-    go : (p q : Bool) → ltb a 67108864 ≡ p → ltb b 67108864 ≡ q → ltb (bitOr a b) 67108864 ≡ (p && q)
-    go true true x y = lt-ltb (bitOr a b) 67108864 (or-lt 26 a b (ltb-true _ _ x) (ltb-true _ _ y))
-    go true false x y = let big : 67108864 ≤ b = ltb-false _ _ y in le-ltb (bitOr a b) 67108864 (omega (arith, sum, left))
-    go false q x y = let big : 67108864 ≤ a = ltb-false _ _ x in le-ltb (bitOr a b) 67108864 (omega (arith, sum, right))
+    go : (p q : Bool) → ltb a (2 ^ k) ≡ p → ltb b (2 ^ k) ≡ q → ltb (bitOr a b) (2 ^ k) ≡ (p && q)
+    go true true x y = lt-ltb (bitOr a b) (2 ^ k) (or-lt k a b (ltb-true _ _ x) (ltb-true _ _ y))
+    go true false x y = let big : 2 ^ k ≤ b = ltb-false _ _ y in le-ltb (bitOr a b) (2 ^ k) (omega (arith, sum, left))
+    go false q x y = let big : 2 ^ k ≤ a = ltb-false _ _ x in le-ltb (bitOr a b) (2 ^ k) (omega (arith, sum, right))
+
+-- a test of every entry so far, of all joined, and of the entries to come
+or-on : (k a b : ℕ) (all rest : Bool) → all ≡ (ltb a (2 ^ k) && (ltb b (2 ^ k) && rest)) → all ≡ (ltb (bitOr a b) (2 ^ k) && rest)
+or-on k a b all rest e =
+    e ∙ sym (and-assoc (ltb a (2 ^ k)) (ltb b (2 ^ k)) rest) ∙ ap (λ (f : Bool). f && rest) (sym (or-below k a b))
 
 module _ (s : List ℕ) (i : ℕ) where
   routes-step : i * 3 + 2 < length s → allRoutes (rowsOf (drop (i * 3) s)) ≡ (ltb (getD s (i * 3 + 2) 0) 67108864 && allRoutes (rowsOf (drop ((i + 1) * 3) s)))
@@ -43,10 +48,7 @@ module _ (s : List ℕ) (i : ℕ) where
 
   pub routes-joined : (all : Bool) (joined : ℕ) → i * 3 + 2 < length s → all ≡ (ltb joined 67108864 && allRoutes (rowsOf (drop (i * 3) s)))
       → all ≡ (ltb (bitOr joined (getD s (i * 3 + 2) 0)) 67108864 && allRoutes (rowsOf (drop ((i + 1) * 3) s)))
-  routes-joined all joined h e =
-      e ∙ ap (λ (r : Bool). ltb joined 67108864 && r) (routes-step h)
-      ∙ sym (and-assoc (ltb joined 67108864) (ltb (getD s (i * 3 + 2) 0) 67108864) (allRoutes (rowsOf (drop ((i + 1) * 3) s))))
-      ∙ ap (λ (f : Bool). f && allRoutes (rowsOf (drop ((i + 1) * 3) s))) (sym (or-below joined (getD s (i * 3 + 2) 0)))
+  routes-joined all joined h e = or-on 26 joined (getD s (i * 3 + 2) 0) all _ (e ∙ ap (λ (r : Bool). ltb joined 67108864 && r) (routes-step h))
 
   pub routes-last : (all : Bool) (joined : ℕ) → length s / 3 ≤ i → all ≡ (ltb joined 67108864 && allRoutes (rowsOf (drop (i * 3) s))) → all ≡ ltb joined 67108864
   routes-last all joined h e = e ∙ ap (λ (r : Bool). ltb joined 67108864 && r) (routes-end h) ∙ and-true (ltb joined 67108864)
@@ -59,11 +61,9 @@ module _ (s : List ℕ) (i : ℕ) where
   unfolding allCodes
   codes-end h = ap allCodes (drop-of-length-le s h)
 
-  pub codes-joined : (all fine : Bool) → i < length s → all ≡ (fine && allCodes (drop i s))
-      → all ≡ ((fine && ltb (getD s i 0) 8) && allCodes (drop (i + 1) s))
-  codes-joined all true h e = e ∙ codes-step h
-  codes-joined all false h e = e
+  pub codes-joined : (all : Bool) (joined : ℕ) → i < length s → all ≡ (ltb joined 8 && allCodes (drop i s))
+      → all ≡ (ltb (bitOr joined (getD s i 0)) 8 && allCodes (drop (i + 1) s))
+  codes-joined all joined h e = or-on 3 joined (getD s i 0) all _ (e ∙ ap (λ (r : Bool). ltb joined 8 && r) (codes-step h))
 
-  pub codes-last : (all fine : Bool) → length s ≤ i → all ≡ (fine && allCodes (drop i s)) → all ≡ fine
-  codes-last all true h e = e ∙ codes-end h
-  codes-last all false h e = e
+  pub codes-last : (all : Bool) (joined : ℕ) → length s ≤ i → all ≡ (ltb joined 8 && allCodes (drop i s)) → all ≡ ltb joined 8
+  codes-last all joined h e = e ∙ ap (λ (r : Bool). ltb joined 8 && r) (codes-end h) ∙ and-true (ltb joined 8)

@@ -6,16 +6,12 @@ use Prim.Native.Nat.{ℕ, zero, suc, _+_, _*_, _/_, _<_, _≤_}
 use native.Mathlib.Nat.{add-zero}
 use native.Mathlib.Numerals.{add-one}
 use native.Mathlib.Omega.{arith}
+use borrow.Author.Tests.{lt-ltb, le-ltb}
 use lib.ListN.{length, getD, drop, length-drop}
 use lib.Seq.{drop-cons}
 use Rattle.tables.specs.declared.Found.{Found}
 use Rattle.tables.specs.declared.Found.the-variants.{At, Nothing}
-use Rattle.tables.specs.Rows.{Entry, matches, rowsOf, next, firstMatch, routeAt}
-
--- what a search finds, i rows further on
-abbrev pub later : ℕ → Found → Found
-later i (At n) = At (i + n)
-later i Nothing = Nothing
+use Rattle.tables.specs.Rows.{Entry, matches, rowsOf, next, later, firstMatch, foundFrom, foundAt, routeAt}
 
 pub later-zero : (f : Found) → later 0 f ≡ f
 later-zero (At n) = ap At (omega arith)
@@ -65,6 +61,20 @@ module _ (s : List ℕ) (i : ℕ) where
     pub search-end : length s / 3 ≤ i → firstMatch key (rowsOf (drop (i * 3) s)) ≡ Nothing
     unfolding firstMatch
     search-end h = ap (firstMatch key) (rows-end h)
+
+    -- the number that a search yields at a row that matches, what it finds past one that does not, and its number past the last
+    pub from-here : i * 3 + 2 < length s → matches key (getD s (i * 3) 0) (getD s (i * 3 + 1) 0) ≡ true → foundAt (length s / 3) i ≡ foundFrom key s i
+    from-here h m =
+        let below : i < length s / 3 = omega arith in
+        let e : i + 0 ≡ i = omega arith in
+        simp (lt-ltb i (length s / 3) below, search-here h m, e)
+
+    pub from-next : (k : ℕ) → k ≡ i + 1 → i * 3 + 2 < length s → matches key (getD s (i * 3) 0) (getD s (i * 3 + 1) 0) ≡ false
+        → foundFrom key s i ≡ foundFrom key s k
+    from-next k e h m = search-on h m ∙ ap (foundFrom key s) (sym e)
+
+    pub from-end : (n : ℕ) → length s / 3 ≤ n → length s / 3 ≤ i → foundAt (length s / 3) n ≡ foundFrom key s i
+    from-end n past h = simp (le-ltb n (length s / 3) past, search-end h)
 
 -- ---- the row that a search names is there
 

@@ -1,11 +1,11 @@
 -- "An MC table is a run of rows, each with key, mask and route. ... A row matches when packet key AND mask equals row key AND mask; the search
 -- stops at the first row that matches."
-use Prim.Native.Nat.{ℕ, suc}
+use Prim.Native.Nat.{ℕ, suc, _+_, _*_}
 use mathlib.Core.Bool.{Bool, cond}
 use mathlib.Core.List.{List, [], _∷_}
 use lib.Bits.{bitAnd}
-use lib.Dec.{eqb}
-use lib.ListN.{length, getD}
+use lib.Dec.{eqb, ltb}
+use lib.ListN.{length, getD, drop}
 use Rattle.tables.specs.declared.Found.{Found}
 use Rattle.tables.specs.declared.Found.the-variants.{At, Nothing}
 use Rattle.tables.specs.declared.Matched.{Matched}
@@ -40,6 +40,19 @@ next Nothing = Nothing
 unfoldable pub firstMatch : ℕ → List Entry → Found
 firstMatch key [] = Nothing
 firstMatch key (r ∷ rs) = cond (matches key (r .key) (r .mask)) (At 0) (next (firstMatch key rs))
+
+-- What a search finds, i rows further on.
+abbrev pub later : ℕ → Found → Found
+later i (At n) = At (i + n)
+later i Nothing = Nothing
+
+-- What is found from row i of a table's numbers on.
+abbrev pub foundFrom : ℕ → List ℕ → ℕ → Found
+foundFrom key s i = later i (firstMatch key (rowsOf (drop (i * 3) s)))
+
+-- What a row's number says, where the number of rows stands for none.
+abbrev pub foundAt : ℕ → ℕ → Found
+foundAt count n = cond (ltb n count) (At n) Nothing
 
 abbrev pub noRow : Entry
 noRow = record { key = 0; mask = 0; route = 0 }

@@ -43,13 +43,13 @@ pub fn codes_fine(codes: &[u8], count: usize) -> bool
     if codes.len() != count {
         return false;
     }
-    let mut fine = true;
+    let mut joined: u8 = 0;
     let mut i = 0;
     while i < codes.len() {
-        fine = fine & (codes[i] < 8);
+        joined = joined | codes[i];
         i += 1;
     }
-    fine
+    joined < 8
 }
 
 // A start as a number of the machine's width, so that 1,024 more does not wrap.

@@ -4,8 +4,8 @@ use super::Matched;
 use super::Row;
 ghost use mathlib.Core.Path.{_≡_};
 ghost use lib.ListN.{length, getD};
-ghost use Prim.Native.Nat.{_+_, _*_, _<_};
-ghost use Rattle.tables.specs.Rows.{matches, rowsOf, numbersOf, firstMatch, routeFor};
+ghost use Prim.Native.Nat.{_+_, _*_, _/_, _≤_, _<_};
+ghost use Rattle.tables.specs.Rows.{matches, rowsOf, numbersOf, firstMatch, foundFrom, foundAt, routeFor};
 
 // The route of the first row that matches the key.
 pub fn route_for(rows: &[u32], key: u32) -> Matched
@@ -17,26 +17,51 @@ pub fn route_for(rows: &[u32], key: u32) -> Matched
     }
 }
 
-// The number of the first row that matches the key.
+// The number of the first row that matches the key: four rows a turn, for fewer steps a row.
 pub fn first_match(rows: &[u32], key: u32) -> Found
     ensures { λ r. ⌜ r ≡ firstMatch key (rowsOf (now (rows .entry))) ⌝ }
 {
     let count = rows.len() / 3;
     let mut i = 0;
     let at = loop {
-        if count <= i {
-            break count;
+        if count - i < 4 {
+            break first_from(rows, key, i);
         }
-        if matches_row(key, rows[i * 3], rows[i * 3 + 1]) {
+        if matches_at(rows, i, key) {
             break i;
         }
-        i += 1;
+        if matches_at(rows, i + 1, key) {
+            break i + 1;
+        }
+        if matches_at(rows, i + 2, key) {
+            break i + 2;
+        }
+        if matches_at(rows, i + 3, key) {
+            break i + 3;
+        }
+        i += 4;
     };
     if at < count {
         Found::At(at)
     } else {
         Found::Nothing
     }
+}
+
+// The number of the first row that matches, from a row on, row by row; the number of rows where none does.
+fn first_from(rows: &[u32], key: u32, from: usize) -> usize
+    requires { ⌜ from ≤ length (now rows) / 3 ⌝ }
+    ensures { λ r. ⌜ foundAt (length (now (rows .entry)) / 3) r ≡ foundFrom key (now (rows .entry)) from ⌝ }
+{
+    let count = rows.len() / 3;
+    let mut i = from;
+    while i < count {
+        if matches_at(rows, i, key) {
+            return i;
+        }
+        i += 1;
+    }
+    count
 }
 
 // The same search through a table lent as a slice of rows.
@@ -59,6 +84,13 @@ pub fn first_of_four(rows: [Row; 4], key: u32) -> Found
     ensures { λ r. ⌜ r ≡ firstMatch key (rowsOf (numbersOf rows)) ⌝ }
 {
     first_row(&rows, key)
+}
+
+fn matches_at(rows: &[u32], i: usize, key: u32) -> bool
+    requires { ⌜ i * 3 + 2 < length (now rows) ⌝ }
+    ensures { λ r. ⌜ r ≡ matches key (getD (now (rows .entry)) (i * 3) 0) (getD (now (rows .entry)) (i * 3 + 1) 0) ⌝ }
+{
+    matches_row(key, rows[i * 3], rows[i * 3 + 1])
 }
 
 fn matches_row(key: u32, row_key: u32, mask: u32) -> bool
