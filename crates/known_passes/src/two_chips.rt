@@ -6,7 +6,8 @@ use mesh::moving::inject;
 use mesh::moving::round;
 use mesh::opening::open;
 
-const WORDS: usize = 650;
+// No mesh needs more than 4,096 words a chip and 1,024 besides.
+const WORDS: usize = 9216;
 
 const ROWS: [u32; 6] = [1, 4294967295, 1, 1, 4294967295, 1];
 
