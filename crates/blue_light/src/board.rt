@@ -15,11 +15,19 @@ pub const WORDS: usize = 37888;
 
 pub const CHIPS: u32 = 9;
 
+// No point-to-point packet is sent: every code is 6, nowhere.
 pub const CODES: [u8; 81] = [6; 81];
 
+// Key 1 and every bit of it: at chip 0 to link 0, route bit 0; at chip 2 to processor 1, route bit 7.
 const ROWS: [u32; 6] = [1, 4294967295, 1, 1, 4294967295, 128];
 
 const STARTS: [u32; 10] = [0, 1, 1, 2, 2, 2, 2, 2, 2, 2];
+
+const SENT: u32 = 5;
+
+const DELIVERED: u32 = 6;
+
+const DROPPED: u32 = 7;
 
 // What all chips together counted.
 pub struct Totals {
@@ -59,9 +67,9 @@ pub fn in_flight(mesh: &[u32; WORDS]) -> u32 {
 
 pub fn sums(mesh: &[u32; WORDS]) -> Totals {
     Totals {
-        sent: sum(mesh, 5),
-        delivered: sum(mesh, 6),
-        dropped: sum(mesh, 7),
+        sent: sum(mesh, SENT),
+        delivered: sum(mesh, DELIVERED),
+        dropped: sum(mesh, DROPPED),
     }
 }
 

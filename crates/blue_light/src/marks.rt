@@ -1,5 +1,6 @@
-// The mark on the packet in flight. No call shows a packet on its way, but a mesh is plain memory: in a copy of it every
-// link is taken down and no chip has a row, so that the next chip has to drop the packet, and its registers show it.
+// The mark on the one packet in flight. No call shows a packet on its way, but a mesh is plain memory: in a copy of it every
+// link is taken down and no chip has a row, so that the next chip has to drop the packet, and its registers show it as it
+// came.
 use super::board::CHIPS;
 use super::board::CODES;
 use super::board::WORDS;

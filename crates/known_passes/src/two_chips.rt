@@ -9,6 +9,9 @@ use mesh::opening::open;
 // No mesh needs more than 4,096 words a chip and 1,024 besides.
 const WORDS: usize = 9216;
 
+const P: [u8; 5] = [0, 0, 0, 0, 1];
+
+// A row for each chip: key 1, every bit of it, to link 0.
 const ROWS: [u32; 6] = [1, 4294967295, 1, 1, 4294967295, 1];
 
 const STARTS: [u32; 3] = [0, 1, 2];
@@ -64,8 +67,7 @@ fn round_leaves(mesh: &mut [u32; WORDS], log: &mut [u32; 6], added: u32, flying:
 // Whether P is taken at a chip, with no record added.
 fn injected(mesh: &mut [u32; WORDS], chip: u32) -> bool {
     let mut log = [0u32; 6];
-    let bytes: [u8; 5] = [0, 0, 0, 0, 1];
-    let r = inject(mesh, &mut log, chip, &bytes, &ROWS, &STARTS, &CODES);
+    let r = inject(mesh, &mut log, chip, &P, &ROWS, &STARTS, &CODES);
     (r.refusal == 0) & (r.added == 0)
 }
 
