@@ -1,8 +1,8 @@
 /* The C interface of libyagbolshen, a proved model of the SpiNNaker router.
  *
  * Every function takes any input and answers, or refuses with a number: `refusal` is 0 for an accepted call, and a
- * refused one answers zeros in every other field. A slice is a pointer and a count; an empty one may be NULL. Nothing is
- * kept between calls.
+ * refused one answers zeros in every other field and leaves lent memory as it came. A slice is a pointer and a count; an
+ * empty one may be NULL. Nothing is kept between calls.
  *
  *  1  source 6 or above 7                   7  width or height not 1 to 12, or rounds in a phase not 1 to 65,535
  *  2  packet length not 5 or 9              8  mesh buffer too short on opening, or later not holding a mesh
@@ -18,6 +18,9 @@
 
 #include <stddef.h>
 #include <stdint.h>
+#ifndef __cplusplus
+#include <stdbool.h>
+#endif
 
 #ifdef __cplusplus
 extern "C" {
@@ -110,6 +113,49 @@ yb_packed yagbolshen_pack(yb_fields fields);
 yb_pass yagbolshen_pass(const uint8_t *packet, size_t packet_len, uint32_t source, uint32_t width, uint32_t height,
                         const uint32_t *rows, size_t rows_len, const uint8_t *codes, size_t codes_len,
                         uint32_t monitor, uint32_t phase, uint32_t ready);
+
+/* A mesh lives in a buffer of 32-bit words that the caller lends to every call; words past the needed length are never
+ * touched. Tables are lent to each injection and round: `rows` has the rows of all chips, three words a row, and `starts`
+ * the number of the row where each chip's rows start and, last, how many rows there are (width * height + 1 numbers);
+ * `codes` has width * height P2P codes for each chip, chip after chip. `log` takes six words for each pass that hands a
+ * packet to a processor: chip, processor set, error flags, control byte, word, payload or 0. Chips are numbered
+ * y * width + x; links 0 to 5 lead east, north-east, north, west, south-west, south. */
+
+/* The words that a mesh needs. Refuses 7. */
+yb_size yagbolshen_size(uint32_t width, uint32_t height);
+
+/* Opens a mesh: links up, nothing in flight, registers and counters at zeros, phase 00. Answers the refusal, or 0.
+ * Refuses 7, 6, 8, the first that applies. */
+uint32_t yagbolshen_open(uint32_t *mesh, size_t mesh_len, uint32_t width, uint32_t height, uint32_t rounds_per_phase,
+                         uint32_t monitor);
+
+/* Passes a local packet at a chip, at once, and answers how many log records were added. Refuses 8, 9, 5, 11, 10, 2, 3, 4,
+ * the first that applies. */
+yb_added yagbolshen_inject(uint32_t *mesh, size_t mesh_len, uint32_t *log, size_t log_len, uint32_t chip,
+                           const uint8_t *packet, size_t packet_len, const uint32_t *rows, size_t rows_len,
+                           const uint32_t *starts, size_t starts_len, const uint8_t *codes, size_t codes_len);
+
+/* Passes all that is in flight, once, and answers how many log records were added; after each `rounds_per_phase` rounds
+ * the phase steps on. Refuses 8, 5, 11, 10, the first that applies. */
+yb_added yagbolshen_round(uint32_t *mesh, size_t mesh_len, uint32_t *log, size_t log_len, const uint32_t *rows,
+                          size_t rows_len, const uint32_t *starts, size_t starts_len, const uint8_t *codes,
+                          size_t codes_len);
+
+/* Takes one directed link of a chip up or down. Answers the refusal, or 0. Refuses 8, 9, the first that applies. */
+uint32_t yagbolshen_set_link(uint32_t *mesh, size_t mesh_len, uint32_t chip, uint32_t link, bool up);
+
+/* Hands over a chip's error registers and empties them. Refuses 8, 9, the first that applies. */
+yb_registers_read yagbolshen_read_registers(uint32_t *mesh, size_t mesh_len, uint32_t chip);
+
+/* One of a chip's ten counters, in the order of yb_counters. Refuses 8, 9, the first that applies. */
+yb_count yagbolshen_read_counter(const uint32_t *mesh, size_t mesh_len, uint32_t chip, uint32_t counter);
+
+/* The mesh's size, phase and monitor, and how many packets are in flight. Refuses 8. */
+yb_mesh yagbolshen_mesh(const uint32_t *mesh, size_t mesh_len);
+
+/* One directed link of a chip: whether it is up, how many packets it holds, whether it is ready. Refuses 8, 9, the first
+ * that applies. */
+yb_link yagbolshen_link(const uint32_t *mesh, size_t mesh_len, uint32_t chip, uint32_t link);
 
 #ifdef __cplusplus
 }

@@ -31,7 +31,8 @@ use Rattle.mesh.proofs.StepAt.{chip-long}
 use Rattle.mesh.proofs.Upto.{line-long}
 use Rattle.mesh.proofs.Goings.{head-same}
 use Rattle.mesh.proofs.SoundChanges.{sound-linked, sound-emptied}
-use Rattle.mesh.proofs.SoundWords.{holds-sound, holds-states, holds-long, sound-holds}
+use Rattle.mesh.proofs.Counts.{words-enough}
+use Rattle.mesh.proofs.SoundWords.{holds-sound, holds-states, sound-holds}
 use Rattle.mesh.proofs.Leaving.{refused-leaves, accepted-leaves, accepted-refusal}
 use Rattle.mesh.proofs.Looks.{There, chip-there, number-there, line-of}
 
@@ -68,7 +69,7 @@ module _ (l : List ℕ) (chip : ℕ) (h : There l chip) (ys : List ℕ) (sized :
   chip-leaves r none g mesh sound =
       let long = length-back (chipPlace chip) 322 ys l (h .fits) sized in
       let words : wordsFor (getD changed 0 0) (getD changed 1 0) ≤ length changed =
-      subst (λ (k : ℕ). wordsFor (getD changed 0 0) (getD changed 1 0) ≤ k) (sym long) (subst (λ (k : ℕ). k ≤ length l) (λ i. wordsFor (sym (number 0 (lit< tt)) i) (sym (number 1 (lit< tt)) i)) (holds-long l (h .holds))) in
+      subst (λ (k : ℕ). wordsFor (getD changed 0 0) (getD changed 1 0) ≤ k) (sym long) (subst (λ (k : ℕ). k ≤ length l) (λ i. wordsFor (sym (number 0 (lit< tt)) i) (sym (number 1 (lit< tt)) i)) (words-enough l (h .holds))) in
       accepted-leaves r (meshOf l) g none l changed mesh (sound-holds changed (subst SoundMesh (sym mesh) sound) states-changed words) long
       (drop-behind (chipPlace chip) 322 ys l (h .fits) sized (wordsFor (getD l 0 0) (getD l 1 0)) (omega (arith, h .near)))
 

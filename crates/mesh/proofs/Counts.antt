@@ -37,6 +37,9 @@ module _ (l : List ℕ) (holds : holdsMesh l ≡ true) where
   pub holds-head : headFine l ≡ true
   holds-head = parts .second
 
+  pub holds-chips : chipsFine 0 (getD l 1 0 * getD l 0 0) l ≡ true
+  holds-chips = parts .fourth
+
   pub holds-size : sizeFine (getD l 0 0) (getD l 1 0) ≡ true
   holds-size = head-size l (parts .second)
 
@@ -70,8 +73,14 @@ six-true r q e (suc (suc (suc (suc zero)))) h = let t = simp and-eq-true-iff at 
 six-true r q e (suc (suc (suc (suc (suc zero))))) h = let t = simp and-eq-true-iff at e in t .1
 six-true r q e (suc (suc (suc (suc (suc (suc j)))))) h = absurd (omega arith)
 
+before-six : (r : Bool) (q : ℕ → Bool) → (r && q 0 && q 1 && q 2 && q 3 && q 4 && q 5) ≡ true → r ≡ true
+before-six r q e = let t = simp and-eq-true-iff at e in t .0 .0 .0 .0 .0 .0
+
 pub line-held : (l : List ℕ) → chipFine l ≡ true → (j : ℕ) → j < 6 → lineFine (lineWords j l) ≡ true
 line-held l e = six-true (registersFine (registersIn (part 0 6 l))) (λ (j : ℕ). lineFine (lineWords j l)) e
+
+pub registers-held : (l : List ℕ) → chipFine l ≡ true → registersFine (registersIn (part 0 6 l)) ≡ true
+registers-held l e = before-six (registersFine (registersIn (part 0 6 l))) (λ (j : ℕ). lineFine (lineWords j l)) e
 
 -- the count word of each
 pub held-few : (l : List ℕ) → holdsMesh l ≡ true → (c j : ℕ) → c < getD l 1 0 * getD l 0 0 → j < 6 → getD (lineWords j (chipWords c l)) 1 0 ≤ 8

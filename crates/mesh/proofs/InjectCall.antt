@@ -20,9 +20,9 @@ use Rattle.mesh.specs.Sound.{All, Arrives, SoundMesh, StatesFine}
 use Rattle.mesh.specs.Going.{chipsOf, same, arrival, Due, Passed}
 use Rattle.mesh.specs.Calls.{injectRefusals, addedOf, loggedOn}
 use Rattle.mesh.specs.Leaving.{Leaves, injectLeft}
-use Rattle.mesh.proofs.Counts.{holds-head}
+use Rattle.mesh.proofs.Counts.{holds-head, words-enough}
 use Rattle.mesh.proofs.SoundSteps.{sound-injected}
-use Rattle.mesh.proofs.SoundWords.{holds-sound, holds-states, holds-long, sound-holds}
+use Rattle.mesh.proofs.SoundWords.{holds-sound, holds-states, sound-holds}
 use Rattle.mesh.proofs.Goings.{head-same}
 use Rattle.mesh.proofs.Leaving.{refused-leaves, accepted-leaves, accepted-log}
 use Rattle.mesh.proofs.Accepts.{InjectGoes, inject-goes}
@@ -50,7 +50,7 @@ module _ (t : Tables) (l log : List ℕ) (chip : ℕ) (bytes : List ℕ) (none :
   inject-due =
       record {
         head = holds-head l (go .holds);
-        long = holds-long l (go .holds);
+        long = words-enough l (go .holds);
         lent = go .lent;
         room = omega (arith, go .room);
         each = (record { there = go .there; from = inr refl; passable = go .passable }, tt);
@@ -74,7 +74,7 @@ module _ (t : Tables) (l log : List ℕ) (chip : ℕ) (bytes : List ℕ) (none :
         sound-holds l₁
         (subst SoundMesh (sym (ap (λ (g : Going (Unit {0})). g .mesh) (p .going))) (sound-injected t same (meshOf l) chip (record { packet = packetAt bytes; tag = tt }) (holds-sound l (go .holds)) (go .there) (go .passable) (go .lent .codes)))
         states-left
-        (subst (λ (k : ℕ). wordsFor (getD l₁ 0 0) (getD l₁ 1 0) ≤ k) (sym (p .long)) (subst (λ (k : ℕ). k ≤ length l) (λ i. wordsFor (sym (number 0 (lit< tt)) i) (sym (number 1 (lit< tt)) i)) (holds-long l (go .holds))))
+        (subst (λ (k : ℕ). wordsFor (getD l₁ 0 0) (getD l₁ 1 0) ≤ k) (sym (p .long)) (subst (λ (k : ℕ). k ≤ length l) (λ i. wordsFor (sym (number 0 (lit< tt)) i) (sym (number 1 (lit< tt)) i)) (words-enough l (go .holds))))
 
     pub count-one : n ≤ 1
     count-one = p .few

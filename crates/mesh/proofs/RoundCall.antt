@@ -25,11 +25,11 @@ use Rattle.mesh.specs.Calls.{roundRefusals, addedOf, loggedOn}
 use Rattle.mesh.specs.Leaving.{Leaves, roundLeft, overWords}
 use Rattle.mesh.proofs.Alls.{all-getD, all-weaken}
 use Rattle.mesh.proofs.Totals.{total-ones, total-most}
-use Rattle.mesh.proofs.Counts.{holds-head, held-few}
+use Rattle.mesh.proofs.Counts.{holds-head, held-few, words-enough}
 use Rattle.mesh.proofs.Torus.{arrivals-count}
 use Rattle.mesh.proofs.SoundArrivals.{sound-arrivals}
 use Rattle.mesh.proofs.SoundSteps.{sound-rounded}
-use Rattle.mesh.proofs.SoundWords.{holds-sound, holds-states, holds-long, sound-holds}
+use Rattle.mesh.proofs.SoundWords.{holds-sound, holds-states, sound-holds}
 use Rattle.mesh.proofs.Goings.{Head, head-range, head-same, head-fine-same}
 use Rattle.mesh.proofs.RoundWords.{mesh-aside, aside-arrivals, few-aside, mesh-over, length-over, over-behind}
 use Rattle.mesh.proofs.Leaving.{refused-leaves, accepted-leaves, accepted-log}
@@ -99,7 +99,7 @@ module _ (t : Tables) (l log : List ℕ) (none : firstOf (roundRefusals (holdsMe
       record {
         due = record {
           head = head-fine-same l l₁ (u .head) ∙ holds-head l (go .holds);
-          long = subst (λ (k : ℕ). wordsFor (getD l₁ 0 0) (getD l₁ 1 0) ≤ k) (sym (u .long)) (subst (λ (k : ℕ). k ≤ length l) (λ i. wordsFor (sym (number 0 (lit< tt)) i) (sym (number 1 (lit< tt)) i)) (holds-long l (go .holds)));
+          long = subst (λ (k : ℕ). wordsFor (getD l₁ 0 0) (getD l₁ 1 0) ≤ k) (sym (u .long)) (subst (λ (k : ℕ). k ≤ length l) (λ i. wordsFor (sym (number 0 (lit< tt)) i) (sym (number 1 (lit< tt)) i)) (words-enough l (go .holds)));
           lent = subst (Lent t) (sym chips-same) (go .lent);
           room = omega (arith, go .room, ap length all-aside ∙ held-count l (go .holds));
           each = subst (λ (k : ℕ). All (Arrives k) (upTo (asideAt l₁) (chipsOf l))) (sym chips-same)
@@ -115,7 +115,7 @@ module _ (t : Tables) (l log : List ℕ) (none : firstOf (roundRefusals (holdsMe
     going = p .going ∙ (λ i. foldl (passAt t same) (record { mesh = mesh-aside l l₁ u i; log = [] }) (all-aside i))
 
     long-enough : 6 ≤ length l₂
-    long-enough = omega (arith, p .long, u .long, holds-long l (go .holds))
+    long-enough = omega (arith, p .long, u .long, words-enough l (go .holds))
 
     pub over-requires : (6 ≤ length l₂) × (getD l₂ 5 0 ≤ 65535)
     over-requires =
@@ -157,7 +157,7 @@ module _ (t : Tables) (l log : List ℕ) (none : firstOf (roundRefusals (holdsMe
     unfolding meshOf
     holds-left =
         sound-holds (overWords l₂) (subst SoundMesh (sym mesh-left) (sound-rounded t same (held-sound l (go .holds)) (go .lent .codes))) states-left
-        (subst (λ (k : ℕ). wordsFor (getD (overWords l₂) 0 0) (getD (overWords l₂) 1 0) ≤ k) (sym long-left) (subst (λ (k : ℕ). k ≤ length l) (sym words-left) (holds-long l (go .holds))))
+        (subst (λ (k : ℕ). wordsFor (getD (overWords l₂) 0 0) (getD (overWords l₂) 1 0) ≤ k) (sym long-left) (subst (λ (k : ℕ). k ≤ length l) (sym words-left) (words-enough l (go .holds))))
 
     past-left : drop (wordsFor (getD l 0 0) (getD l 1 0)) (overWords l₂) ≡ drop (wordsFor (getD l 0 0) (getD l 1 0)) l
     past-left =

@@ -1,6 +1,5 @@
 -- A buffer holds a mesh exactly when its mesh is sound, its link states are in range and it is long enough. Assumes nothing.
 use mathlib.Core.Path.{_≡_, refl, sym, ap, subst}
-use mathlib.Core.Logic.{_⊎_, inl, inr}
 use mathlib.Core.Bool.{Bool, true, _&&_, and-eq-true-iff}
 use mathlib.Core.List.{List}
 use Prim.Native.Nat.{ℕ, zero, suc, _+_, _*_, _≤_, _<_}
@@ -17,8 +16,9 @@ use Rattle.mesh.specs.Holding.{packetFine, placesFine, lineFine, registe
 use Rattle.mesh.specs.Opening.{roundsFine}
 use Rattle.mesh.specs.Sound.{All, SoundPacket, SoundLine, SoundChip, SoundMesh, StatesFine}
 use Rattle.mesh.proofs.Places.{length-places}
-use Rattle.mesh.proofs.ChipParts.{order, line-at}
+use Rattle.mesh.proofs.ChipParts.{line-at}
 use Rattle.mesh.proofs.Alls.{all-getD}
+use Rattle.mesh.proofs.Counts.{holds-head, holds-chips, chip-held, line-held, registers-held}
 
 -- both tests hold
 and-true-true : {a b : Bool} → a ≡ true → b ≡ true → (a && b) ≡ true
@@ -56,36 +56,20 @@ sound-line l state h =
 -- ---- a chip
 
 -- a test and six more, one for each link
-module _ (a : Bool) (f : ℕ → Bool) (h : (a && f 0 && f 1 && f 2 && f 3 && f 4 && f 5) ≡ true) where
-  first-test : a ≡ true
-  first-test = let t : _ = simp and-eq-true-iff at h in t .0 .0 .0 .0 .0 .0
-
-  link-test : (j : ℕ) → j < 6 → f j ≡ true
-  link-test zero hj = let t : _ = simp and-eq-true-iff at h in t .0 .0 .0 .0 .0 .1
-  link-test (suc zero) hj = let t : _ = simp and-eq-true-iff at h in t .0 .0 .0 .0 .1
-  link-test (suc (suc zero)) hj = let t : _ = simp and-eq-true-iff at h in t .0 .0 .0 .1
-  link-test (suc (suc (suc zero))) hj = let t : _ = simp and-eq-true-iff at h in t .0 .0 .1
-  link-test (suc (suc (suc (suc zero)))) hj = let t : _ = simp and-eq-true-iff at h in t .0 .1
-  link-test (suc (suc (suc (suc (suc zero))))) hj = let t : _ = simp and-eq-true-iff at h in t .1
-  link-test (suc (suc (suc (suc (suc (suc j)))))) hj = absurd (omega arith)
-
 all-tests : (a : Bool) (f : ℕ → Bool) → a ≡ true → ((j : ℕ) → j < 6 → f j ≡ true) → (a && f 0 && f 1 && f 2 && f 3 && f 4 && f 5) ≡ true
 all-tests a f h k = simp (h, k 0 (lit< tt), k 1 (lit< tt), k 2 (lit< tt), k 3 (lit< tt), k 4 (lit< tt), k 5 (lit< tt))
-
-line-fine : (j : ℕ) → j < 6 → (l : List ℕ) → chipFine l ≡ true → lineFine (lineWords j l) ≡ true
-line-fine j hj l h = link-test (registersFine (registersIn (part 0 6 l))) (λ i. lineFine (lineWords i l)) h j hj
 
 chip-sound : (l : List ℕ) → chipFine l ≡ true → SoundChip (chipIn l)
 unfolding All
 chip-sound l h =
     record {
       six = refl;
-      registers = first-test (registersFine (registersIn (part 0 6 l))) (λ i. lineFine (lineWords i l)) h;
+      registers = registers-held l h;
       lines = (line 0 (lit< tt), (line 1 (lit< tt), (line 2 (lit< tt), (line 3 (lit< tt), (line 4 (lit< tt), (line 5 (lit< tt), tt))))));
     }
   where
     line : (j : ℕ) → j < 6 → SoundLine (lineIn (lineWords j l))
-    line j hj = line-sound (lineWords j l) (line-fine j hj l h)
+    line j hj = line-sound (lineWords j l) (line-held l h j hj)
 
 sound-chip : (l : List ℕ) → ((j : ℕ) → j < 6 → getD (lineWords j l) 0 0 ≤ 1) → SoundChip (chipIn l) → chipFine l ≡ true
 sound-chip l states h =
@@ -112,43 +96,21 @@ unfolding chipsIn
 length-chips zero c l = refl
 length-chips (suc n) c l = ap suc (length-chips n (suc c) l)
 
-chip-fine : (n c k : ℕ) (l : List ℕ) → chipsFine c n l ≡ true → c ≤ k → k < c + n → chipFine (chipWords k l) ≡ true
-unfolding chipsFine
-chip-fine zero c k l h low high = absurd (omega arith)
-chip-fine (suc n) c k l h low high = go (order c k) (λ less. chip-fine n (suc c) k l (t .1) (omega arith) (omega arith))
-  where
-    t : (chipFine (chipWords c l) ≡ true) × (chipsFine (suc c) n l ≡ true)
-    t = and-eq-true-iff (chipFine (chipWords c l)) (chipsFine (suc c) n l) .0 h
-
-    go : (c < k) ⊎ ((c ≡ k) ⊎ (k < c)) → (c < k → chipFine (chipWords k l) ≡ true) → chipFine (chipWords k l) ≡ true
-    go (inl less) later = later less
-    go (inr (inl e)) later = subst (λ (i : ℕ). chipFine (chipWords i l) ≡ true) e (t .0)
-    go (inr (inr more)) later = absurd (omega arith)
-
 -- ---- the whole buffer
 
--- four and five tests, one by one
-four-tests : (a b c d : Bool) → (a && b && c && d) ≡ true → (a ≡ true) × (b ≡ true) × (c ≡ true) × (d ≡ true)
-four-tests a b c d h = let t : _ = simp and-eq-true-iff at h in (t .0 .0 .0, t .0 .0 .1, t .0 .1, t .1)
-
+-- five tests, one by one
 five-tests : (a b c d e : Bool) → (a && b && c && d && e) ≡ true → (a ≡ true) × (b ≡ true) × (c ≡ true) × (d ≡ true) × (e ≡ true)
 five-tests a b c d e h = let t : _ = simp and-eq-true-iff at h in (t .0 .0 .0 .0, t .0 .0 .0 .1, t .0 .0 .1, t .0 .1, t .1)
 
 module _ (l : List ℕ) where
-  holds-parts : holdsMesh l ≡ true → (leb 6 (length l) ≡ true) × (headFine l ≡ true) × (leb (wordsFor (getD l 0 0) (getD l 1 0)) (length l) ≡ true) × (chipsFine 0 (getD l 1 0 * getD l 0 0) l ≡ true)
-  holds-parts h = four-tests (leb 6 (length l)) (headFine l) (leb (wordsFor (getD l 0 0) (getD l 1 0)) (length l)) (chipsFine 0 (getD l 1 0 * getD l 0 0) l) h
-
-  pub holds-long : holdsMesh l ≡ true → wordsFor (getD l 0 0) (getD l 1 0) ≤ length l
-  holds-long h = leb-true _ _ (holds-parts h .2)
-
   pub holds-states : holdsMesh l ≡ true → StatesFine l
   holds-states h c j hc hj =
-      state-fine (lineWords j (chipWords c l)) (line-fine j hj (chipWords c l) (chip-fine (getD l 1 0 * getD l 0 0) 0 c l (holds-parts h .3) (omega arith) (omega arith)))
+      state-fine (lineWords j (chipWords c l)) (line-held (chipWords c l) (chip-held l h c hc) j hj)
 
   pub holds-sound : holdsMesh l ≡ true → SoundMesh (meshOf l)
   unfolding meshOf
   holds-sound h =
-      let t = five-tests (sizeFine (getD l 0 0) (getD l 1 0)) (roundsFine (getD l 2 0)) (leb (getD l 3 0) 19) (leb (getD l 4 0) 3) (ltb (getD l 5 0) (getD l 2 0)) (holds-parts h .1) in
+      let t = five-tests (sizeFine (getD l 0 0) (getD l 1 0)) (roundsFine (getD l 2 0)) (leb (getD l 3 0) 19) (leb (getD l 4 0) 3) (ltb (getD l 5 0) (getD l 2 0)) (holds-head l h) in
       record {
         size = t .0;
         rounds = t .1;
@@ -156,7 +118,7 @@ module _ (l : List ℕ) where
         phase = leb-true _ _ (t .3);
         elapsed = ltb-true _ _ (t .4);
         many = length-chips (getD l 1 0 * getD l 0 0) 0 l;
-        chips = chips-sound (getD l 1 0 * getD l 0 0) 0 l (holds-parts h .3);
+        chips = chips-sound (getD l 1 0 * getD l 0 0) 0 l (holds-chips l h);
       }
 
   pub sound-holds : SoundMesh (meshOf l) → StatesFine l → wordsFor (getD l 0 0) (getD l 1 0) ≤ length l → holdsMesh l ≡ true

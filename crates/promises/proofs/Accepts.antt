@@ -5,22 +5,18 @@ use mathlib.Core.Bool.{Bool, true, false, cond, and-eq-true-iff}
 use mathlib.Core.List.{List, [], _∷_, _++_, append-nil}
 use Prim.Native.Nat.{ℕ, _+_, _*_, _<_}
 use native.Mathlib.Nat.{add-zero}
-use native.Mathlib.Omega.{arith}
-use lib.Dec.{eqb, ltb, lit<}
-use lib.ListN.{length, getD}
+use lib.Dec.{eqb, ltb}
 use borrow.Author.Tests.{ltb-true, eqb-true, not-false}
-use Rattle.packet.specs.Bytes.{wordAt, packetAt, usedType}
-use Rattle.packet.specs.Control.{kindOf}
+use Rattle.packet.specs.Bytes.{packetAt}
 use Rattle.packet.specs.Refusal.{firstOf}
 use Rattle.packet.proofs.First.{none-applies}
-use Rattle.tables.specs.Accept.{codesFine, allCodes}
-use Rattle.router.specs.Call.{isDirect}
 use Rattle.mesh.specs.Mesh.{Mesh}
 use Rattle.mesh.specs.Steps.{Tables, Arrival, Going, setAside, arrivals, injected, rounded}
 use Rattle.mesh.specs.Calls.{Left, many, unless, withLink, withEmpty, injectRefusals, roundRefusals, chipRefusals, linkRefusals}
 use Rattle.mesh.specs.Weights.{inFlight}
 use Rattle.mesh.specs.Sound.{Passable}
 use Rattle.mesh.proofs.SoundSteps.{CodesFor}
+use Rattle.mesh.proofs.Accepts.{inject-goes, round-goes}
 use Rattle.promises.specs.History.{Call, inject, round, setLink, readRegisters, readCounter, lookMesh, lookLink, Tag, State, Event, emptied, leftBy, turned, tagNow, passages, accepted}
 
 -- ---- the tests that have passed
@@ -43,35 +39,14 @@ module _ {A : Type 0} where
     pub passable : Passable (packetAt bytes)
     pub codes : CodesFor t m
 
-  codes-for : (t : Tables) (m : Mesh A) → codesFine (t .codes) (many m * many m) ≡ true → CodesFor t m
-  codes-for t m e = eqb-true _ _ (and-eq-true-iff (eqb (length (t .codes)) (many m * many m)) (allCodes (t .codes)) .0 e .0)
-
--- a packet that is accepted may pass
-passable-at : (bytes : List ℕ) → usedType (getD bytes 0 0) ≡ true → isDirect (getD bytes 0 0) ≡ false → Passable (packetAt bytes)
-passable-at bytes used plain =
-    let kind : kindOf (getD bytes 0 0) < 3 = ltb-true _ _ used in
-    record { control = omega arith; used = kind; plain = plain; nine = few (eqb (length bytes) 9); absent = none (eqb (length bytes) 9) }
-  where
-    few : (b : Bool) → cond b 1 0 < 2
-    few true = lit< tt
-    few false = lit< tt
-
-    none : (b : Bool) → _≡_ {A = ℕ} (cond b 1 0) 0 → cond b (wordAt bytes 5) 0 ≡ 0
-    none true e = absurd (omega arith)
-    none false e = refl
-
 module _ {A : Type 0} where
   pub inject-accepts : (m : Mesh A) (chip : ℕ) (bytes : List ℕ) (t : Tables) (room : ℕ) → firstOf (injectRefusals true (many m) chip t room bytes) ≡ 0 → Injects m chip bytes t
   inject-accepts m chip bytes t room e =
-      let off = none-applies (injectRefusals true (many m) chip t room bytes) refl e in
-      record {
-        there = ltb-true _ _ (not-false _ (off .1 .0));
-        codes = codes-for t m (not-false _ (off .1 .1 .1 .0));
-        passable = passable-at bytes (not-false _ (off .1 .1 .1 .1 .1 .1 .0)) (off .1 .1 .1 .1 .1 .1 .1 .0);
-      }
+      let go = inject-goes true (many m) chip t room bytes e in
+      record { there = go .there; codes = go .lent .codes; passable = go .passable }
 
   pub round-accepts : (m : Mesh A) (flying : ℕ) (t : Tables) (room : ℕ) → firstOf (roundRefusals true (many m) flying t room) ≡ 0 → CodesFor t m
-  round-accepts m flying t room e = let off = none-applies (roundRefusals true (many m) flying t room) refl e in codes-for t m (not-false _ (off .1 .1 .0))
+  round-accepts m flying t room e = round-goes true (many m) flying t room e .lent .codes
 
   pub chip-accepts : (m : Mesh A) (chip : ℕ) → firstOf (chipRefusals true (many m) chip) ≡ 0 → chip < m .height * m .width
   chip-accepts m chip e = ltb-true _ _ (not-false _ (none-applies (chipRefusals true (many m) chip) refl e .1 .0))

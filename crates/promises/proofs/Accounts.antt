@@ -29,7 +29,8 @@ use Rattle.promises.specs.Told.{sumOf}
 use Rattle.promises.specs.Demand3.{Account}
 use Rattle.promises.proofs.Told.{sum-append}
 use Rattle.promises.proofs.Accepts as accepts
-use Rattle.promises.proofs.Histories.{Kept, chip-sound, always-kept}
+use Rattle.mesh.proofs.SoundChanges.{chip-sound}
+use Rattle.promises.proofs.Histories.{Kept, always-kept}
 use Rattle.promises.proofs.Flights.{Arriving, each-any, each-arrival}
 use Rattle.promises.proofs.Weighs.{weighed, chip-weighs-sent}
 

@@ -4,18 +4,16 @@ use mathlib.Core.Path.{_≡_, refl, sym, _∙_, subst}
 use mathlib.Core.Bool.{Bool, true, false, cond}
 use mathlib.Core.List.{List, [], _∷_, foldl}
 use Prim.Native.Nat.{ℕ, _*_, _<_}
-use native.Mathlib.Omega.{arith}
 use lib.Dec.{eqb}
-use lib.ListN.{getD, length-set}
 use borrow.Author.Tests.{eqb-true}
 use Rattle.packet.specs.Bytes.{packetAt}
 use Rattle.packet.specs.Refusal.{firstOf}
-use Rattle.mesh.specs.Mesh.{Flight, Chip, Mesh, idle, fresh}
-use Rattle.mesh.specs.Steps.{Tables, Going, withChip, injected, rounded}
+use Rattle.mesh.specs.Mesh.{Flight, Mesh}
+use Rattle.mesh.specs.Steps.{Tables, Going, injected, rounded}
 use Rattle.mesh.specs.Calls.{Left, many, unless, withLink, withEmpty, injectRefusals, roundRefusals, chipRefusals, linkRefusals}
 use Rattle.mesh.specs.Weights.{inFlight}
-use Rattle.mesh.specs.Sound.{SoundLine, SoundChip, SoundMesh}
-use Rattle.mesh.proofs.Alls.{all-getD, all-set}
+use Rattle.mesh.specs.Sound.{SoundMesh}
+use Rattle.mesh.proofs.SoundChanges.{sound-linked, sound-emptied}
 use Rattle.mesh.proofs.SoundSteps.{CodesFor, sound-opened, sound-injected, sound-rounded}
 use Rattle.promises.specs.History.{Call, inject, round, setLink, readRegisters, readCounter, lookMesh, lookLink, Tag, State, Opens, leftBy, turned, tagNow, accepted, after, begun, history}
 use Rattle.promises.specs.Demand3.{Always}
@@ -46,37 +44,7 @@ module _ (P : ℕ → State → Type 0) where
 
 -- ---- every mesh is sound
 
--- a chip changed, all else as it was
-sound-chip : {A : Type 0} {m : Mesh A} (chip : ℕ) (c : Chip A) → SoundMesh m → SoundChip c → SoundMesh (withChip m chip c)
-sound-chip {m} chip c sound h =
-    record {
-      size = sound .size;
-      rounds = sound .rounds;
-      monitor = sound .monitor;
-      phase = sound .phase;
-      elapsed = sound .elapsed;
-      many = length-set (m .chips) chip c ∙ sound .many;
-      chips = all-set SoundChip (m .chips) chip c (sound .chips) h;
-    }
-
 module _ {A : Type 0} {m : Mesh A} (sound : SoundMesh m) where
-  pub chip-sound : (chip : ℕ) → chip < m .height * m .width → SoundChip (getD (m .chips) chip fresh)
-  chip-sound chip h = all-getD SoundChip (m .chips) chip fresh (sound .chips) (omega (arith, sound .many))
-
-  pub sound-linked : (chip link : ℕ) (up : Bool) → chip < m .height * m .width → link < 6 → SoundMesh (withLink m chip link up)
-  sound-linked chip link up h k =
-      let c = chip-sound chip h in
-      let l : SoundLine (getD (getD (m .chips) chip fresh .lines) link idle) = all-getD SoundLine (getD (m .chips) chip fresh .lines) link idle (c .lines) (omega (arith, c .six)) in
-      sound-chip chip _ sound
-      (record {
-        six = length-set (getD (m .chips) chip fresh .lines) link _ ∙ c .six;
-        registers = c .registers;
-        lines = all-set SoundLine (getD (m .chips) chip fresh .lines) link _ (c .lines) (record { few = l .few; fine = l .fine });
-      })
-
-  pub sound-emptied : (chip : ℕ) → chip < m .height * m .width → SoundMesh (withEmpty m chip)
-  sound-emptied chip h = let c = chip-sound chip h in sound-chip chip _ sound (record { six = c .six; registers = refl; lines = c .lines })
-
   -- a call that is accepted leaves what it makes
   left : (n : ℕ) (g : Going A) → unless n m g .refusal ≡ 0 → (n ≡ 0 → SoundMesh (g .mesh)) → SoundMesh (unless n m g .mesh)
   left n g e h = subst (λ (r : Left A). SoundMesh (r .mesh)) (sym (accepts.unless-leaves n m g e)) (h (accepts.unless-accepts n m g e))
@@ -91,9 +59,9 @@ module _ {A : Type 0} {m : Mesh A} (sound : SoundMesh m) where
       (λ z. sound-rounded t turn sound (accepts.round-accepts m (inFlight m) t room z))
   sound-left turn tag (setLink chip link up) e =
       left (firstOf (linkRefusals true (many m) chip link)) (record { mesh = withLink m chip link up; log = [] }) e
-      (λ z. let h = accepts.link-accepts m chip link z in sound-linked chip link up (h .0) (h .1))
+      (λ z. let h = accepts.link-accepts m chip link z in sound-linked sound chip link up (h .0) (h .1))
   sound-left turn tag (readRegisters chip) e =
-      left (firstOf (chipRefusals true (many m) chip)) (record { mesh = withEmpty m chip; log = [] }) e (λ z. sound-emptied chip (accepts.chip-accepts m chip z))
+      left (firstOf (chipRefusals true (many m) chip)) (record { mesh = withEmpty m chip; log = [] }) e (λ z. sound-emptied sound chip (accepts.chip-accepts m chip z))
   sound-left turn tag (readCounter chip counter) e = sound
   sound-left turn tag lookMesh e = sound
   sound-left turn tag (lookLink chip link) e = sound

@@ -4,6 +4,7 @@ pub mod Aged
 pub mod Ages
 pub mod Clock
 pub mod Counted
+pub mod Demand3
 pub mod Dropped
 pub mod Flights
 pub mod Forgets

@@ -1,16 +1,24 @@
 -- A block never outlives its cause. A pass is told which links are ready, and nothing else about them: it keeps no mark of a link that was
 -- blocked before. So a link that is ready now is used now.
-use Prim.Native.Nat.{ℕ, _+_, _<_}
+use Prim.Native.Nat.{ℕ, _+_, _*_, _≤_, _<_}
 use mathlib.Core.Path.{_≡_, refl, sym, ap, _∙_}
 use mathlib.Core.Bool.{Bool, true, false}
 use mathlib.Core.List.{List}
 use native.Mathlib.Omega.{arith}
+use lib.ListN.{length, getD, set}
+use lib.Seq.{getD-set-same}
+use borrow.Author.Tests.{le-leb}
 use Rattle.packet.specs.declared.Packet.{Packet}
 use Rattle.router.specs.declared.Outcome.{Outcome}
 use Rattle.router.specs.declared.Setting.{Setting}
 use Rattle.router.specs.Links.{has, linksOf, link}
 use Rattle.router.specs.Errors.{flag}
 use Rattle.router.specs.Deciding.{outcomeOf}
+use Rattle.mesh.specs.Mesh.{Chip, Mesh, idle, fresh, isReady, readyOf}
+use Rattle.mesh.specs.Calls.{many, chipOf, lineOf, withUp, withLink}
+use Rattle.mesh.specs.Sound.{SoundMesh}
+use Rattle.mesh.proofs.SoundChanges.{chip-sound}
+use Rattle.mesh.proofs.Sets.{has-set}
 use Rattle.router.proofs.Ways.{OneWay, waysOf, pass-way}
 
 -- of three ways that count to one, the first being taken, the others are not
@@ -39,3 +47,16 @@ ready-link-is-used p source rows codes t i hr hi wanted ready =
 pub no-memory : (p : Packet) (source : ℕ) (rows codes : List ℕ) (before after : Setting) → before ≡ after
     → outcomeOf p source rows codes before ≡ outcomeOf p source rows codes after
 no-memory p source rows codes before after e = ap (outcomeOf p source rows codes) e
+
+-- "After set_link .. up, a link that holds at most 6 is ready at the very next pass, whatever happened before."
+pub up-is-ready : {A : Type 0} (m : Mesh A) → SoundMesh m → (chip link : ℕ) → chip < many m → link < 6 → length (lineOf m chip link .held) ≤ 6
+    → has (readyOf (chipOf (withLink m chip link true) chip)) link ≡ true
+up-is-ready m sound chip link hc hl few =
+    let c = chip-sound sound chip hc in
+    let now : Chip _ =
+    record { registers = chipOf m chip .registers; counters = chipOf m chip .counters; lines = set (chipOf m chip .lines) link (withUp true (lineOf m chip link)) } in
+    let here : chipOf (withLink m chip link true) chip ≡ now = getD-set-same (m .chips) chip now fresh (omega (arith, sound .many)) in
+    ap (λ (x : Chip _). has (readyOf x) link) here
+    ∙ has-set (λ i. isReady (getD (now .lines) i idle)) link hl
+    ∙ ap isReady (getD-set-same (chipOf m chip .lines) link (withUp true (lineOf m chip link)) idle (omega (arith, c .six)))
+    ∙ le-leb _ _ few

@@ -1,12 +1,26 @@
 // The C interface: thin exports over the crates below. include/yagbolshen.h declares them.
+use mesh::Added;
+use mesh::CountRead;
+use mesh::LinkRead;
+use mesh::MeshRead;
+use mesh::RegistersRead;
+use mesh::opening::SizeRead;
 use packet::Fields;
 use packet::FieldsRead;
 use packet::Packed;
 use router::Pass;
 use router::Setting;
 ghost use mathlib.Core.Path.{_≡_};
+ghost use lib.ListN.{length};
 ghost use Rattle.packet.specs.Fields.{readOf, packedOf};
+ghost use Rattle.packet.specs.Refusal.{firstOf};
 ghost use Rattle.router.specs.Call.{passOf};
+ghost use Rattle.mesh.specs.Opening.{sizeOf, openRefusals, opening};
+ghost use Rattle.mesh.specs.Layout.{meshOf};
+ghost use Rattle.mesh.specs.Holding.{holdsMesh};
+ghost use Rattle.mesh.specs.Going.{tablesOf};
+ghost use Rattle.mesh.specs.Calls.{addedOf, loggedOn, registersRead, countRead, meshRead, linkRead};
+ghost use Rattle.mesh.specs.Leaving.{Leaves, injectLeft, roundLeft, linkLeft, registersLeft};
 ghost use Rattle.yagbolshen.specs.Settings.{settingOf};
 
 // The fields of a packet in bytes.
@@ -48,4 +62,103 @@ pub extern "C" fn yagbolshen_pass(
         ready,
     };
     router::call::pass(packet, source, rows, codes, t)
+}
+
+// The words that opening a mesh needs.
+#[no_mangle]
+pub extern "C" fn yagbolshen_size(width: u32, height: u32) -> SizeRead
+    ensures { λ r. ⌜ r ≡ sizeOf width height ⌝ }
+{
+    mesh::opening::size(width, height)
+}
+
+// Opens a mesh in a buffer.
+#[no_mangle]
+pub extern "C" fn yagbolshen_open(
+    mesh: &mut [u32],
+    width: u32,
+    height: u32,
+    rounds_per_phase: u32,
+    monitor: u32,
+) -> u32
+    ensures { λ r. ⌜ r ≡ firstOf (openRefusals (length (now (mesh .entry))) width height «rounds_per_phase» monitor) ⌝ }
+    ensures { λ r. ⌜ now (mesh .exit) ≡ opening r (now (mesh .entry)) width height «rounds_per_phase» monitor ⌝ }
+{
+    mesh::opening::open(mesh, width, height, rounds_per_phase, monitor)
+}
+
+// Passes a local packet at a chip.
+#[no_mangle]
+pub extern "C" fn yagbolshen_inject(
+    mesh: &mut [u32],
+    log: &mut [u32],
+    chip: u32,
+    packet: &[u8],
+    rows: &[u32],
+    starts: &[u32],
+    codes: &[u8],
+) -> Added
+    ensures { λ r. ⌜ r ≡ addedOf (injectLeft (now (mesh .entry)) (tablesOf (now (rows .entry)) (now (starts .entry)) (now (codes .entry))) (length (now (log .entry))) chip (now (packet .entry))) ⌝ }
+    ensures { λ r. ⌜ Leaves (now (mesh .entry)) (now (mesh .exit)) (injectLeft (now (mesh .entry)) (tablesOf (now (rows .entry)) (now (starts .entry)) (now (codes .entry))) (length (now (log .entry))) chip (now (packet .entry))) ⌝ }
+    ensures { λ r. ⌜ now (log .exit) ≡ loggedOn (injectLeft (now (mesh .entry)) (tablesOf (now (rows .entry)) (now (starts .entry)) (now (codes .entry))) (length (now (log .entry))) chip (now (packet .entry)) .log) (now (log .entry)) ⌝ }
+{
+    mesh::moving::inject(mesh, log, chip, packet, rows, starts, codes)
+}
+
+// Passes all that is in flight, once.
+#[no_mangle]
+pub extern "C" fn yagbolshen_round(
+    mesh: &mut [u32],
+    log: &mut [u32],
+    rows: &[u32],
+    starts: &[u32],
+    codes: &[u8],
+) -> Added
+    ensures { λ r. ⌜ r ≡ addedOf (roundLeft (now (mesh .entry)) (tablesOf (now (rows .entry)) (now (starts .entry)) (now (codes .entry))) (length (now (log .entry)))) ⌝ }
+    ensures { λ r. ⌜ Leaves (now (mesh .entry)) (now (mesh .exit)) (roundLeft (now (mesh .entry)) (tablesOf (now (rows .entry)) (now (starts .entry)) (now (codes .entry))) (length (now (log .entry)))) ⌝ }
+    ensures { λ r. ⌜ now (log .exit) ≡ loggedOn (roundLeft (now (mesh .entry)) (tablesOf (now (rows .entry)) (now (starts .entry)) (now (codes .entry))) (length (now (log .entry))) .log) (now (log .entry)) ⌝ }
+{
+    mesh::moving::round(mesh, log, rows, starts, codes)
+}
+
+// Takes one directed link of a chip up or down.
+#[no_mangle]
+pub extern "C" fn yagbolshen_set_link(mesh: &mut [u32], chip: u32, link: u32, up: bool) -> u32
+    ensures { λ r. ⌜ r ≡ linkLeft (now (mesh .entry)) chip link up .refusal ⌝ }
+    ensures { λ r. ⌜ Leaves (now (mesh .entry)) (now (mesh .exit)) (linkLeft (now (mesh .entry)) chip link up) ⌝ }
+{
+    mesh::changing::set_link(mesh, chip, link, up)
+}
+
+// Hands over a chip's error registers and empties them.
+#[no_mangle]
+pub extern "C" fn yagbolshen_read_registers(mesh: &mut [u32], chip: u32) -> RegistersRead
+    ensures { λ r. ⌜ r ≡ registersRead (holdsMesh (now (mesh .entry))) (meshOf (now (mesh .entry))) chip ⌝ }
+    ensures { λ r. ⌜ Leaves (now (mesh .entry)) (now (mesh .exit)) (registersLeft (now (mesh .entry)) chip) ⌝ }
+{
+    mesh::changing::read_registers(mesh, chip)
+}
+
+// One of a chip's ten counters.
+#[no_mangle]
+pub extern "C" fn yagbolshen_read_counter(mesh: &[u32], chip: u32, counter: u32) -> CountRead
+    ensures { λ r. ⌜ r ≡ countRead (holdsMesh (now (mesh .entry))) (meshOf (now (mesh .entry))) chip counter ⌝ }
+{
+    mesh::looking::read_counter(mesh, chip, counter)
+}
+
+// The mesh's size, phase and monitor, and how many packets are in flight.
+#[no_mangle]
+pub extern "C" fn yagbolshen_mesh(mesh: &[u32]) -> MeshRead
+    ensures { λ r. ⌜ r ≡ meshRead (holdsMesh (now (mesh .entry))) (meshOf (now (mesh .entry))) ⌝ }
+{
+    mesh::looking::look_mesh(mesh)
+}
+
+// One directed link of a chip: whether it is up, how many packets it holds, whether it is ready.
+#[no_mangle]
+pub extern "C" fn yagbolshen_link(mesh: &[u32], chip: u32, link: u32) -> LinkRead
+    ensures { λ r. ⌜ r ≡ linkRead (holdsMesh (now (mesh .entry))) (meshOf (now (mesh .entry))) chip link ⌝ }
+{
+    mesh::looking::look_link(mesh, chip, link)
 }

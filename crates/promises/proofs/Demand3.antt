@@ -1,0 +1,38 @@
+-- Demand 3, proved: each statement of specs/Demand3.antt, and where its proof stands. Assumes nothing.
+use Rattle.promises.specs.Demand3.{Forgetting, Program, LinksCrossed, GoneInTime, NotBeforeItsTime, Account, Counts, Registers, Log, NoStaleBlock}
+use Rattle.promises.proofs.Forgets as forgets
+use Rattle.promises.proofs.Ages as ages
+use Rattle.promises.proofs.Accounts as accounts
+use Rattle.promises.proofs.Counted as counted
+use Rattle.promises.proofs.Registered as registered
+use Rattle.promises.proofs.Records as records
+
+pub forgetting : Forgetting
+forgetting = forgets.forgetting
+
+pub program : Program
+program = forgets.program
+
+pub links-crossed : LinksCrossed
+links-crossed = ages.links-crossed
+
+pub gone-in-time : GoneInTime
+gone-in-time = ages.gone-in-time
+
+pub not-before-its-time : NotBeforeItsTime
+not-before-its-time = ages.not-before-its-time
+
+pub account : Account
+account = accounts.account
+
+pub counts : Counts
+counts = counted.counts-told
+
+pub registers : Registers
+registers = registered.registers-told
+
+pub log : Log
+log = records.log-told
+
+pub no-stale-block : NoStaleBlock
+no-stale-block = records.no-stale-block
