@@ -23,7 +23,7 @@ use tally::Tally;
 const PASSES: f64 = 8e6;
 const READS: f64 = 2e6;
 const PACKS: f64 = 4e6;
-const SEQUENCES: f64 = 1e5;
+const SEQUENCES: f64 = 3e5;
 
 fn main() {
     let arguments: Vec<String> = std::env::args().collect();
@@ -41,6 +41,7 @@ fn main() {
     random_reads(&mut tally, &mut random, (READS * scale) as u64);
     random_packs(&mut tally, &mut random, (PACKS * scale) as u64);
     random_passes(&mut tally, &mut random, (PASSES * scale) as u64);
+    mesh::systematic(&mut mesh_tally, &mut random);
     for number in 0..(SEQUENCES * scale) as u64 {
         mesh::run(&mut mesh_tally, seed, number, false);
     }

@@ -2,6 +2,8 @@
 
 mod calls;
 mod damage;
+mod every_word;
+mod known;
 mod layout;
 mod model;
 mod packets;
@@ -15,3 +17,11 @@ mod tally;
 
 pub use sequence::run;
 pub use tally::MeshTally;
+
+use crate::random::Random;
+
+/// What is no sequence of random calls: the known passes, and every word of some buffers.
+pub fn systematic(tally: &mut MeshTally, random: &mut Random) {
+    known::all();
+    every_word::all(tally, random);
+}

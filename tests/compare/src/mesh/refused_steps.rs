@@ -81,15 +81,13 @@ impl Sequence<'_> {
         let sides = (mesh.width, mesh.height);
         let (at, old) = damage(&mut self.random, mesh, &mut self.pair.words);
         self.pair.read_anew();
-        if self.pair.mesh.is_some() {
-            self.tally.damaged_holds += 1;
-            if self.sides() != Some(sides) {
-                self.new_tables();
-            }
-            self.call_each();
-        } else {
-            self.tally.damaged_holds_none += 1;
-            self.call_each();
+        let holds = self.pair.mesh.is_some();
+        self.tally.changed_word(holds);
+        if holds && self.sides() != Some(sides) {
+            self.new_tables();
+        }
+        self.call_each();
+        if !holds {
             self.pair.words[at] = old;
             self.pair.read_anew();
         }

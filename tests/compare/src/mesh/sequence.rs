@@ -18,6 +18,8 @@ pub struct Sequence<'a> {
     pub pair: Pair,
     pub keys: Vec<u32>,
     pub tables: Tables,
+    /// What the tables have to be still, whatever was called with them.
+    pub kept_tables: Tables,
     /// How often each kind of step is taken.
     weights: [u32; STEPS.len()],
 }
@@ -51,7 +53,8 @@ pub fn run(tally: &mut MeshTally, seed: u64, number: u64, prints: bool) {
     let pair = new_pair(&mut random, name, prints, width, height);
     let keys = (0..1 + random.below(4)).map(|_| random.word()).collect();
     let weights = random_weights(&mut random);
-    let mut sequence = Sequence { random, tally, pair, keys, tables: Tables::default(), weights };
+    let mut sequence =
+        Sequence { random, tally, pair, keys, tables: Tables::default(), kept_tables: Tables::default(), weights };
     sequence.open(width, height);
     let steps = if width * height > 16 { 6 + sequence.random.below(20) } else { 10 + sequence.random.below(50) };
     for _ in 0..steps {
@@ -125,6 +128,7 @@ impl Sequence<'_> {
         for chip in 0..self.chips().min(9) {
             self.pair.read_registers(self.tally, chip);
         }
+        self.pair.same("tables", &self.kept_tables, &self.tables);
     }
 
     pub fn sides(&self) -> Option<(u32, u32)> {

@@ -26,8 +26,10 @@ impl Sequence<'_> {
     }
 
     pub fn new_tables(&mut self) {
+        self.pair.same("tables", &self.kept_tables, &self.tables);
         let chips = self.chips() as usize;
         self.tables = Tables::random(&mut self.random, chips, &self.keys);
+        self.kept_tables = self.tables.clone();
         let full = |pair: &[u32]| (pair[1] - pair[0]) as usize == MOST_ROWS;
         self.tally.full_table += u64::from(self.tables.starts.windows(2).any(full));
     }
@@ -42,7 +44,11 @@ impl Sequence<'_> {
         }
     }
 
+    /// Mostly with something in flight.
     pub fn round_some(&mut self) {
+        if self.room_needed() == 0 && !self.random.one_in(4) {
+            self.inject_some();
+        }
         for _ in 0..self.random.pick(&[1, 1, 1, 2, 3, 6]) {
             let room = self.room_needed() + self.random.pick(&[0, 0, 1, 6]) as usize;
             self.pair.round(self.tally, room, &self.tables.lent());

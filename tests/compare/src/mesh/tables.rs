@@ -36,7 +36,7 @@ impl Tables {
             2 => Routes::Flood,
             _ => [Routes::Any, Routes::OneLink(random.below(6))][random.below(2) as usize],
         };
-        let most = random.pick(&[0, 1, 2, 3, 3, 8, 20]);
+        let most = random.pick(&[0, 1, 3, 6, 6, 10, 20]);
         let full_chip = if random.one_in(64) { random.below(chips as u32) as usize } else { chips };
         for chip in 0..chips {
             let count = if chip == full_chip { MOST_ROWS as u32 } else { random.below(most + 1) };

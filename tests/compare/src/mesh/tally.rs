@@ -55,8 +55,8 @@ pub struct MeshTally {
     registers_more: u64,
     registers_leg: u64,
     pub full_table: u64,
-    pub damaged_holds: u64,
-    pub damaged_holds_none: u64,
+    changed_holds: u64,
+    changed_holds_none: u64,
     pub cut_short: u64,
     pub reopened: u64,
 }
@@ -106,6 +106,12 @@ impl MeshTally {
         self.registers_leg += u64::from(registers.leg == 1);
     }
 
+    /// A word of a buffer was changed.
+    pub fn changed_word(&mut self, holds: bool) {
+        self.changed_holds += u64::from(holds);
+        self.changed_holds_none += u64::from(!holds);
+    }
+
     /// Prints a line for each, and answers whether all were reached.
     pub fn print(&self) -> bool {
         let mut all = true;
@@ -122,6 +128,7 @@ impl MeshTally {
             all &= print_line(&format!("mesh, {name}"), count);
         }
         println!("{:>12}  mesh, most packets in flight", self.most_in_flight);
+        println!("{:>12}  mesh, calls", self.refusals.iter().flatten().sum::<u64>());
         all
     }
 
@@ -145,8 +152,8 @@ impl MeshTally {
             ("registers read, more followed", self.registers_more),
             ("registers read, a second leg", self.registers_leg),
             ("tables with 1,024 rows for a chip", self.full_table),
-            ("changed word, buffer still holds a mesh", self.damaged_holds),
-            ("changed word, buffer holds none", self.damaged_holds_none),
+            ("changed word, buffer still holds a mesh", self.changed_holds),
+            ("changed word, buffer holds none", self.changed_holds_none),
             ("buffer cut short", self.cut_short),
             ("buffer opened again", self.reopened),
         ]
