@@ -91,3 +91,61 @@ pub struct PassCall<'a> {
     pub phase: u32,
     pub ready: u32,
 }
+
+#[repr(C)]
+#[derive(Clone, Copy, Debug, Default, PartialEq, Eq)]
+pub struct Size {
+    pub refusal: u32,
+    pub words: u32,
+}
+
+#[repr(C)]
+#[derive(Clone, Copy, Debug, Default, PartialEq, Eq)]
+pub struct Added {
+    pub refusal: u32,
+    pub added: u32,
+}
+
+#[repr(C)]
+#[derive(Clone, Copy, Debug, Default, PartialEq, Eq)]
+pub struct RegistersRead {
+    pub refusal: u32,
+    pub registers: Registers,
+}
+
+#[repr(C)]
+#[derive(Clone, Copy, Debug, Default, PartialEq, Eq)]
+pub struct CountRead {
+    pub refusal: u32,
+    pub count: u32,
+}
+
+#[repr(C)]
+#[derive(Clone, Copy, Debug, Default, PartialEq, Eq)]
+pub struct MeshLook {
+    pub refusal: u32,
+    pub width: u32,
+    pub height: u32,
+    pub rounds_per_phase: u32,
+    pub monitor: u32,
+    pub phase: u32,
+    pub rounds_in_phase: u32,
+    pub in_flight: u32,
+}
+
+#[repr(C)]
+#[derive(Clone, Copy, Debug, Default, PartialEq, Eq)]
+pub struct LinkLook {
+    pub refusal: u32,
+    pub up: u32,
+    pub held: u32,
+    pub ready: u32,
+}
+
+/// The tables that are lent to an injection or a round.
+#[derive(Clone, Copy, Debug)]
+pub struct LentTables<'a> {
+    pub rows: &'a [u32],
+    pub starts: &'a [u32],
+    pub codes: &'a [u8],
+}

@@ -49,7 +49,7 @@ pub fn pass(call: &PassCall) -> Pass {
     }
 }
 
-fn pointer<T>(slice: &[T]) -> *const T {
+pub fn pointer<T>(slice: &[T]) -> *const T {
     if slice.is_empty() {
         std::ptr::null()
     } else {

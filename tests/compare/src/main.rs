@@ -1,10 +1,13 @@
 //! Compares the static library with the model, every field of every answer, and counts what was reached.
-//! Arguments: how many times the usual count (1), and the seed (1).
+//! Arguments: how many times the usual count (1), the seed (1), and at choice the number of one sequence of calls on a mesh:
+//! that one alone is then run, and its calls are printed.
 
 mod compare;
 mod interface;
 mod known;
 mod lib_calls;
+mod mesh;
+mod mesh_calls;
 mod model;
 mod pass_case;
 mod random;
@@ -12,6 +15,7 @@ mod systematic;
 mod tally;
 
 use interface::Fields;
+use mesh::MeshTally;
 use pass_case::{PassCase, DAMAGES};
 use random::Random;
 use tally::Tally;
@@ -19,20 +23,30 @@ use tally::Tally;
 const PASSES: f64 = 8e6;
 const READS: f64 = 2e6;
 const PACKS: f64 = 4e6;
+const SEQUENCES: f64 = 3e5;
 
 fn main() {
     let arguments: Vec<String> = std::env::args().collect();
     let scale: f64 = arguments.get(1).map_or(1.0, |text| text.parse().expect("the scale is a number"));
     let seed: u64 = arguments.get(2).map_or(1, |text| text.parse().expect("the seed is a number"));
+    let only: Option<u64> = arguments.get(3).map(|text| text.parse().expect("the sequence is a number"));
     let (mut tally, mut random) = (Tally::default(), Random::new(seed));
+    let mut mesh_tally = MeshTally::default();
 
+    if let Some(number) = only {
+        return mesh::run(&mut mesh_tally, seed, number, true);
+    }
     known::all();
     systematic::all(&mut tally, &mut random);
     random_reads(&mut tally, &mut random, (READS * scale) as u64);
     random_packs(&mut tally, &mut random, (PACKS * scale) as u64);
     random_passes(&mut tally, &mut random, (PASSES * scale) as u64);
+    mesh::systematic(&mut mesh_tally, &mut random);
+    for number in 0..(SEQUENCES * scale) as u64 {
+        mesh::run(&mut mesh_tally, seed, number, false);
+    }
 
-    if !tally.print() {
+    if !(tally.print() & mesh_tally.print()) {
         std::process::exit(1);
     }
     println!("no difference (scale {scale}, seed {seed})");

@@ -17,7 +17,7 @@ const PACK: Events<Packed> = &[
     ("pack refusal 3, type 11", |packed| packed.refusal == refusal::TYPE),
 ];
 
-const PASS: Events<Pass> = &[
+const PASS_CALL: Events<Pass> = &[
     ("pass accepted", |pass| pass.refusal == 0),
     ("pass refusal 7, size", |pass| pass.refusal == refusal::SIZE),
     ("pass refusal 6, range", |pass| pass.refusal == refusal::RANGE),
@@ -27,6 +27,10 @@ const PASS: Events<Pass> = &[
     ("pass refusal 2, length", |pass| pass.refusal == refusal::LENGTH),
     ("pass refusal 3, type 11", |pass| pass.refusal == refusal::TYPE),
     ("pass refusal 4, NN with T = 1", |pass| pass.refusal == refusal::DIRECT),
+];
+
+/// What a pass does, in the one-router call and in a mesh.
+const PASS: Events<Pass> = &[
     ("parity error", |pass| pass.errors & error::PARITY != 0),
     ("age error", |pass| pass.errors & error::AGE != 0),
     ("length error", |pass| pass.errors & error::LENGTH != 0),
@@ -52,7 +56,8 @@ fn has_mark(packet: &Packet, mark: u32) -> bool {
 pub struct Tally {
     read: [u64; READ.len()],
     pack: [u64; PACK.len()],
-    pass: [u64; PASS.len()],
+    pass_call: [u64; PASS_CALL.len()],
+    passes: PassTally,
 }
 
 impl Tally {
@@ -65,19 +70,27 @@ impl Tally {
     }
 
     pub fn pass(&mut self, answer: &Pass) {
-        count(PASS, &mut self.pass, answer);
+        count(PASS_CALL, &mut self.pass_call, answer);
+        self.passes.pass(answer);
     }
 
     /// Prints a line for each, and answers whether all were reached.
     pub fn print(&self) -> bool {
-        let names = READ.iter().map(|e| e.0).chain(PACK.iter().map(|e| e.0)).chain(PASS.iter().map(|e| e.0));
-        let counts = self.read.iter().chain(&self.pack).chain(&self.pass);
-        let mut all = true;
-        for (name, &count) in names.zip(counts) {
-            println!("{count:>12}  {name}{}", if count == 0 { ": never reached" } else { "" });
-            all &= count != 0;
-        }
-        all
+        let calls = print_all("", READ, &self.read) & print_all("", PACK, &self.pack);
+        calls & print_all("", PASS_CALL, &self.pass_call) & self.passes.print("")
+    }
+}
+
+#[derive(Default)]
+pub struct PassTally([u64; PASS.len()]);
+
+impl PassTally {
+    pub fn pass(&mut self, pass: &Pass) {
+        count(PASS, &mut self.0, pass);
+    }
+
+    pub fn print(&self, before: &str) -> bool {
+        print_all(before, PASS, &self.0)
     }
 }
 
@@ -85,4 +98,14 @@ fn count<Answer>(events: Events<Answer>, counts: &mut [u64], answer: &Answer) {
     for ((_, reached), count) in events.iter().zip(counts) {
         *count += u64::from(reached(answer));
     }
+}
+
+fn print_all<Answer>(before: &str, events: Events<Answer>, counts: &[u64]) -> bool {
+    events.iter().zip(counts).fold(true, |all, ((name, _), &count)| all & print_line(&format!("{before}{name}"), count))
+}
+
+/// Answers whether it was reached.
+pub fn print_line(name: &str, count: u64) -> bool {
+    println!("{count:>12}  {name}{}", if count == 0 { ": never reached" } else { "" });
+    count != 0
 }
