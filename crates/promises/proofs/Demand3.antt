@@ -1,5 +1,5 @@
 -- Demand 3, proved: each statement of specs/Demand3.antt, and where its proof stands. Assumes nothing.
-use Rattle.promises.specs.Demand3.{Forgetting, Program, LinksCrossed, GoneInTime, NotBeforeItsTime, Account, Counts, Registers, Log, NoStaleBlock}
+use Rattle.promises.specs.Demand3.{Forgetting, Program, WholeRun, LinksCrossed, GoneInTime, NotBeforeItsTime, Account, Counts, Registers, Log, NoStaleBlock}
 use Rattle.promises.proofs.Forgets as forgets
 use Rattle.promises.proofs.Ages as ages
 use Rattle.promises.proofs.Accounts as accounts
@@ -12,6 +12,9 @@ forgetting = forgets.forgetting
 
 pub program : Program
 program = forgets.program
+
+pub whole-run : WholeRun
+whole-run = forgets.whole-run
 
 pub links-crossed : LinksCrossed
 links-crossed = ages.links-crossed

@@ -2,25 +2,25 @@
 -- next state's after the call. Assumes nothing.
 use mathlib.Core.Path.{_≡_, refl, sym, ap, _∙_}
 use mathlib.Core.Bool.{Bool, true, false, cond}
-use mathlib.Core.List.{List, []}
-use Prim.Native.Nat.{ℕ}
+use mathlib.Core.List.{List, [], _∷_, map, foldl}
+use Prim.Native.Nat.{ℕ, zero, suc, _*_}
 use lib.Dec.{eqb}
-use lib.ListN.{length, getD, set, length-map}
+use lib.ListN.{length, getD, set, replicate, length-map}
 use borrow.Author.Tests.{eqb-true, eqb-false}
 use Rattle.packet.specs.Bytes.{packetAt}
 use Rattle.packet.specs.Refusal.{firstOf}
 use Rattle.router.specs.Keeping.{empty}
 use Rattle.mesh.specs.declared.LinkRead.{LinkRead}
-use Rattle.mesh.specs.Mesh.{Flight, Line, Chip, Mesh, idle, fresh, isReady}
+use Rattle.mesh.specs.Mesh.{Flight, Line, Chip, Mesh, idle, fresh, opened, isReady}
 use Rattle.mesh.specs.Layout.{meshOf}
 use Rattle.mesh.specs.Holding.{holdsMesh}
 use Rattle.mesh.specs.Steps.{Going, withChip, injected, rounded}
 use Rattle.mesh.specs.Calls as calls
 use Rattle.mesh.specs.Weights.{inFlight}
 use Rattle.mesh.specs.Going.{same}
-use Rattle.promises.specs.History.{Call, inject, round, setLink, readRegisters, readCounter, lookMesh, lookLink, ofAdded, ofRefusal, ofRegisters, ofCount, ofMesh, ofLink, Tag, leftBy, answerOf, turned, tagNow, accepted, after}
+use Rattle.promises.specs.History.{Call, inject, round, setLink, readRegisters, readCounter, lookMesh, lookLink, ofAdded, ofRefusal, ofRegisters, ofCount, ofMesh, ofLink, Tag, leftBy, answerOf, turned, tagNow, State, accepted, after, begun, history, Run, ended, called}
 use Rattle.promises.specs.Told.{plainFlight, plainLine, plainChip, plain, plainLeft}
-use Rattle.promises.specs.Demand3.{Forgetting, Program}
+use Rattle.promises.specs.Demand3.{Forgetting, Program, WholeRun}
 use Rattle.promises.proofs.Plains.{map-set, plainGoing, plain-chip, plain-line, plain-ready, plain-flying, plain-with, plain-pass, plain-rounded}
 
 module _ {A : Type 0} where
@@ -135,3 +135,24 @@ program s c before after′ holds e leaves = go (eqb (r .refusal) 0) refl
     go false z =
         let kept : after′ ≡ before = leaves .refused (λ none. eqb-false _ _ z (sym refusal ∙ none)) in
         (ap holdsMesh kept ∙ holds, ap meshOf kept ∙ e)
+
+-- ---- whole runs
+
+map-replicate : {X Y : Type 0} (f : X → Y) (n : ℕ) (x : X) → map f (replicate n x) ≡ replicate n (f x)
+map-replicate f zero x = refl
+map-replicate f (suc n) x = ap (λ (l : List _). f x ∷ l) (map-replicate f n x)
+
+plain-opened : (w h f monitor : ℕ) → plain (begun w h f monitor .mesh) ≡ opened w h f monitor
+plain-opened w h f monitor =
+    λ i. record { width = w; height = h; rounds = f; monitor = monitor; phase = 0; elapsed = 0; chips = map-replicate (plainChip {A = Tag}) (h * w) fresh i }
+
+pub whole-run : WholeRun
+unfolding history
+whole-run w h f monitor before behind cs holds e run = go (begun w h f monitor) before cs holds (e ∙ sym (plain-opened w h f monitor)) run
+  where
+    go : (s : State) (l : List ℕ) (calls : List Call) → holdsMesh l ≡ true → meshOf l ≡ plain (s .mesh) → Run l calls behind
+        → (holdsMesh behind ≡ true) × (meshOf behind ≡ plain (foldl after s calls .mesh))
+    go s l [] held m ended = (held, m)
+    go s l (c ∷ later) held m (called {between} leaves rest) =
+        let next = program s c l between held m leaves in
+        go (after s c) between later (next .0) (next .1) rest

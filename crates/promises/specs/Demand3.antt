@@ -10,13 +10,13 @@ use Rattle.router.specs.Deciding.{outcomeOf}
 use Rattle.router.specs.Counting.{delivered, swallowed}
 use Rattle.router.specs.Keeping.{dropCount}
 use Rattle.router.specs.Units.{weight, extra, ended}
-use Rattle.mesh.specs.Mesh.{Mesh, idle, fresh, isReady}
+use Rattle.mesh.specs.Mesh.{Mesh, idle, fresh, opened, isReady}
 use Rattle.mesh.specs.Layout.{meshOf}
 use Rattle.mesh.specs.Holding.{holdsMesh}
 use Rattle.mesh.specs.Weights.{onMesh}
 use Rattle.mesh.specs.Going.{same}
 use Rattle.mesh.specs.Leaving.{Leaves}
-use Rattle.promises.specs.History.{Call, Tag, Passage, State, Opens, leftBy, answerOf, turned, tagNow, after, history}
+use Rattle.promises.specs.History.{Call, State, Opens, leftBy, answerOf, after, history, Run}
 use Rattle.promises.specs.Told.{Stamped, EachFlight, EachPass, sumOf, countAt, dropsSince, firstOfUnits, recordsOf, plain, plainLeft}
 
 -- 2F - (r mod F): the further rounds that a packet injected after r rounds has before it is too old.
@@ -32,6 +32,11 @@ Forgetting = (A : Type 0) (turn : A → A) (tag : A) (m : Mesh A) (c : Call)
 abbrev pub Program : Type 0
 Program = (s : State) (c : Call) (before after′ : List ℕ) → holdsMesh before ≡ true → meshOf before ≡ plain (s .mesh)
     → Leaves before after′ (leftBy same tt (meshOf before) c) → (holdsMesh after′ ≡ true) × (meshOf after′ ≡ plain (after s c .mesh))
+
+-- So a buffer that was opened holds, after any run of calls, the mesh of the history of those calls.
+abbrev pub WholeRun : Type 0
+WholeRun = (w h f monitor : ℕ) (before behind : List ℕ) (cs : List Call) → holdsMesh before ≡ true → meshOf before ≡ opened w h f monitor → Run before cs behind
+    → (holdsMesh behind ≡ true) × (meshOf behind ≡ plain (history w h f monitor cs .mesh))
 
 -- What a theorem over histories says of one.
 abbrev pub Always : (ℕ → State → Type 0) → Type 0

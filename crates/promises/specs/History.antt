@@ -19,6 +19,9 @@ use Rattle.mesh.specs.declared.LinkRead.{LinkRead}
 use Rattle.mesh.specs.Mesh.{Flight, Chip, Mesh, fresh, opened}
 use Rattle.mesh.specs.Opening.{roundsFine}
 use Rattle.mesh.specs.Steps.{Tables, Arrival, Going, rowsAt, codesAt, settingAt, outcomeAt, setAside, arrivals, passAt}
+use Rattle.mesh.specs.Layout.{meshOf}
+use Rattle.mesh.specs.Going.{same}
+use Rattle.mesh.specs.Leaving.{Leaves}
 use Rattle.mesh.specs.Calls as calls
 
 -- ---- calls
@@ -177,3 +180,9 @@ begun width height rounds monitor = record { mesh = opened width height rounds m
 
 unfoldable pub history : ℕ → ℕ → ℕ → ℕ → List Call → State
 history width height rounds monitor cs = foldl after (begun width height rounds monitor) cs
+
+-- A run of the program: a buffer before, some calls, and a buffer that they may leave, each call by its contract.
+pub data Run : List ℕ → List Call → List ℕ → Type 0 where
+  ended : {l : List ℕ} → Run l [] l
+  called : {before between behind : List ℕ} {c : Call} {cs : List Call} → Leaves before between (leftBy same tt (meshOf before) c) → Run between cs behind
+      → Run before (c ∷ cs) behind

@@ -1,0 +1,84 @@
+// The mesh of the story: 3 by 3 chips. Chip 0 sends key 1 by link 0, chip 1 has no row and lets it go straight on, chip 2
+// hands it to processor 1. The link that is watched, and taken down, is link 0 of chip 1.
+use mesh::LinkRead;
+use mesh::changing::set_link;
+use mesh::looking::look_link;
+use mesh::looking::look_mesh;
+use mesh::looking::read_counter;
+use mesh::moving::inject;
+use mesh::moving::round;
+use mesh::opening::open;
+use std::num::wrapping_add_u32;
+
+// No mesh needs more than 4,096 words a chip and 1,024 besides.
+pub const WORDS: usize = 37888;
+
+pub const CHIPS: u32 = 9;
+
+// No point-to-point packet is sent: every code is 6, nowhere.
+pub const CODES: [u8; 81] = [6; 81];
+
+// Key 1 and every bit of it: at chip 0 to link 0, route bit 0; at chip 2 to processor 1, route bit 7.
+const ROWS: [u32; 6] = [1, 4294967295, 1, 1, 4294967295, 128];
+
+const STARTS: [u32; 10] = [0, 1, 1, 2, 2, 2, 2, 2, 2, 2];
+
+const SENT: u32 = 5;
+
+const DELIVERED: u32 = 6;
+
+const DROPPED: u32 = 7;
+
+// What all chips together counted.
+pub struct Totals {
+    pub sent: u32,
+    pub delivered: u32,
+    pub dropped: u32,
+}
+
+pub fn opened() -> [u32; WORDS] {
+    let mut mesh = [0u32; WORDS];
+    open(&mut mesh, 3, 3, 100, 0);
+    mesh
+}
+
+// Sends key 1 from chip 0, and answers how many records the log has of it.
+pub fn send(mesh: &mut [u32; WORDS], log: &mut [u32; 6]) -> u32 {
+    let bytes: [u8; 5] = [0, 0, 0, 0, 1];
+    inject(mesh, log, 0, &bytes, &ROWS, &STARTS, &CODES).added
+}
+
+// A round, which answers the same.
+pub fn turn(mesh: &mut [u32; WORDS], log: &mut [u32; 6]) -> u32 {
+    round(mesh, log, &ROWS, &STARTS, &CODES).added
+}
+
+pub fn watched_link_is_up(mesh: &mut [u32; WORDS], up: bool) {
+    set_link(mesh, 1, 0, up);
+}
+
+pub fn watched_link(mesh: &[u32; WORDS]) -> LinkRead {
+    look_link(mesh, 1, 0)
+}
+
+pub fn in_flight(mesh: &[u32; WORDS]) -> u32 {
+    look_mesh(mesh).in_flight
+}
+
+pub fn sums(mesh: &[u32; WORDS]) -> Totals {
+    Totals {
+        sent: sum(mesh, SENT),
+        delivered: sum(mesh, DELIVERED),
+        dropped: sum(mesh, DROPPED),
+    }
+}
+
+fn sum(mesh: &[u32; WORDS], counter: u32) -> u32 {
+    let mut all = 0;
+    let mut chip = 0;
+    while chip < CHIPS {
+        all = wrapping_add_u32(all, read_counter(mesh, chip, counter).count);
+        chip += 1;
+    }
+    all
+}

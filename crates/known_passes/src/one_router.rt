@@ -1,0 +1,41 @@
+// Case 13, and of case 15 the half about rows: one router, all links ready.
+use packet::reading::read;
+use router::Setting;
+use router::call::pass;
+
+// Lengths 0, 4, 6 and 10 are refused with 2, and C0 00 00 00 00, whose parity is even, with 3.
+pub fn case_13() -> bool {
+    let ten: [u8; 10] = [0, 0, 0, 0, 1, 0, 0, 0, 0, 0];
+    let unused: [u8; 5] = [192, 0, 0, 0, 0];
+    refused(&ten[..0], 2)
+        & refused(&ten[..4], 2)
+        & refused(&ten[..6], 2)
+        & refused(&ten, 2)
+        & refused(&unused, 3)
+}
+
+// 1,024 rows pass, and 1,025 are refused with 5.
+pub fn rows_fit() -> bool {
+    let bytes: [u8; 5] = [0, 0, 0, 0, 1];
+    let rows = [0u32; 3075];
+    (refusal_with(&bytes, &rows[..3072]) == 0) & (refusal_with(&bytes, &rows) == 5)
+}
+
+// Whether reading and the pass both refuse the bytes with this number.
+fn refused(bytes: &[u8], number: u32) -> bool {
+    let rows: [u32; 0] = [];
+    (read(bytes).refusal == number) & (refusal_with(bytes, &rows) == number)
+}
+
+// What the pass of a packet from link 0 is refused with: one chip, all links ready.
+fn refusal_with(bytes: &[u8], rows: &[u32]) -> u32 {
+    let codes: [u8; 1] = [6];
+    let t = Setting {
+        width: 1,
+        height: 1,
+        monitor: 0,
+        phase: 0,
+        ready: 63,
+    };
+    pass(bytes, 0, rows, &codes, t).refusal
+}
