@@ -2,14 +2,20 @@
 //! The pass has two plain versions: as one first writes it, and tuned, with the numbers of a table joined before the test.
 //! Rounds of all are interleaved, so that what else the machine does falls on all. Argument: rounds (300).
 
+mod busy_mesh;
+mod growth;
 #[path = "../../tests/compare/src/interface.rs"]
 mod interface;
 #[path = "../../tests/compare/src/lib_calls.rs"]
 mod lib_calls;
+#[path = "../../tests/compare/src/mesh_calls.rs"]
+mod mesh_calls;
+mod mesh_times;
 #[path = "../../tests/compare/src/model.rs"]
 mod model;
 mod packet_times;
 mod pass_times;
+mod plain_mesh;
 mod stack;
 mod timing;
 
@@ -18,5 +24,7 @@ fn main() {
     timing::print_head();
     pass_times::all(rounds);
     packet_times::all(rounds);
+    mesh_times::all(rounds);
+    growth::all(rounds);
     stack::print_use();
 }

@@ -1,17 +1,40 @@
 //! The stack that a call uses: it runs on a stack of its own, painted before, and what is no longer paint was used.
 //! The figure includes what the function that makes the call needs itself.
 
+use crate::busy_mesh::{bytes, BusyMesh};
 use crate::interface::Fields;
-use crate::{lib_calls, pass_times};
+use crate::{lib_calls, mesh_calls, pass_times};
 use std::arch::asm;
+use std::cell::RefCell;
 use std::hint::black_box;
 
 const STACK_BYTES: usize = 1 << 20;
 const PAINT: u8 = 0xa5;
 const MOST: usize = 64 << 10;
 
+thread_local! {
+    /// The mesh that calls on a mesh are measured with, with detours and deliveries.
+    static MESH: RefCell<BusyMesh> = RefCell::new(BusyMesh::mixed(12, 12, 4));
+}
+
+const CALLS: [(&str, extern "C" fn()); 12] = [
+    ("read", read),
+    ("pack", pack),
+    ("pass", pass),
+    ("size", size),
+    ("open", open),
+    ("inject", inject),
+    ("round", round),
+    ("set link", set_link),
+    ("read registers", read_registers),
+    ("read counter", read_counter),
+    ("look at the mesh", look),
+    ("look at link", look_at_link),
+];
+
 pub fn print_use() {
-    for (name, caller) in [("read", read as extern "C" fn()), ("pack", pack), ("pass", pass)] {
+    MESH.with(|_| ());
+    for (name, caller) in CALLS {
         let used = stack_use(caller);
         assert!(used < MOST, "{name} uses {used} bytes of stack, which is not under {MOST}");
         println!("stack, {name}, with its caller: {used} bytes");
@@ -30,10 +53,61 @@ extern "C" fn pass() {
     black_box(lib_calls::pass(black_box(&pass_times::call(black_box(&[0; 3 * 1024])))));
 }
 
+extern "C" fn size() {
+    black_box(mesh_calls::size(black_box(12), 12));
+}
+
+extern "C" fn open() {
+    let mut words = MESH.with_borrow(|mesh| vec![0; mesh.words.len()]);
+    black_box(mesh_calls::open(black_box(&mut words), 12, 12, 1, 0));
+}
+
+extern "C" fn inject() {
+    MESH.with_borrow_mut(|mesh| black_box(mesh.inject_by(mesh_calls::inject, &bytes(0, 2))));
+}
+
+extern "C" fn round() {
+    MESH.with_borrow_mut(|mesh| black_box(mesh.on(mesh_calls::round)));
+}
+
+extern "C" fn set_link() {
+    MESH.with_borrow_mut(|mesh| black_box(mesh_calls::set_link(&mut mesh.words, 143, 5, true)));
+}
+
+extern "C" fn read_registers() {
+    MESH.with_borrow_mut(|mesh| black_box(mesh_calls::read_registers(&mut mesh.words, 143)));
+}
+
+extern "C" fn read_counter() {
+    MESH.with_borrow(|mesh| black_box(mesh_calls::read_counter(&mesh.words, 143, 9)));
+}
+
+extern "C" fn look() {
+    MESH.with_borrow(|mesh| black_box(mesh_calls::look(&mesh.words)));
+}
+
+extern "C" fn look_at_link() {
+    MESH.with_borrow(|mesh| black_box(mesh_calls::look_at_link(&mesh.words, 143, 5)));
+}
+
 fn stack_use(caller: extern "C" fn()) -> usize {
     let mut stack = vec![PAINT; STACK_BYTES];
     let top = (stack.as_mut_ptr_range().end as usize) & !15;
     // The stack pointer is put back from a register that the caller keeps.
+    #[cfg(target_arch = "aarch64")]
+    unsafe {
+        asm!(
+            "mov x20, sp",
+            "mov sp, {top}",
+            "blr {caller}",
+            "mov sp, x20",
+            top = in(reg) top,
+            caller = in(reg) caller,
+            out("x20") _,
+            clobber_abi("C"),
+        );
+    }
+    #[cfg(target_arch = "x86_64")]
     unsafe {
         asm!(
             "mov r12, rsp",

@@ -1,5 +1,7 @@
 //! Versions of one function timed in turns, and the line that says how they did.
 
+use crate::busy_mesh::BusyMesh;
+use crate::interface::Added;
 use std::fmt::Debug;
 use std::hint::black_box;
 use std::time::Instant;
@@ -30,11 +32,67 @@ pub fn line<Input, Answer: Debug + PartialEq, const VERSIONS: usize>(
             *best = best.max(rate(calls, input, version));
         }
     }
+    print_rates(name, &rates);
+}
+
+/// The same for calls that change a mesh. Every turn of every version starts from the same mesh, and all must leave the same
+/// words and log.
+pub fn line_from<const VERSIONS: usize>(
+    name: &str,
+    turns: usize,
+    start: &BusyMesh,
+    versions: [fn(&mut BusyMesh) -> Added; VERSIONS],
+) {
+    let mut mesh = start.copy();
+    let calls = mesh_calls_in_a_turn(&mut mesh, start, versions[0]);
+    let mut expected = start.copy();
+    (0..calls).for_each(|_| assert_eq!(versions[0](&mut expected).refusal, 0));
+    for version in versions {
+        mesh_rate(calls, &mut mesh, start, version);
+        assert!(mesh.words == expected.words && mesh.log == expected.log, "{name}: words or log differ");
+    }
+    let mut rates = [0.0f64; VERSIONS];
+    for _ in 0..turns {
+        for (best, version) in rates.iter_mut().zip(versions) {
+            *best = best.max(mesh_rate(calls, &mut mesh, start, version));
+        }
+    }
+    print_rates(name, &rates);
+}
+
+/// How long the best turn of a call took, by call.
+pub fn nanoseconds(name: &str, turns: usize, start: &BusyMesh, call: fn(&mut BusyMesh) -> Added) {
+    let mut mesh = start.copy();
+    let calls = mesh_calls_in_a_turn(&mut mesh, start, call);
+    let best = (0..turns).map(|_| mesh_rate(calls, &mut mesh, start, call)).fold(0.0, f64::max);
+    println!("{name:<44} {:>14.0}", 1e9 / best);
+}
+
+fn print_rates(name: &str, rates: &[f64]) {
     print!("{name:<34} {:>14.0}", rates[0]);
     for plain in &rates[1..] {
         print!(" {plain:>14.0} {:>7.2}", rates[0] / plain);
     }
     println!();
+}
+
+fn mesh_calls_in_a_turn(mesh: &mut BusyMesh, start: &BusyMesh, call: fn(&mut BusyMesh) -> Added) -> u32 {
+    let mut calls = 4;
+    while f64::from(calls) / mesh_rate(calls, mesh, start, call) < TURN_SECONDS {
+        calls *= 2;
+    }
+    calls
+}
+
+/// The copy of the mesh is not timed.
+fn mesh_rate(calls: u32, mesh: &mut BusyMesh, from: &BusyMesh, call: fn(&mut BusyMesh) -> Added) -> f64 {
+    let call = black_box(call);
+    mesh.copy_from(from);
+    let start = Instant::now();
+    for _ in 0..calls {
+        black_box(call(black_box(mesh)));
+    }
+    f64::from(calls) / start.elapsed().as_secs_f64()
 }
 
 fn calls_in_a_turn<Input, Answer>(input: &Input, function: fn(&Input) -> Answer) -> u32 {

@@ -41,7 +41,7 @@ fn main() {
     random_reads(&mut tally, &mut random, (READS * scale) as u64);
     random_packs(&mut tally, &mut random, (PACKS * scale) as u64);
     random_passes(&mut tally, &mut random, (PASSES * scale) as u64);
-    mesh::systematic(&mut mesh_tally, &mut random);
+    mesh::systematic(&mut mesh_tally, seed);
     for number in 0..(SEQUENCES * scale) as u64 {
         mesh::run(&mut mesh_tally, seed, number, false);
     }

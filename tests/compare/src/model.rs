@@ -79,7 +79,7 @@ pub fn pass<const JOINED: bool>(call: &PassCall) -> Pass {
 
 // Reading and packing
 
-fn take(bytes: &[u8]) -> Result<Packet, u32> {
+pub fn take(bytes: &[u8]) -> Result<Packet, u32> {
     let (nine, payload) = match bytes.len() {
         5 => (0, 0),
         9 => (1, word_at(bytes, 5)),
@@ -167,7 +167,7 @@ fn stamp_of(control: u32) -> u32 {
     control >> 2 & 3
 }
 
-fn direct_of(control: u32) -> u32 {
+pub fn direct_of(control: u32) -> u32 {
     control >> 5 & 1
 }
 
@@ -179,7 +179,7 @@ fn carries_of(control: u32) -> u32 {
     control >> 1 & 1
 }
 
-fn is_odd(packet: &Packet) -> bool {
+pub fn is_odd(packet: &Packet) -> bool {
     (packet.control ^ packet.word ^ packet.payload).count_ones() % 2 == 1
 }
 
@@ -192,11 +192,11 @@ fn rewritten(packet: &Packet, shift: u32, bits: u32) -> Packet {
     new
 }
 
-fn with_mark(packet: &Packet, mark: u32) -> Packet {
+pub fn with_mark(packet: &Packet, mark: u32) -> Packet {
     rewritten(packet, 4, mark)
 }
 
-fn with_stamp(packet: &Packet, stamp: u32) -> Packet {
+pub fn with_stamp(packet: &Packet, stamp: u32) -> Packet {
     rewritten(packet, 2, stamp)
 }
 
@@ -234,6 +234,10 @@ fn rows_fit<const JOINED: bool>(rows: &[u32]) -> bool {
     if rows.len() % ROW != 0 || rows.len() / ROW > MOST_ROWS {
         return false;
     }
+    routes_fit::<JOINED>(rows)
+}
+
+pub fn routes_fit<const JOINED: bool>(rows: &[u32]) -> bool {
     let mut rows = rows.chunks_exact(ROW);
     if JOINED {
         rows.fold(0, |joined, row| joined | row[2]) < 1 << ROUTE_BITS
@@ -242,8 +246,8 @@ fn rows_fit<const JOINED: bool>(rows: &[u32]) -> bool {
     }
 }
 
-fn codes_fit<const JOINED: bool>(codes: &[u8], chips: u32) -> bool {
-    if codes.len() != chips as usize {
+pub fn codes_fit<const JOINED: bool>(codes: &[u8], count: u32) -> bool {
+    if codes.len() != count as usize {
         return false;
     }
     if JOINED {
@@ -254,7 +258,7 @@ fn codes_fit<const JOINED: bool>(codes: &[u8], chips: u32) -> bool {
 }
 
 /// Step 1.
-fn errors_of(call: &PassCall, packet: &Packet) -> u32 {
+pub fn errors_of(call: &PassCall, packet: &Packet) -> u32 {
     let kind = kind_of(packet.control);
     let mut errors = 0;
     if !is_odd(packet) {
@@ -328,7 +332,7 @@ fn sound_pass(call: &PassCall, packet: Packet) -> Pass {
 }
 
 /// The wanted set of a multicast packet, and whether it is a local miss.
-fn mc_wanted(call: &PassCall, packet: &Packet) -> (u32, bool) {
+pub fn mc_wanted(call: &PassCall, packet: &Packet) -> (u32, bool) {
     let mark = mark_of(packet.control);
     if mark == mark::EMERGENCY {
         return (0, false);
@@ -345,7 +349,7 @@ fn first_match(rows: &[u32], key: u32) -> Option<u32> {
     rows.chunks_exact(ROW).find(|row| key & row[1] == row[0] & row[1]).map(|row| row[2])
 }
 
-fn p2p_wanted(call: &PassCall, word: u32) -> u32 {
+pub fn p2p_wanted(call: &PassCall, word: u32) -> u32 {
     let (x, y) = (word >> 8 & 0xff, word & 0xff);
     if x >= call.width || y >= call.height {
         return 0;
@@ -357,7 +361,7 @@ fn p2p_wanted(call: &PassCall, word: u32) -> u32 {
     }
 }
 
-fn nn_wanted(call: &PassCall, control: u32) -> u32 {
+pub fn nn_wanted(call: &PassCall, control: u32) -> u32 {
     if call.source != LOCAL {
         return monitor_route(call);
     }
@@ -419,7 +423,7 @@ fn send_unchanged(pass: &mut Pass, packet: &Packet, wanted: u32, ready: u32) {
     }
 }
 
-fn has(set: u32, member: u32) -> bool {
+pub fn has(set: u32, member: u32) -> bool {
     set >> member & 1 == 1
 }
 

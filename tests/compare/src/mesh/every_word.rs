@@ -38,9 +38,11 @@ const VALUES: [u32; 26] = [
     u32::MAX,
 ];
 
-pub fn all(tally: &mut MeshTally, random: &mut Random) {
+pub fn all(tally: &mut MeshTally, seed: u64) {
+    let random = &mut Random::new(seed);
     for (width, height) in [(1, 1), (2, 1), (1, 3), (2, 2)] {
-        let mut pair = busy(tally, random, width, height);
+        let name = format!("every word, {width} by {height}, of seed {seed}");
+        let mut pair = busy(tally, random, name, width, height);
         for at in 0..words_for(width, height) {
             let old = pair.words[at];
             let bits = (0..32).map(|bit| old ^ 1 << bit);
@@ -57,10 +59,10 @@ pub fn all(tally: &mut MeshTally, random: &mut Random) {
 }
 
 /// A mesh with packets on its links, some of which are down, and with drops in its registers.
-fn busy(tally: &mut MeshTally, random: &mut Random, width: u32, height: u32) -> Pair {
+fn busy(tally: &mut MeshTally, random: &mut Random, name: String, width: u32, height: u32) -> Pair {
     let words = vec![0; words_for(width, height)];
     let lent = words.len();
-    let mut pair = Pair::new(format!("every word, {width} by {height}"), false, words, lent, vec![0; 6 * 6 * 8 * 4]);
+    let mut pair = Pair::new(name, false, words, lent, vec![0; 6 * 6 * 8 * 4]);
     let keys = [random.word(), random.word()];
     pair.open(tally, width, height, 9, 19);
     for step in 0..100 {

@@ -18,10 +18,8 @@ mod tally;
 pub use sequence::run;
 pub use tally::MeshTally;
 
-use crate::random::Random;
-
 /// What is no sequence of random calls: the known passes, and every word of some buffers.
-pub fn systematic(tally: &mut MeshTally, random: &mut Random) {
+pub fn systematic(tally: &mut MeshTally, seed: u64) {
     known::all();
-    every_word::all(tally, random);
+    every_word::all(tally, seed);
 }

@@ -1,0 +1,155 @@
+//! Meshes that stay as busy as they are: the mesh wraps, so that what keeps its direction never ends. F is the most there is,
+//! and no packet grows too old while it is timed.
+
+use crate::interface::{Added, LentTables};
+use crate::mesh_calls;
+
+const LINKS: u32 = 6;
+const MOST_ROUNDS: u32 = 65_535;
+const RECORD: usize = 6;
+/// The keys of rows that no packet matches.
+const SPARE: u32 = 0x1000;
+
+pub struct BusyMesh {
+    pub words: Vec<u32>,
+    pub log: Vec<u32>,
+    /// The chip of the next injection.
+    pub chip: u32,
+    rows: Vec<u32>,
+    starts: Vec<u32>,
+    codes: Vec<u8>,
+}
+
+impl BusyMesh {
+    /// On each directed link so many multicast packets, each kept on its way by the row of its link at every chip, behind
+    /// so many spare rows.
+    pub fn circling(width: u32, height: u32, on_each: u32, spare_rows: u32) -> BusyMesh {
+        let mut mesh = BusyMesh::open(width, height);
+        for _ in 0..width * height {
+            (0..spare_rows).for_each(|row| mesh.add_row(SPARE + row, 0));
+            (0..LINKS).for_each(|link| mesh.add_row(link, 1 << link));
+            mesh.end_chip();
+        }
+        mesh.fill(on_each, |link, _| (0x00, link));
+        mesh
+    }
+
+    /// The same with packets of both lengths, by row, by default and point-to-point, deliveries at every eighth chip, and
+    /// links that are down, so that packets go round them.
+    pub fn mixed(width: u32, height: u32, on_each: u32) -> BusyMesh {
+        let mut mesh = BusyMesh::open(width, height);
+        for chip in 0..width * height {
+            let processors = if chip % 8 == 0 { 1 << 6 | 1 << 9 } else { 0 };
+            (0..LINKS).for_each(|link| mesh.add_row(link, 1 << link | processors));
+            mesh.end_chip();
+        }
+        // Point-to-point: the code for chip number n below 6 is link n everywhere.
+        let chips = (width * height) as usize;
+        (0..chips * chips).filter(|at| at % chips < 6).for_each(|at| mesh.codes[at] = (at % chips) as u8);
+        mesh.fill(on_each, |link, chip| match (chip + link) % 4 {
+            0 if link != 3 => (0x40, link << 8),
+            1 => (0x02, link),
+            _ => (0x00, link),
+        });
+        for chip in (5..width * height).step_by(24) {
+            assert_eq!(mesh_calls::set_link(&mut mesh.words, chip, 3, false), 0);
+        }
+        mesh
+    }
+
+    pub fn in_flight(&self) -> u32 {
+        mesh_calls::look(&self.words).in_flight
+    }
+
+    /// The same mesh after so many rounds more.
+    pub fn after(mut self, rounds: u32) -> BusyMesh {
+        for _ in 0..rounds {
+            assert_eq!(self.on(mesh_calls::round).refusal, 0);
+        }
+        self
+    }
+
+    /// The same mesh with more words lent than it needs.
+    pub fn with_more_lent(mut self, mesh: usize, log: usize) -> BusyMesh {
+        self.words.resize(self.words.len() + mesh, 0);
+        self.log.resize(self.log.len() + log, 0);
+        self
+    }
+
+    /// Words and log of another that was made in the same way.
+    pub fn copy_from(&mut self, other: &BusyMesh) {
+        self.words.copy_from_slice(&other.words);
+        self.log.copy_from_slice(&other.log);
+        self.chip = other.chip;
+    }
+
+    pub fn copy(&self) -> BusyMesh {
+        BusyMesh {
+            words: self.words.clone(),
+            log: self.log.clone(),
+            chip: self.chip,
+            rows: self.rows.clone(),
+            starts: self.starts.clone(),
+            codes: self.codes.clone(),
+        }
+    }
+
+    /// Makes a call that needs no more than buffer, log and tables.
+    pub fn on(&mut self, call: fn(&mut [u32], &mut [u32], &LentTables) -> Added) -> Added {
+        let tables = LentTables { rows: &self.rows, starts: &self.starts, codes: &self.codes };
+        call(&mut self.words, &mut self.log, &tables)
+    }
+
+    pub fn inject_by(
+        &mut self,
+        call: fn(&mut [u32], &mut [u32], u32, &[u8], &LentTables) -> Added,
+        packet: &[u8],
+    ) -> Added {
+        let tables = LentTables { rows: &self.rows, starts: &self.starts, codes: &self.codes };
+        let chip = self.chip;
+        self.chip = if chip as usize + 2 < self.starts.len() { chip + 1 } else { 0 };
+        call(&mut self.words, &mut self.log, chip, packet, &tables)
+    }
+
+    fn open(width: u32, height: u32) -> BusyMesh {
+        let mut words = vec![0; mesh_calls::size(width, height).words as usize];
+        assert_eq!(mesh_calls::open(&mut words, width, height, MOST_ROUNDS, 0), 0);
+        let chips = (width * height) as usize;
+        let log = vec![0; chips * LINKS as usize * 8 * RECORD];
+        BusyMesh { words, log, chip: 0, rows: vec![], starts: vec![0], codes: vec![6; chips * chips] }
+    }
+
+    fn add_row(&mut self, key: u32, route: u32) {
+        self.rows.extend_from_slice(&[key, u32::MAX, route]);
+    }
+
+    fn end_chip(&mut self) {
+        self.starts.push(self.rows.len() as u32 / 3);
+    }
+
+    /// Injects packets at every chip: control byte, without parity, and word of what goes out by a link.
+    fn fill(&mut self, on_each: u32, packet: fn(u32, u32) -> (u8, u32)) {
+        let chips = self.starts.len() as u32 - 1;
+        for _ in 0..on_each {
+            for link in 0..LINKS {
+                for chip in 0..chips {
+                    let (control, word) = packet(link, chip);
+                    assert_eq!(self.inject_by(mesh_calls::inject, &bytes(control, word)).refusal, 0);
+                }
+            }
+        }
+        assert_eq!(self.in_flight(), on_each * LINKS * chips, "every packet is on a link");
+    }
+}
+
+/// A packet with parity set right, with a payload if bit 1 says so.
+pub fn bytes(control: u8, word: u32) -> Vec<u8> {
+    let mut bytes = vec![control];
+    bytes.extend_from_slice(&word.to_be_bytes());
+    if control & 2 != 0 {
+        bytes.extend_from_slice(&0x0102_0304u32.to_be_bytes());
+    }
+    let ones: u32 = bytes.iter().map(|byte| byte.count_ones()).sum();
+    bytes[0] |= u8::from(ones % 2 == 0);
+    bytes
+}

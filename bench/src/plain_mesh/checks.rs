@@ -1,0 +1,72 @@
+//! What injection and round refuse, the first number that applies.
+
+use super::holding::holds;
+use super::{chips_of, link_at, HELD, RECORD};
+use crate::interface::LentTables;
+use crate::model::{codes_fit, direct_of, kind, kind_of, refusal, routes_fit, take, LINKS, MOST_ROWS};
+
+const NO_MESH: u32 = 8;
+const NOT_THERE: u32 = 9;
+const LOG: u32 = 10;
+
+/// 8, 9, 5, 11, 10, 2, 3, 4.
+pub fn inject<const JOINED: bool>(
+    mesh: &[u32],
+    log: &[u32],
+    chip: u32,
+    bytes: &[u8],
+    tables: &LentTables,
+) -> Result<(), u32> {
+    if !holds(mesh) {
+        return Err(NO_MESH);
+    }
+    if chip as usize >= chips_of(mesh) {
+        return Err(NOT_THERE);
+    }
+    check_tables::<JOINED>(chips_of(mesh), tables)?;
+    if log.len() < RECORD {
+        return Err(LOG);
+    }
+    let packet = take(bytes)?;
+    if kind_of(packet.control) == kind::NN && direct_of(packet.control) == 1 {
+        return Err(refusal::DIRECT);
+    }
+    Ok(())
+}
+
+/// 8, 5, 11, 10.
+pub fn round<const JOINED: bool>(mesh: &[u32], log: &[u32], tables: &LentTables) -> Result<(), u32> {
+    if !holds(mesh) {
+        return Err(NO_MESH);
+    }
+    check_tables::<JOINED>(chips_of(mesh), tables)?;
+    if log.len() < RECORD * in_flight(mesh) {
+        return Err(LOG);
+    }
+    Ok(())
+}
+
+fn check_tables<const JOINED: bool>(chips: usize, tables: &LentTables) -> Result<(), u32> {
+    let starts = tables.starts;
+    let starts_fit = starts.len() == chips + 1
+        && starts[0] == 0
+        && starts.windows(2).all(|pair| pair[0] <= pair[1] && (pair[1] - pair[0]) as usize <= MOST_ROWS)
+        && starts[chips] as usize * 3 == tables.rows.len();
+    if !starts_fit || !routes_fit::<JOINED>(tables.rows) {
+        return Err(refusal::ROWS);
+    }
+    if !codes_fit::<JOINED>(tables.codes, (chips * chips) as u32) {
+        return Err(refusal::CODES);
+    }
+    Ok(())
+}
+
+fn in_flight(mesh: &[u32]) -> usize {
+    let mut packets = 0;
+    for chip in 0..chips_of(mesh) {
+        for link in 0..LINKS as usize {
+            packets += mesh[link_at(chip, link) + HELD] as usize;
+        }
+    }
+    packets
+}

@@ -1,0 +1,112 @@
+//! Injection and round on a flat buffer of the same layout (docs/LAYOUT.md), in plain Rust, with the same checks at each call:
+//! whether the buffer holds a mesh, the tables, the log, and for an injection the packet. `JOINED` says how the numbers of the
+//! tables are checked, as in the one-router model.
+
+mod checks;
+mod holding;
+mod passing;
+
+use crate::interface::{Added, LentTables};
+use crate::model::{self, LINKS, LOCAL};
+use passing::{packet_at, pass_at};
+
+const HEADER: usize = 6;
+const WIDTH: usize = 0;
+const HEIGHT: usize = 1;
+const ROUNDS_PER_PHASE: usize = 2;
+const MONITOR: usize = 3;
+const PHASE: usize = 4;
+const ROUNDS_IN_PHASE: usize = 5;
+
+const CHIP: usize = 322;
+const COUNTERS_AT: usize = 6;
+const LINKS_AT: usize = 16;
+
+const LINK: usize = 51;
+const DOWN: usize = 0;
+const HELD: usize = 1;
+const PLACES_AT: usize = 2;
+const PLACE: usize = 3;
+const ASIDE: usize = 26;
+
+const RECORD: usize = 6;
+
+pub fn inject<const JOINED: bool>(
+    mesh: &mut [u32],
+    log: &mut [u32],
+    chip: u32,
+    bytes: &[u8],
+    tables: &LentTables,
+) -> Added {
+    if let Err(refusal) = checks::inject::<JOINED>(mesh, log, chip, bytes, tables) {
+        return Added { refusal, added: 0 };
+    }
+    match model::take(bytes) {
+        Err(refusal) => Added { refusal, added: 0 },
+        Ok(packet) => Added { refusal: 0, added: pass_at(mesh, log, 0, chip as usize, LOCAL, packet, tables) as u32 },
+    }
+}
+
+pub fn round<const JOINED: bool>(mesh: &mut [u32], log: &mut [u32], tables: &LentTables) -> Added {
+    if let Err(refusal) = checks::round::<JOINED>(mesh, log, tables) {
+        return Added { refusal, added: 0 };
+    }
+    set_aside(mesh);
+    let mut records = 0;
+    for chip in 0..chips_of(mesh) {
+        for source in 0..LINKS as usize {
+            let from = link_at(neighbour(mesh, chip, source), (source + 3) % LINKS as usize);
+            for number in 0..mesh[from + ASIDE] as usize {
+                let packet = packet_at(mesh, from + ASIDE + 1 + number * PLACE);
+                records = pass_at(mesh, log, records, chip, source as u32, packet, tables);
+            }
+        }
+    }
+    end_round(mesh);
+    Added { refusal: 0, added: records as u32 }
+}
+
+fn set_aside(mesh: &mut [u32]) {
+    for chip in 0..chips_of(mesh) {
+        for link in 0..LINKS as usize {
+            let words = &mut mesh[link_at(chip, link)..][..LINK];
+            let held = words[HELD] as usize;
+            words.copy_within(PLACES_AT..PLACES_AT + held * PLACE, ASIDE + 1);
+            words[ASIDE] = held as u32;
+            words[HELD] = 0;
+        }
+    }
+}
+
+fn end_round(mesh: &mut [u32]) {
+    mesh[ROUNDS_IN_PHASE] += 1;
+    if mesh[ROUNDS_IN_PHASE] == mesh[ROUNDS_PER_PHASE] {
+        mesh[ROUNDS_IN_PHASE] = 0;
+        mesh[PHASE] = [1, 3, 0, 2][mesh[PHASE] as usize];
+    }
+}
+
+fn chips_of(mesh: &[u32]) -> usize {
+    (mesh[WIDTH] * mesh[HEIGHT]) as usize
+}
+
+fn link_at(chip: usize, link: usize) -> usize {
+    HEADER + chip * CHIP + LINKS_AT + link * LINK
+}
+
+/// The chip that a link leads to.
+fn neighbour(mesh: &[u32], chip: usize, link: usize) -> usize {
+    let (width, height) = (mesh[WIDTH] as usize, mesh[HEIGHT] as usize);
+    let (x, y) = (chip % width, chip / width);
+    let (east, west) = ((x + 1) % width, (x + width - 1) % width);
+    let (north, south) = ((y + 1) % height, (y + height - 1) % height);
+    let (x, y) = match link {
+        0 => (east, y),
+        1 => (east, north),
+        2 => (x, north),
+        3 => (west, y),
+        4 => (west, south),
+        _ => (x, south),
+    };
+    y * width + x
+}
