@@ -1,4 +1,4 @@
-//! A mesh of routers as an ordinary Rust struct, each pass that of the one-router model. Written from the rules alone, not
+//! A mesh of routers as an ordinary Rust struct, each pass that of the one-router model. Written from the rules, not translated
 //! from the Rattle sources. Every call here is one that the refusals let through.
 
 use crate::interface::{LentTables, LinkLook, MeshLook, Packet, Pass, PassCall, Registers};
