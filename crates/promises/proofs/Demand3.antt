@@ -3,7 +3,7 @@ use Rattle.promises.specs.Demand3.{Forgetting, Program, WholeRun, LinksC
 use Rattle.promises.proofs.Forgets as forgets
 use Rattle.promises.proofs.Ages as ages
 use Rattle.promises.proofs.Accounts as accounts
-use Rattle.promises.proofs.Counted as counted
+use Rattle.promises.proofs.Owned as owned
 use Rattle.promises.proofs.Registered as registered
 use Rattle.promises.proofs.Records as records
 
@@ -29,7 +29,7 @@ pub account : Account
 account = accounts.account
 
 pub counts : Counts
-counts = counted.counts-told
+counts = owned.counts-told
 
 pub registers : Registers
 registers = registered.registers-told

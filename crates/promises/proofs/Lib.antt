@@ -9,6 +9,7 @@ pub mod Dropped
 pub mod Flights
 pub mod Forgets
 pub mod Histories
+pub mod Owned
 pub mod Plains
 pub mod Records
 pub mod Registered

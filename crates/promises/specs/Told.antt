@@ -1,16 +1,23 @@
 -- What a history tells: sums over its passes, the drops since a chip's registers were last read, the records of its log.
 use Prim.Native.Nat.{ℕ, _+_, _<_}
-use mathlib.Core.Bool.{Bool, cond}
+use mathlib.Core.Bool.{Bool, true, false, cond, _&&_, not}
 use mathlib.Core.List.{List, [], _∷_, _++_, foldl, map}
+use lib.Count.{ones}
 use lib.Dec.{eqb}
 use lib.ListN.{getD}
 use Rattle.packet.specs.declared.Packet.{Packet}
 use Rattle.packet.specs.Control.{kindOf}
+use Rattle.packet.specs.Parity.{isOdd}
+use Rattle.tables.specs.declared.Found.{Found}
+use Rattle.tables.specs.declared.Found.the-variants.{At, Nothing}
+use Rattle.tables.specs.Rows.{rowsOf, firstMatch}
 use Rattle.router.specs.declared.Outcome.{Outcome}
 use Rattle.router.specs.declared.Registers.{Registers}
 use Rattle.router.specs.Links.{has}
-use Rattle.router.specs.Keeping.{empty, withMore}
-use Rattle.router.specs.Counting.{countsOf}
+use Rattle.router.specs.Keeping.{empty, withMore, dropCount}
+use Rattle.router.specs.Errors.{flag, tooOld, wrongLength, badLocal}
+use Rattle.router.specs.Deciding.{isMc}
+use Rattle.router.specs.Counting.{delivered, swallowed}
 use Rattle.mesh.specs.Mesh.{Flight, Line, Chip, Mesh}
 use Rattle.mesh.specs.Steps.{logOf}
 use Rattle.mesh.specs.Calls.{Left}
@@ -40,9 +47,32 @@ sumOf f [] = 0
 sumOf f (passed p ∷ es) = f p + sumOf f es
 sumOf f (emptied c ∷ es) = sumOf f es
 
--- What a pass adds to counter k of a chip.
+abbrev pub noRow : Found → Bool
+noRow (At n) = false
+noRow Nothing = true
+
+-- "A local miss is a local MC packet without error and without a matching row."
+abbrev pub isMiss : Passage → Bool
+isMiss p =
+    eqb (p .arrival .source) 7 && isMc (p .arrival .flight .packet) && eqb (p .outcome .errors) 0
+    && noRow (firstMatch (p .arrival .flight .packet .word) (rowsOf (p .rows)))
+
+-- What one pass adds to the history's own counts: passes, parity, age, length, bad local ("an error counter counts the passes that showed its
+-- error"), packets sent, processor deliveries without error, units dropped, units swallowed, local misses.
+abbrev pub ownCounts : Passage → List ℕ
+ownCounts p =
+    let q = p .arrival .flight .packet in
+    1 ∷ flag (not (isOdd q)) 1 ∷ flag (tooOld (q .control) (p .arrival .source) (p .setting .phase)) 1 ∷ flag (wrongLength q) 1
+    ∷ flag (badLocal (q .control) (p .arrival .source)) 1
+    ∷ (ones (p .outcome .sent) + ones (p .outcome .leg))
+    ∷ delivered (p .outcome)
+    ∷ dropCount (p .outcome)
+    ∷ swallowed (p .outcome)
+    ∷ flag (isMiss p) 1
+    ∷ []
+
 abbrev pub countAt : ℕ → ℕ → Passage → ℕ
-countAt chip k p = cond (eqb (p .arrival .chip) chip) (getD (countsOf (p .outcome)) k 0) 0
+countAt chip k p = cond (eqb (p .arrival .chip) chip) (getD (ownCounts p) k 0) 0
 
 -- ---- dropped units
 

@@ -1,0 +1,136 @@
+-- What a pass adds to the counters is what the history counts itself. Assumes nothing.
+use mathlib.Core.Path.{_≡_, refl, sym, ap, _∙_, subst}
+use mathlib.Core.Bool.{Bool, true, false, cond, _&&_, _||_, not, and-false, false≢true}
+use mathlib.Core.List.{List, [], _∷_}
+use Prim.Native.Nat.{ℕ, _+_, _/_, _%_, _^_, _<_}
+use lib.Count.{ones}
+use lib.Dec.{eqb}
+use lib.ListN.{getD}
+use borrow.Author.Tests.{eqb-true, eq-eqb, ne-eqb}
+use Rattle.packet.specs.declared.Packet.{Packet}
+use Rattle.packet.specs.Control.{kindOf, markOf}
+use Rattle.packet.specs.Parity.{isOdd}
+use Rattle.tables.specs.declared.Found.{Found}
+use Rattle.tables.specs.declared.Found.the-variants.{At, Nothing}
+use Rattle.tables.specs.Rows.{rowsOf, firstMatch, routeOf}
+use Rattle.router.specs.declared.Outcome.{Outcome}
+use Rattle.router.specs.declared.Setting.{Setting}
+use Rattle.router.specs.declared.Wanted.{Wanted}
+use Rattle.router.specs.Errors.{flag, tooOld, wrongLength, badLocal, errorsOf}
+use Rattle.router.specs.Wants.{wantedOf, kindWanted, mcWanted, matchWanted}
+use Rattle.router.specs.Deciding.{isMc, decided, outcomeOf}
+use Rattle.router.specs.Keeping.{dropCount}
+use Rattle.router.specs.Counting.{countsOf, delivered, swallowed}
+use Rattle.router.proofs.OnePass as pass
+use Rattle.router.specs.Links.{has}
+use Rattle.mesh.specs.Mesh.{idle, isReady}
+use Rattle.promises.specs.History.{Passage, Event, passed, emptied}
+use Rattle.promises.specs.Told.{EachPass, sumOf, noRow, isMiss, ownCounts, countAt}
+use Rattle.promises.specs.Demand3.{Counts}
+use Rattle.promises.proofs.Counted.{countedAt, counts-kept}
+use Rattle.promises.proofs.Records.{no-stale-block}
+
+-- ---- the errors, one by one
+
+module _ (a b c d : Bool) where
+  abbrev four : ℕ
+  four = flag a 1 + flag b 2 + flag c 4 + flag d 8
+
+pub bits : (a b c d : Bool) → (four a b c d % 2 ≡ flag a 1) × (four a b c d / 2 % 2 ≡ flag b 1) × (four a b c d / 4 % 2 ≡ flag c 1) × (four a b c d / 8 % 2 ≡ flag d 1)
+bits false false false false = (refl, refl, refl, refl)
+bits false false false true = (refl, refl, refl, refl)
+bits false false true false = (refl, refl, refl, refl)
+bits false false true true = (refl, refl, refl, refl)
+bits false true false false = (refl, refl, refl, refl)
+bits false true false true = (refl, refl, refl, refl)
+bits false true true false = (refl, refl, refl, refl)
+bits false true true true = (refl, refl, refl, refl)
+bits true false false false = (refl, refl, refl, refl)
+bits true false false true = (refl, refl, refl, refl)
+bits true false true false = (refl, refl, refl, refl)
+bits true false true true = (refl, refl, refl, refl)
+bits true true false false = (refl, refl, refl, refl)
+bits true true false true = (refl, refl, refl, refl)
+bits true true true false = (refl, refl, refl, refl)
+bits true true true true = (refl, refl, refl, refl)
+
+-- ---- the local miss
+
+module _ (q : Packet) (s : ℕ) (rows codes : List ℕ) (t : Setting) where
+  abbrev errors : ℕ
+  errors = errorsOf q s (t .phase)
+
+  missed-row : (f : Found) (mark : ℕ) → matchWanted (routeOf (rowsOf rows) f) mark s (t .monitor) .missed ≡ flag (eqb s 7 && true && true && noRow f) 1
+  missed-row (At n) mark = simp and-false
+  missed-row Nothing mark = go (eqb s 7)
+    where
+      go : (b : Bool) → (cond {A = Wanted} b (record { set = 2 ^ (6 + t .monitor); missed = 1 }) (record { set = 2 ^ (cond (eqb mark 3) (s + 2) (s + 3) % 6); missed = 0 })) .missed
+          ≡ flag (b && true && true && true) 1
+      go true = refl
+      go false = refl
+
+  -- a local packet without error is marked 00
+  not-local : errors ≡ 0 → isMc q ≡ true → eqb (markOf (q .control)) 2 ≡ true → eqb s 7 ≡ false
+  not-local none mc mark = go (eqb s 7) refl
+    where
+      go : (b : Bool) → eqb s 7 ≡ b → b ≡ false
+      go false e = refl
+      go true e =
+          let two : markOf (q .control) ≡ 2 = eqb-true _ _ mark in
+          let bad : badLocal (q .control) s ≡ true = simp (e, mc, two) in
+          absurd (false≢true (sym (pass.right q s (t .phase) none .local) ∙ bad))
+
+  pub missed-own : wantedOf errors q s rows codes t .missed ≡ flag (eqb s 7 && isMc q && eqb errors 0 && noRow (firstMatch (q .word) (rowsOf rows))) 1
+  unfolding wantedOf
+  missed-own = by-error (eqb errors 0) refl
+    where
+      row : Bool
+      row = noRow (firstMatch (q .word) (rowsOf rows))
+
+      by-mark : errors ≡ 0 → isMc q ≡ true → (b : Bool) → eqb (markOf (q .control)) 2 ≡ b
+          → (cond {A = Wanted} b (record { set = 0; missed = 0 }) (matchWanted (routeOf (rowsOf rows) (firstMatch (q .word) (rowsOf rows))) (markOf (q .control)) s (t .monitor))) .missed
+          ≡ flag (eqb s 7 && true && true && noRow (firstMatch (q .word) (rowsOf rows))) 1
+      by-mark none mc true mark = simp (not-local none mc mark)
+      by-mark none mc false mark = missed-row (firstMatch (q .word) (rowsOf rows)) (markOf (q .control))
+
+      by-kind : errors ≡ 0 → (b : Bool) → isMc q ≡ b → kindWanted (kindOf (q .control)) q s rows codes t .missed ≡ flag (eqb s 7 && isMc q && true && noRow (firstMatch (q .word) (rowsOf rows))) 1
+      by-kind none true mc = simp mc (by-mark none mc (eqb (markOf (q .control)) 2) refl)
+      by-kind none false other = simp (other, and-false)
+
+      by-error : (b : Bool) → eqb errors 0 ≡ b → wantedOf errors q s rows codes t .missed ≡ flag (eqb s 7 && isMc q && eqb errors 0 && noRow (firstMatch (q .word) (rowsOf rows))) 1
+      by-error true e = simp e (by-kind (eqb-true _ _ e) (isMc q) refl)
+      by-error false e = simp (e, and-false)
+
+-- ---- all ten
+
+own : (p : Passage) → p .outcome ≡ outcomeOf (p .arrival .flight .packet) (p .arrival .source) (p .rows) (p .codes) (p .setting) → countsOf (p .outcome) ≡ ownCounts p
+unfolding outcomeOf decided
+own p e =
+    let q = p .arrival .flight .packet in
+    let s = p .arrival .source in
+    let errors-are : p .outcome .errors ≡ errorsOf q s (p .setting .phase) = ap (λ (o : Outcome). o .errors) e in
+    let b = bits (not (isOdd q)) (tooOld (q .control) s (p .setting .phase)) (wrongLength q) (badLocal (q .control) s) in
+    let miss : p .outcome .missed ≡ flag (isMiss p) 1 =
+    ap (λ (o : Outcome). o .missed) e ∙ missed-own q s (p .rows) (p .codes) (p .setting)
+    ∙ ap (λ (n : ℕ). flag (eqb s 7 && isMc q && eqb n 0 && noRow (firstMatch (q .word) (rowsOf (p .rows)))) 1) (sym errors-are) in
+    λ i. 1 ∷ (ap (λ (n : ℕ). n % 2) errors-are ∙ b .0) i ∷ (ap (λ (n : ℕ). n / 2 % 2) errors-are ∙ b .1) i ∷ (ap (λ (n : ℕ). n / 4 % 2) errors-are ∙ b .2) i
+    ∷ (ap (λ (n : ℕ). n / 8 % 2) errors-are ∙ b .3) i
+    ∷ (ones (p .outcome .sent) + ones (p .outcome .leg))
+    ∷ delivered (p .outcome)
+    ∷ dropCount (p .outcome)
+    ∷ swallowed (p .outcome)
+    ∷ miss i
+    ∷ []
+
+sum-own : (chip k : ℕ) (es : List Event)
+    → EachPass (λ p. (p .outcome ≡ outcomeOf (p .arrival .flight .packet) (p .arrival .source) (p .rows) (p .codes) (p .setting)) × ((i : ℕ) → i < 6 → has (p .setting .ready) i ≡ isReady (getD (p .here .lines) i idle))) es
+    → sumOf (countedAt chip k) es ≡ sumOf (countAt chip k) es
+unfolding sumOf EachPass
+sum-own chip k [] h = refl
+sum-own chip k (passed p ∷ es) h =
+    λ i. cond (eqb (p .arrival .chip) chip) (getD (own p (h .0 .0) i) k 0) 0 + sum-own chip k es (h .1) i
+sum-own chip k (emptied c ∷ es) h = sum-own chip k es h
+
+pub counts-told : Counts
+counts-told w h f monitor opens cs chip k c i =
+    counts-kept w h f monitor opens cs chip k c i ∙ ap (λ (n : ℕ). n % 2 ^ 32) (sum-own chip k _ (no-stale-block w h f monitor opens cs))
