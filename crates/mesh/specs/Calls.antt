@@ -126,10 +126,10 @@ module _ {A : Type 0} where
       let refusal = firstOf (counterRefusals holds (many m) chip counter) in
       record { refusal = refusal; count = cond (eqb refusal 0) (getD (chipOf m chip .counters .count) counter 0) 0 }
 
-  abbrev pub meshRead : Bool → Mesh A → MeshRead
-  meshRead holds m =
-      cond holds
-      (record {
+  -- A mesh as a look shows it, with so many packets in flight.
+  abbrev pub meshShown : Mesh A → ℕ → MeshRead
+  meshShown m flying =
+      record {
         refusal = 0;
         width = m .width;
         height = m .height;
@@ -137,8 +137,12 @@ module _ {A : Type 0} where
         monitor = m .monitor;
         phase = m .phase;
         «rounds_in_phase» = m .elapsed;
-        «in_flight» = inFlight m;
-      })
+        «in_flight» = flying;
+      }
+
+  abbrev pub meshRead : Bool → Mesh A → MeshRead
+  meshRead holds m =
+      cond holds (meshShown m (inFlight m))
       (record { refusal = 8; width = 0; height = 0; «rounds_per_phase» = 0; monitor = 0; phase = 0; «rounds_in_phase» = 0; «in_flight» = 0 })
 
   abbrev pub lineRead : Line A → LinkRead

@@ -40,7 +40,7 @@ fn places_fine(line: &[u32], count: usize) -> bool
     true
 }
 
-pub fn line_fine(line: &[u32]) -> bool
+fn line_fine(line: &[u32]) -> bool
     requires { ⌜ length (now line) ≡ 51 ⌝ }
     ensures { λ r. ⌜ r ≡ lineFine (now (line .entry)) ⌝ }
 {
@@ -79,7 +79,7 @@ pub fn registers_at(words: &[u32]) -> Registers
     }
 }
 
-pub fn chip_fine(chip: &[u32]) -> bool
+fn chip_fine(chip: &[u32]) -> bool
     requires { ⌜ length (now chip) ≡ 322 ⌝ }
     ensures { λ r. ⌜ r ≡ chipFine (now (chip .entry)) ⌝ }
 {

@@ -25,7 +25,7 @@ pub fn is_ready(line: &[u32]) -> bool
 }
 
 // Puts a packet behind those that the link holds.
-pub fn push(line: &mut [u32], p: Packet)
+fn push(line: &mut [u32], p: Packet)
     requires { ⌜ (length (now line) ≡ 51) × (getD (now line) 1 0 ≤ 7) ⌝ }
     ensures { λ _. ⌜ now (line .exit) ≡ pushed (now (line .entry)) p ⌝ }
 {

@@ -95,20 +95,7 @@ module _ {A : Type 0} where
         let n = firstOf (calls.counterRefusals true (calls.many m) chip counter) in
         ap (λ (x : Chip (Unit {0})). ofCount (record { refusal = n; count = cond (eqb n 0) (getD (x .counters .count) counter 0) 0 })) (sym (plain-chip m chip))
     forgets-answer lookMesh =
-        ap
-        (λ (flying : ℕ).
-        ofMesh
-        (record {
-          refusal = 0;
-          width = m .width;
-          height = m .height;
-          «rounds_per_phase» = m .rounds;
-          monitor = m .monitor;
-          phase = m .phase;
-          «rounds_in_phase» = m .elapsed;
-          «in_flight» = flying;
-        }))
-        (sym (plain-flying m))
+        ap (λ (flying : ℕ). ofMesh (calls.meshShown m flying)) (sym (plain-flying m))
     forgets-answer (lookLink chip link) = ap ofLink (plain-looked m chip link)
 
 pub forgetting : Forgetting
