@@ -1,14 +1,14 @@
 // Where a link leads: the mesh is W by H and wraps.
 ghost use mathlib.Core.Path.{_≡_};
 ghost use mathlib.Core.Bool.{true};
-ghost use Prim.Native.Nat.{_≤_, _<_};
+ghost use Prim.Native.Nat.{_+_, _*_, _%_, _≤_, _<_};
 ghost use Rattle.router.specs.Call.{sizeFine};
 ghost use Rattle.mesh.specs.Mesh.{stepEast, stepNorth, across};
 ghost use Rattle.mesh.specs.Going.{asidePlace};
 
 // The place of the count of what was set aside for a chip on the link that it arrives by.
 pub fn aside_place(width: u32, height: u32, chip: usize, source: u32) -> usize
-    requires { ⌜ (sizeFine width height ≡ true) × ((chip < 256) × (source < 6)) ⌝ }
+    requires { ⌜ (sizeFine width height ≡ true) × ((chip < height * width) × (source < 6)) ⌝ }
     ensures { λ r. ⌜ r ≡ asidePlace width height chip source ⌝ }
 {
     let from = across_link(width, height, chip as u32, source) as usize;
@@ -18,16 +18,25 @@ pub fn aside_place(width: u32, height: u32, chip: usize, source: u32) -> usize
 
 // The chip at the other end of link i.
 fn across_link(width: u32, height: u32, chip: u32, i: u32) -> u32
-    requires { ⌜ (sizeFine width height ≡ true) × (chip < 256) ⌝ }
+    requires { ⌜ (sizeFine width height ≡ true) × (chip < height * width) ⌝ }
     ensures { λ r. ⌜ (r ≡ across width height chip i) × (r < 144) ⌝ }
 {
-    (chip / width + step_north(height, i)) % height * width
-        + (chip % width + step_east(width, i)) % width
+    let north = wrapped(chip / width + step_north(height, i), height);
+    let east = wrapped(chip % width + step_east(width, i), width);
+    north * width + east
+}
+
+// A place past the last, back at the first: what is left of a division, without one.
+fn wrapped(place: u32, size: u32) -> u32
+    requires { ⌜ place < size + size ⌝ }
+    ensures { λ r. ⌜ r ≡ place % size ⌝ }
+{
+    if place < size { place } else { place - size }
 }
 
 fn step_east(width: u32, i: u32) -> u32
     requires { ⌜ (1 ≤ width) × (width ≤ 12) ⌝ }
-    ensures { λ r. ⌜ (r ≡ stepEast width i) × (r ≤ 12) ⌝ }
+    ensures { λ r. ⌜ (r ≡ stepEast width i) × (r ≤ width) ⌝ }
 {
     if i <= 1 {
         return 1;
@@ -43,7 +52,7 @@ fn step_east(width: u32, i: u32) -> u32
 
 fn step_north(height: u32, i: u32) -> u32
     requires { ⌜ (1 ≤ height) × (height ≤ 12) ⌝ }
-    ensures { λ r. ⌜ (r ≡ stepNorth height i) × (r ≤ 12) ⌝ }
+    ensures { λ r. ⌜ (r ≡ stepNorth height i) × (r ≤ height) ⌝ }
 {
     if i == 1 {
         return 1;

@@ -65,6 +65,9 @@ fn keep(words: &mut [u32], o: Outcome)
     requires { ⌜ (length (now words) ≡ 6) × ((o .dropped < 64) × (o .lost < 64)) ⌝ }
     ensures { λ _. ⌜ now (words .exit) ≡ registerWords (keptOf (registersIn (now (words .entry))) o) ⌝ }
 {
+    if (o.dropped == 0) & (o.lost == 0) {
+        return;
+    }
     let r = Registers {
         control: words[0],
         word: words[1],

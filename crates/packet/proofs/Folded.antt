@@ -28,7 +28,7 @@ joined d x a b c e p q =
     let same : (a + b) + (c + e) ≡ (a + c) + (b + e) = omega arith in
     add-mod d x 2 ∙ (λ i. (p i + q i) % 2) ∙ sym (add-mod (a + b) (c + e) 2) ∙ ap (λ (n : ℕ). n % 2) same
 
-ones-zero : ones 0 ≡ 0
+pub ones-zero : ones 0 ≡ 0
 unfolding ones onesIn
 ones-zero = refl
 

@@ -14,6 +14,7 @@ use borrow.Author.Tests.{eqb-true, eqb-false, ltb-true, eq-eqb, ne-eqb, lt-ltb, 
 use Rattle.packet.proofs.Small.{every, at, every₂, at₂}
 use Rattle.packet.specs.declared.Packet.{Packet}
 use Rattle.packet.specs.Control.{kindOf, markOf}
+use Rattle.packet.proofs.Folded.{ones-zero}
 use Rattle.router.specs.declared.Outcome.{Outcome}
 use Rattle.router.specs.declared.Wanted.{Wanted}
 use Rattle.router.specs.Links.{has, linksOf, processorsOf, link}
@@ -67,10 +68,6 @@ some-bit = bin-ind (λ (n : ℕ). (n ≡ 0 → ⊥) → 1 ≤ ones n) (λ h. abs
             let more : 1 ≤ ones (n / 2) = ih (λ z. h (omega arith)) in
             omega (arith, ones-step n)
         go (suc b) e = omega (arith, ones-step n)
-
-ones-zero : ones 0 ≡ 0
-unfolding ones onesIn
-ones-zero = refl
 
 legBitTest : ℕ → Bool
 legBitTest j = eqb (ones (2 ^ j)) 1 && ltb (2 ^ j) 64

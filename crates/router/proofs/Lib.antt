@@ -1,6 +1,7 @@
 pub mod Account
 pub mod Bounds
 pub mod Inputs
+pub mod LookedUp
 pub mod LowestFirst
 pub mod OnePass
 pub mod Shown

@@ -1,6 +1,6 @@
 -- Step 3, the wanted set: by type, then by mark and NN route.
 use Prim.Native.Nat.{ℕ, _+_, _*_, _/_, _%_, _^_}
-use mathlib.Core.Bool.{Bool, cond, _&&_}
+use mathlib.Core.Bool.{Bool, cond, _&&_, not}
 use mathlib.Core.List.{List}
 use lib.Dec.{eqb, ltb}
 use Rattle.packet.specs.declared.Packet.{Packet}
@@ -28,9 +28,11 @@ matchWanted (Route route) mark source monitor = wants route
 matchWanted Missed mark source monitor = missWanted mark source monitor
 
 -- "MC, mark not 10: the matching row's route; ... MC, mark 10: nothing."
+abbrev pub markWanted : Matched → ℕ → ℕ → ℕ → Wanted
+markWanted m mark source monitor = cond (eqb mark 2) (wants 0) (matchWanted m mark source monitor)
+
 abbrev pub mcWanted : Packet → ℕ → List ℕ → ℕ → Wanted
-mcWanted p source rows monitor =
-    cond (eqb (markOf (p .control)) 2) (wants 0) (matchWanted (routeFor (p .word) (rowsOf rows)) (markOf (p .control)) source monitor)
+mcWanted p source rows monitor = markWanted (routeFor (p .word) (rowsOf rows)) (markOf (p .control)) source monitor
 
 -- A P2P code and an NN route lead alike, but for 6.
 abbrev pub numberWanted : ℕ → ℕ → ℕ → ℕ
@@ -47,6 +49,11 @@ nnWanted p source monitor = cond (eqb source 7) (numberWanted (routeOf (p .contr
 abbrev pub kindWanted : ℕ → Packet → ℕ → List ℕ → List ℕ → Setting → Wanted
 kindWanted kind p source rows codes t =
     cond (eqb kind 0) (mcWanted p source rows (t .monitor)) (wants (cond (eqb kind 1) (p2pWanted p codes t) (nnWanted p source (t .monitor))))
+
+-- What is looked up in the rows: the route of an MC packet without error and not marked 10, and nothing for any other.
+abbrev pub lookedUp : ℕ → Packet → List ℕ → Matched
+lookedUp errors p rows =
+    cond (eqb errors 0 && eqb (kindOf (p .control)) 0 && not (eqb (markOf (p .control)) 2)) (routeFor (p .word) (rowsOf rows)) Missed
 
 -- "A packet in error goes, as it came, to the monitor and nowhere else".
 unfoldable pub wantedOf : ℕ → Packet → ℕ → List ℕ → List ℕ → Setting → Wanted

@@ -2,9 +2,13 @@
 use super::Outcome;
 use super::Pass;
 use super::Setting;
+use super::deciding::decide;
 use super::deciding::no_outcome;
-use super::deciding::outcome_of;
+use super::errors::errors_of;
+use super::errors::stamped_of;
 use super::showing::shown;
+use super::wants::looked_up;
+use super::wants::wanted_of;
 use packet::Packet;
 use packet::Taken;
 use packet::bytes::not_taken;
@@ -32,7 +36,8 @@ pub fn pass(bytes: &[u8], source: u32, rows: &[u32], codes: &[u8], t: Setting) -
     shown(taken.refusal, o)
 }
 
-// What a pass does, or nothing where it is refused.
+// What a pass does, or nothing where it is refused. The steps stand here as in `outcome_of`, which the mesh calls: with two callers
+// the compiler would not put it in place in either.
 fn outcome_unless(
     refusal: u32,
     p: Packet,
@@ -45,7 +50,11 @@ fn outcome_unless(
     ensures { λ r. ⌜ r ≡ cond (eqb refusal 0) (outcomeOf p source (now (rows .entry)) (now (codes .entry)) t) noOutcome ⌝ }
 {
     if refusal == 0 {
-        outcome_of(p, source, rows, codes, t)
+        let errors = errors_of(p, source, t.phase);
+        let stamped = stamped_of(p, source, errors, t.phase);
+        let found = looked_up(errors, p, rows);
+        let wanted = wanted_of(errors, p, source, found, codes, t);
+        decide(errors, stamped, source, wanted, t.ready)
     } else {
         no_outcome()
     }

@@ -40,17 +40,22 @@ pub fn no_counts() -> Counters
 fn sent_count(o: Outcome) -> u32
     ensures { λ n. ⌜ n ≡ sentCount o ⌝ }
 {
+    if o.leg == 0 {
+        return u32::count_ones(o.sent);
+    }
     u32::count_ones(o.sent) + u32::count_ones(o.leg)
 }
 
 fn delivered_count(o: Outcome) -> u32
     ensures { λ n. ⌜ n ≡ delivered o ⌝ }
 {
-    if o.errors == 0 {
-        u32::count_ones(o.wanted / 64)
-    } else {
-        0
+    if o.errors != 0 {
+        return 0;
     }
+    if o.wanted < 64 {
+        return 0;
+    }
+    u32::count_ones(o.wanted / 64)
 }
 
 fn swallowed_count(o: Outcome) -> u32

@@ -10,6 +10,7 @@ use super::detour::send_set;
 use super::errors::errors_of;
 use super::errors::stamped_of;
 use super::wants::bit;
+use super::wants::looked_up;
 use super::wants::wanted_of;
 use packet::Packet;
 use packet::control::kind_of;
@@ -27,7 +28,8 @@ pub fn outcome_of(p: Packet, source: u32, rows: &[u32], codes: &[u8], t: Setting
 {
     let errors = errors_of(p, source, t.phase);
     let stamped = stamped_of(p, source, errors, t.phase);
-    let wanted = wanted_of(errors, p, source, rows, codes, t);
+    let found = looked_up(errors, p, rows);
+    let wanted = wanted_of(errors, p, source, found, codes, t);
     decide(errors, stamped, source, wanted, t.ready)
 }
 
@@ -112,7 +114,8 @@ fn leg_set(errors: u32, p: Packet, source: u32) -> u32
     }
 }
 
-fn decide(errors: u32, p: Packet, source: u32, w: Wanted, ready: u32) -> Outcome
+// Steps 4 to 7.
+pub fn decide(errors: u32, p: Packet, source: u32, w: Wanted, ready: u32) -> Outcome
     requires { ⌜ (source < 8) × (ready < 64) ⌝ }
     ensures { λ r. ⌜ r ≡ decided errors p source w ready ⌝ }
 {

@@ -37,6 +37,9 @@ pub fn empty_registers() -> Registers
 pub fn drop_count(o: Outcome) -> u32
     ensures { λ n. ⌜ (n ≡ dropCount o) × (n ≤ 64) ⌝ }
 {
+    if (o.dropped == 0) & (o.lost == 0) {
+        return 0;
+    }
     u32::count_ones(o.dropped) + u32::count_ones(o.lost)
 }
 

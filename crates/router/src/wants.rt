@@ -10,25 +10,38 @@ use tables::codes::code_for;
 use tables::search::route_for;
 ghost use mathlib.Core.Path.{_≡_};
 ghost use lib.ListN.{length};
-ghost use Prim.Native.Nat.{_*_, _^_, _≤_, _<_};
+ghost use mathlib.Core.List.{List};
+ghost use Prim.Native.Nat.{ℕ, _*_, _^_, _≤_, _<_};
 ghost use Rattle.router.specs.Links.{monitorBit};
-ghost use Rattle.router.specs.Wants.{wants, missWanted, matchWanted, mcWanted, numberWanted, p2pWanted, nnWanted, wantedOf};
+ghost use Rattle.router.specs.Wants.{wants, missWanted, matchWanted, markWanted, numberWanted, p2pWanted, nnWanted, lookedUp, wantedOf};
+
+// What the rows say of a packet that goes by them. It is a step of its own so that only the search is left to call: all else
+// of a pass is small enough for the compiler to put in place, and then keeps its numbers out of memory.
+pub fn looked_up(errors: u32, p: Packet, rows: &[u32]) -> Matched
+    ensures { λ r. ⌜ r ≡ lookedUp errors p (now (rows .entry)) ⌝ }
+{
+    if (errors == 0) & (kind_of(p.control) == 0) & (mark_of(p.control) != 2) {
+        route_for(rows, p.word)
+    } else {
+        Matched::Missed
+    }
+}
 
 pub fn wanted_of(
     errors: u32,
     p: Packet,
     source: u32,
-    rows: &[u32],
+    found: Matched,
     codes: &[u8],
     t: Setting,
 ) -> Wanted
     requires { ⌜ (source < 8) × ((t .monitor < 20) × ((t .width ≤ 12) × ((t .height ≤ 12) × (t .height * t .width ≤ length (now codes))))) ⌝ }
-    ensures { λ r. ⌜ r ≡ wantedOf errors p source (now (rows .entry)) (now (codes .entry)) t ⌝ }
+    ensures { λ r. ⌜ ((rows : List ℕ) → found ≡ lookedUp errors p rows → r ≡ wantedOf errors p source rows (now (codes .entry)) t) ⌝ }
 {
     if errors == 0 {
         let kind = kind_of(p.control);
         match kind {
-            0 => mc_wanted(p, source, rows, t.monitor),
+            0 => mc_wanted(found, mark_of(p.control), source, t.monitor),
             1 => alone(p2p_wanted(p, codes, t)),
             _ => alone(nn_wanted(p, source, t.monitor)),
         }
@@ -37,14 +50,13 @@ pub fn wanted_of(
     }
 }
 
-fn mc_wanted(p: Packet, source: u32, rows: &[u32], monitor: u32) -> Wanted
+fn mc_wanted(found: Matched, mark: u32, source: u32, monitor: u32) -> Wanted
     requires { ⌜ (source < 8) × (monitor < 20) ⌝ }
-    ensures { λ r. ⌜ r ≡ mcWanted p source (now (rows .entry)) monitor ⌝ }
+    ensures { λ r. ⌜ r ≡ markWanted found mark source monitor ⌝ }
 {
-    let mark = mark_of(p.control);
     match mark {
         2 => alone(0),
-        _ => match_wanted(route_for(rows, p.word), mark, source, monitor),
+        _ => match_wanted(found, mark, source, monitor),
     }
 }
 

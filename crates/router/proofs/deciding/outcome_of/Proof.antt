@@ -1,6 +1,6 @@
-use borrow.Author.Needs.{needs}
 use mathlib.Core.Path.{_≡_, refl, sym, ap, _∙_}
 use Rattle.router.specs.Deciding.{outcomeOf}
+use borrow.Author.Needs.{needs}
 use Rattle.router.proofs.deciding.outcome_of.Statement.{statement}
 use Rattle.router.proofs.deciding.outcome_of.Tie as tie
 use Rattle.router.proofs.deciding.outcome_of.Reads as reads
@@ -8,30 +8,43 @@ use Rattle.router.proofs.deciding.outcome_of.Lts as lts
 use Rattle.router.proofs.deciding.decide.Reads as decide-reads
 use Rattle.router.proofs.errors.errors_of.Reads as errors-of-reads
 use Rattle.router.proofs.errors.stamped_of.Reads as stamped-of-reads
+use Rattle.router.proofs.wants.looked_up.Reads as looked-up-reads
 use Rattle.router.proofs.wants.wanted_of.Reads as wanted-of-reads
 
--- src/deciding.rt:19:9
+-- src/deciding.rt:29:9
 errors-of-requires : tie.Need-errors-of-requires
 errors-of-requires c κs = search needs
 
--- src/deciding.rt:20:9
+-- src/deciding.rt:30:9
 stamped-of-requires : tie.Need-stamped-of-requires
 stamped-of-requires c κs = search needs
 
--- src/deciding.rt:21:9
+-- src/deciding.rt:31:9
+looked-up-requires : tie.Need-looked-up-requires
+looked-up-requires c κs = search needs
+
+-- src/deciding.rt:32:9
 wanted-of-requires : tie.Need-wanted-of-requires
 wanted-of-requires c κs = search needs
 
--- src/deciding.rt:22:5
+-- src/deciding.rt:33:5
 decide-requires : tie.Need-decide-requires
 decide-requires c κs = search needs
 
--- src/deciding.rt:15:1
+-- src/deciding.rt:25:1
 returns : tie.Need-returns
 unfolding outcomeOf
-returns c = c .decide .ensures ∙ simp (c .before .wanted-of .ensures, c .before .before .stamped-of .ensures, c .before .before .before .errors-of .ensures .0)
+returns c =
+    let wanted = c .before .wanted-of .ensures _ (c .before .before .looked-up .ensures) in
+    c .decide .ensures ∙ simp (wanted, c .before .before .before .stamped-of .ensures, c .before .before .before .before .errors-of .ensures .0)
 
 pub outcome-of-spec : {M : Type 1} → statement M
 outcome-of-spec =
     tie.close
-    (tie.spec errors-of-requires stamped-of-requires wanted-of-requires decide-requires returns)
+    (tie.spec
+    errors-of-requires
+    stamped-of-requires
+    looked-up-requires
+    wanted-of-requires
+    decide-requires
+    returns)
