@@ -1,17 +1,12 @@
--- Packing: the bytes of a word in the other order, and the answer put together once, from the refusal's number and the packet. Assumes nothing.
-use mathlib.Core.Path.{_≡_, refl, sym, ap, _∙_}
-use mathlib.Core.Bool.{Bool, true, false, cond}
+-- Packing: the bytes of a word in the other order, and the bytes of fields in range, from their control byte and word. Assumes nothing.
+use mathlib.Core.Path.{_≡_, sym}
+use mathlib.Core.Bool.{true}
 use Prim.Native.Nat.{ℕ, _+_, _*_, _/_, _%_, _<_}
 use native.Mathlib.Omega.{arith}
-use borrow.Author.Tests.{eqb-true}
-use lib.Dec.{eqb}
+use borrow.Author.Tests.{ne-eqb}
 use Rattle.packet.specs.declared.Fields.{Fields}
-use Rattle.packet.specs.declared.Packet.{Packet}
-use Rattle.packet.specs.declared.Packed.{Packed}
-use Rattle.packet.specs.Bytes.{nothing, packedUnder}
-use Rattle.packet.specs.Fields.{inRange, packetOf, packedOf, notPacked}
-use Rattle.packet.specs.Refusal.{firstOf, packRefusals}
-use Rattle.packet.proofs.Ranges.{end-ranges}
+use Rattle.packet.specs.Bytes.{packedBytes}
+use Rattle.packet.specs.Fields.{inRange, controlOf, wordOf, packetOf, packedOf}
 
 -- four digits below 256, the last one first
 module _ (a b c d : ℕ) (ha : a < 256) (hb : b < 256) (hc : c < 256) where
@@ -27,32 +22,12 @@ module _ (a b c d : ℕ) (ha : a < 256) (hb : b < 256) (hc : c < 256) where
   pub digit-3 : (d * 16777216 + c * 65536 + b * 256 + a) / 16777216 ≡ d
   digit-3 = omega arith
 
-module _ (f : Fields) where
-  abbrev pub refusal : ℕ
-  refusal = firstOf (packRefusals f)
-
-  abbrev pub packetUnder : ℕ → Packet
-  packetUnder n = cond (eqb n 0) (packetOf f) nothing
-
-  abbrev pub lengthUnder : ℕ → ℕ
-  lengthUnder n = cond (eqb n 0) (cond (eqb (packetUnder n .nine) 0) 5 9) 0
-
-  abbrev pub answerUnder : ℕ → Packed
-  answerUnder n = packedUnder n (packetUnder n) (lengthUnder n) (packetUnder n .payload)
-
-  pub accepted : refusal ≡ 0 → inRange f ≡ true
-  accepted none = go (inRange f) refl
-    where
-      go : (b : Bool) → inRange f ≡ b → inRange f ≡ true
-      go true e = e
-      go false e = let six : _≡_ {A = ℕ} 6 0 = simp e at none in absurd (omega arith)
-
-  pub packs : answerUnder refusal ≡ packedOf f
+-- fields in range of a used type
+module _ (f : Fields) (h : inRange f ≡ true) (k : f .kind < 3) where
+  pub packs : packedOf f ≡ packedBytes (packetOf f)
   unfolding packedOf
-  packs = go (inRange f) refl (eqb (f .kind) 3) refl (eqb (f .nine) 0) refl
-    where
-      go : (b : Bool) → inRange f ≡ b → (k : Bool) → eqb (f .kind) 3 ≡ k → (n : Bool) → eqb (f .nine) 0 ≡ n → answerUnder refusal ≡ packedOf f
-      go false e k ek n en = simp e
-      go true e true ek n en = simp (e, ek)
-      go true e false ek true en = simp (e, ek, en) (simp (end-ranges f e .absent (eqb-true _ _ en)))
-      go true e false ek false en = simp (e, ek, en)
+  packs = let other : f .kind ≡ 3 → ⊥ = λ e. omega arith in simp (h, ne-eqb _ _ other)
+
+  pub packs-as : (control word : ℕ) → control ≡ controlOf f → word ≡ wordOf f
+      → packedBytes (record { control = control; nine = f .nine; word = word; payload = f .payload }) ≡ packedOf f
+  packs-as control word c w = simp (c, w) (sym packs)

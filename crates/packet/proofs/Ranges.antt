@@ -1,14 +1,14 @@
 -- Fields in range, as facts about numbers: those of each type, and those that every type has. Assumes nothing.
 use mathlib.Core.Path.{_≡_}
-use mathlib.Core.Bool.{Bool, true, and-eq-true-iff}
+use mathlib.Core.Bool.{true, cond, and-eq-true-iff}
 use Prim.Native.Nat.{ℕ, _<_}
 use native.Mathlib.Omega.{arith}
-use borrow.Author.Tests.{ltb-true, eqb-true, eq-eqb, ne-eqb}
+use lib.Dec.{eqb}
+use borrow.Author.Tests.{ltb-true, eqb-true}
 use Rattle.packet.specs.declared.Fields.{Fields}
-use Rattle.packet.specs.Fields.{inRange, endInRange}
+use Rattle.packet.specs.Fields.{mcInRange, p2pInRange, nnInRange, endInRange, inRange}
 
 pub record EndRanges (f : Fields) : Type 0 where
-  pub kind : f .kind < 4
   pub carries : f .carries < 2
   pub parity : f .parity < 2
   pub nine : f .nine < 2
@@ -42,22 +42,30 @@ pub record NnRanges (f : Fields) : Type 0 where
   pub source : f .source ≡ 0
   pub destination : f .destination ≡ 0
 
-pub end-ranges : (f : Fields) → inRange f ≡ true → EndRanges f
-end-ranges f h =
-    let t : _ = simp and-eq-true-iff at h in
-    record {
-      kind = omega (arith, ltb-true, t);
-      carries = omega (arith, ltb-true, t);
-      parity = omega (arith, ltb-true, t);
-      nine = omega (arith, ltb-true, t);
-      absent = λ e. omega (arith, eqb-true, simp (e, and-eq-true-iff) at h);
-    }
+module _ (f : Fields) where
+  pub end-ranges : endInRange f ≡ true → EndRanges f
+  end-ranges h =
+      let t : _ = simp and-eq-true-iff at h in
+      record {
+        carries = omega (arith, ltb-true, t);
+        parity = omega (arith, ltb-true, t);
+        nine = omega (arith, ltb-true, t);
+        absent = λ e. omega (arith, eqb-true, simp (e, and-eq-true-iff) at h);
+      }
 
-pub mc-ranges : (f : Fields) → inRange f ≡ true → (f .kind ≡ 1 → ⊥) → (f .kind ≡ 2 → ⊥) → McRanges f
-mc-ranges f h not-p2p not-nn = omega (arith, ltb-true, eqb-true, simp (ne-eqb _ _ not-p2p, ne-eqb _ _ not-nn, and-eq-true-iff) at h)
+  pub mc-ranges : mcInRange f ≡ true → McRanges f
+  mc-ranges h = omega (arith, ltb-true, eqb-true, simp and-eq-true-iff at h)
 
-pub p2p-ranges : (f : Fields) → inRange f ≡ true → f .kind ≡ 1 → P2pRanges f
-p2p-ranges f h p2p = omega (arith, ltb-true, eqb-true, simp (p2p, and-eq-true-iff) at h)
+  pub p2p-ranges : p2pInRange f ≡ true → P2pRanges f
+  p2p-ranges h = omega (arith, ltb-true, eqb-true, simp and-eq-true-iff at h)
 
-pub nn-ranges : (f : Fields) → inRange f ≡ true → f .kind ≡ 2 → NnRanges f
-nn-ranges f h nn = omega (arith, ltb-true, eqb-true, simp (nn, and-eq-true-iff) at h)
+  pub nn-ranges : nnInRange f ≡ true → NnRanges f
+  nn-ranges h = omega (arith, ltb-true, eqb-true, simp and-eq-true-iff at h)
+
+  -- fields in range: those that every type has, and those of their own type
+  module _ (h : inRange f ≡ true) where
+    pub ends : endInRange f ≡ true
+    ends = let t : _ = simp and-eq-true-iff at h in simp and-eq-true-iff (t .0 .1)
+
+    pub own : cond (eqb (f .kind) 1) (p2pInRange f) (cond (eqb (f .kind) 2) (nnInRange f) (mcInRange f)) ≡ true
+    own = let t : _ = simp and-eq-true-iff at h in t .1

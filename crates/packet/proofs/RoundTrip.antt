@@ -19,7 +19,8 @@ use Rattle.packet.specs.Fields.{mcFields, p2pFields, nnFields, fieldsOf,
 use Rattle.packet.specs.Control.{kindOf}
 use Rattle.packet.specs.Whole.{Whole}
 use Rattle.packet.proofs.Small.{every, at}
-use Rattle.packet.proofs.Ranges.{EndRanges, McRanges, P2pRanges, NnRanges, end-ranges, mc-ranges, p2p-ranges, nn-ranges}
+use Rattle.packet.proofs.Packing.{packs}
+use Rattle.packet.proofs.Ranges.{EndRanges, McRanges, P2pRanges, NnRanges, end-ranges, mc-ranges, p2p-ranges, nn-ranges, ends, own}
 
 -- ---- a packet and its fields
 
@@ -128,15 +129,15 @@ record Forth (f : Fields) : Type 0 where
 module _ (f : Fields) (h : inRange f ≡ true) (hw : f .word < 2 ^ 32) (hp : f .payload < 2 ^ 32) where
   whole : controlOf f < 256 → controlOf f / 64 < 3 → wordOf f < 2 ^ 32 → Whole (packetOf f)
   whole hc hk w =
-      let s : EndRanges f = end-ranges f h in
+      let s : EndRanges f = end-ranges f (ends f h) in
       record { control = hc; used = hk; nine = s .nine; word = w; payload = hp; absent = s .absent }
 
   mc-forth : f .kind ≡ 0 → Forth f
   mc-forth k =
       let e : controlOf f ≡ f .mark * 16 + f .stamp * 4 + f .carries * 2 + f .parity = simp k (omega arith) in
       let w : wordOf f ≡ f .word = simp k in
-      let r : McRanges f = mc-ranges f h (omega arith) (omega arith) in
-      let s : EndRanges f = end-ranges f h in
+      let r : McRanges f = mc-ranges f (simp k at (own f h)) in
+      let s : EndRanges f = end-ranges f (ends f h) in
       let z : controlOf f / 64 ≡ 0 = omega arith in
       let same : SameFields (mcFields (packetOf f)) f = omega arith in
       record { whole = whole (omega arith) (omega arith) (omega arith); back = simp z (same-fields _ _ same) }
@@ -145,8 +146,8 @@ module _ (f : Fields) (h : inRange f ≡ true) (hw : f .word < 2 ^ 32) (hp : f .
   p2p-forth k =
       let e : controlOf f ≡ 64 + f .sequence * 16 + f .stamp * 4 + f .carries * 2 + f .parity = simp k (omega arith) in
       let w : wordOf f ≡ f .source * 65536 + f .destination = simp k in
-      let r : P2pRanges f = p2p-ranges f h k in
-      let s : EndRanges f = end-ranges f h in
+      let r : P2pRanges f = p2p-ranges f (simp k at (own f h)) in
+      let s : EndRanges f = end-ranges f (ends f h) in
       let z : controlOf f / 64 ≡ 1 = omega arith in
       let same : SameFields (p2pFields (packetOf f)) f = omega arith in
       record { whole = whole (omega arith) (omega arith) (omega arith); back = simp z (same-fields _ _ same) }
@@ -155,8 +156,8 @@ module _ (f : Fields) (h : inRange f ≡ true) (hw : f .word < 2 ^ 32) (hp : f .
   nn-forth k =
       let e : controlOf f ≡ 128 + f .direct * 32 + f .route * 4 + f .carries * 2 + f .parity = simp k (omega arith) in
       let w : wordOf f ≡ f .word = simp k in
-      let r : NnRanges f = nn-ranges f h k in
-      let s : EndRanges f = end-ranges f h in
+      let r : NnRanges f = nn-ranges f (simp k at (own f h)) in
+      let s : EndRanges f = end-ranges f (ends f h) in
       let z : controlOf f / 64 ≡ 2 = omega arith in
       let same : SameFields (nnFields (packetOf f)) f = omega arith in
       record { whole = whole (omega arith) (omega arith) (omega arith); back = simp z (same-fields _ _ same) }
@@ -271,10 +272,6 @@ read-kind p w =
     ⊎-elim (λ (k : p .control / 64 ≡ 0). simp k (lit< tt))
     (⊎-elim (λ (k : p .control / 64 ≡ 1). simp k (lit< tt)) (λ (k : p .control / 64 ≡ 2). simp k (lit< tt)))
     (three (p .control / 64) (w .used))
-
-packs : (f : Fields) → inRange f ≡ true → f .kind < 3 → packedOf f ≡ packedBytes (packetOf f)
-unfolding packedOf
-packs f h k = let other : f .kind ≡ 3 → ⊥ = λ e. omega arith in simp (h, ne-eqb _ _ other)
 
 reads : (s : List ℕ) (p : Packet) → takenOf s ≡ record { refusal = 0; packet = p } → readOf s ≡ record { refusal = 0; fields = fieldsOf p }
 unfolding readOf

@@ -4,7 +4,7 @@ use super::FieldsRead;
 use super::Packed;
 use super::Packet;
 use super::Taken;
-use super::bytes::packed;
+use super::bytes::bytes_of;
 use super::bytes::take;
 use super::control::beside;
 use super::control::carries_of;
@@ -17,11 +17,8 @@ use super::control::route_of;
 use super::control::sequence_of;
 use super::control::stamp_of;
 ghost use mathlib.Core.Path.{_≡_};
-ghost use mathlib.Core.Bool.{true, cond};
-ghost use lib.Dec.{eqb};
-ghost use Rattle.packet.specs.Bytes.{nothing};
-ghost use Rattle.packet.specs.Refusal.{firstOf, packRefusals};
-ghost use Rattle.packet.specs.Fields.{endFields, mcFields, p2pFields, nnFields, fieldsOf, noFields, readFrom, readOf, mcInRange, p2pInRange, nnInRange, endInRange, inRange, controlOf, wordOf, packetOf, packedOf};
+ghost use mathlib.Core.Bool.{true};
+ghost use Rattle.packet.specs.Fields.{endFields, mcFields, p2pFields, nnFields, fieldsOf, noFields, readFrom, readOf, mcInRange, p2pInRange, nnInRange, endInRange, notPacked, packedOf};
 
 // The fields of a packet in bytes: 2 for a length other than 5 or 9, then 3 for type 11.
 pub fn read(s: &[u8]) -> FieldsRead
@@ -34,9 +31,17 @@ pub fn read(s: &[u8]) -> FieldsRead
 pub fn pack(f: Fields) -> Packed
     ensures { λ r. ⌜ r ≡ packedOf f ⌝ }
 {
-    let refusal = pack_refusal(f);
-    let p = packet_unless(refusal, f);
-    packed(refusal, p, length_unless(refusal, p.nine), p.payload)
+    if !end_in_range(f) {
+        return not_packed(6);
+    }
+    let kind = f.kind;
+    match kind {
+        0 => mc_packed(f),
+        1 => p2p_packed(f),
+        2 => nn_packed(f),
+        3 => unused_packed(f),
+        _ => not_packed(6),
+    }
 }
 
 pub fn fields_of(p: Packet) -> Fields
@@ -131,18 +136,6 @@ fn no_fields() -> Fields
     }
 }
 
-fn in_range(f: Fields) -> bool
-    ensures { λ r. ⌜ r ≡ inRange f ⌝ }
-{
-    let shared = (f.kind < 4) & end_in_range(f);
-    let kind = f.kind;
-    match kind {
-        1 => shared & p2p_in_range(f),
-        2 => shared & nn_in_range(f),
-        _ => shared & mc_in_range(f),
-    }
-}
-
 fn mc_in_range(f: Fields) -> bool
     ensures { λ r. ⌜ r ≡ mcInRange f ⌝ }
 {
@@ -186,74 +179,71 @@ fn end_in_range(f: Fields) -> bool
     (f.carries < 2) & (f.parity < 2) & (f.nine < 2) & ((f.nine == 1) | (f.payload == 0))
 }
 
-fn pack_refusal(f: Fields) -> u32
-    ensures { λ r. ⌜ r ≡ firstOf (packRefusals f) ⌝ }
+// A refusal: its number, and zeros elsewhere.
+fn not_packed(refusal: u32) -> Packed
+    ensures { λ r. ⌜ r ≡ notPacked refusal ⌝ }
 {
-    if in_range(f) {
-        if f.kind == 3 { 3 } else { 0 }
-    } else {
-        6
+    Packed {
+        refusal,
+        length: 0,
+        bytes: [0; 9],
     }
 }
 
-// The packet of the fields, or zeros where they are refused.
-fn packet_unless(refusal: u32, f: Fields) -> Packet
-    requires { ⌜ (refusal ≡ 0 → inRange f ≡ true) ⌝ }
-    ensures { λ r. ⌜ r ≡ cond (eqb refusal 0) (packetOf f) nothing ⌝ }
+fn mc_packed(f: Fields) -> Packed
+    requires { ⌜ (f .kind ≡ 0) × (endInRange f ≡ true) ⌝ }
+    ensures { λ r. ⌜ r ≡ packedOf f ⌝ }
 {
-    if refusal == 0 {
-        packet_of(f)
+    if !mc_in_range(f) {
+        return not_packed(6);
+    }
+    let four = beside(f.mark, f.stamp, 2);
+    bytes_of(packet_with(f, control_byte(0, four, f.carries, f.parity), f.word))
+}
+
+fn p2p_packed(f: Fields) -> Packed
+    requires { ⌜ (f .kind ≡ 1) × (endInRange f ≡ true) ⌝ }
+    ensures { λ r. ⌜ r ≡ packedOf f ⌝ }
+{
+    if !p2p_in_range(f) {
+        return not_packed(6);
+    }
+    let four = beside(f.sequence, f.stamp, 2);
+    let word = f.source * 65536 + f.destination;
+    bytes_of(packet_with(f, control_byte(1, four, f.carries, f.parity), word))
+}
+
+fn nn_packed(f: Fields) -> Packed
+    requires { ⌜ (f .kind ≡ 2) × (endInRange f ≡ true) ⌝ }
+    ensures { λ r. ⌜ r ≡ packedOf f ⌝ }
+{
+    if !nn_in_range(f) {
+        return not_packed(6);
+    }
+    let four = beside(f.direct, f.route, 3);
+    bytes_of(packet_with(f, control_byte(2, four, f.carries, f.parity), f.word))
+}
+
+// The unused type 11 is held to the ranges of MC first.
+fn unused_packed(f: Fields) -> Packed
+    requires { ⌜ (f .kind ≡ 3) × (endInRange f ≡ true) ⌝ }
+    ensures { λ r. ⌜ r ≡ packedOf f ⌝ }
+{
+    if mc_in_range(f) {
+        not_packed(3)
     } else {
-        Packet {
-            control: 0,
-            nine: 0,
-            word: 0,
-            payload: 0,
-        }
+        not_packed(6)
     }
 }
 
-fn length_unless(refusal: u32, nine: u32) -> u32
-    ensures { λ r. ⌜ r ≡ cond (eqb refusal 0) (cond (eqb nine 0) 5 9) 0 ⌝ }
-{
-    if refusal == 0 {
-        if nine == 0 { 5 } else { 9 }
-    } else {
-        0
-    }
-}
-
-fn packet_of(f: Fields) -> Packet
-    requires { ⌜ inRange f ≡ true ⌝ }
-    ensures { λ r. ⌜ r ≡ packetOf f ⌝ }
+// The packet of a control byte, a word, and the fields that every type has.
+fn packet_with(f: Fields, control: u32, word: u32) -> Packet
+    ensures { λ r. ⌜ r ≡ record { control = control; nine = f .nine; word = word; payload = f .payload } ⌝ }
 {
     Packet {
-        control: control_of(f),
+        control,
         nine: f.nine,
-        word: word_of(f),
+        word,
         payload: f.payload,
-    }
-}
-
-fn control_of(f: Fields) -> u32
-    requires { ⌜ inRange f ≡ true ⌝ }
-    ensures { λ r. ⌜ r ≡ controlOf f ⌝ }
-{
-    let kind = f.kind;
-    match kind {
-        1 => control_byte(1, beside(f.sequence, f.stamp, 2), f.carries, f.parity),
-        2 => control_byte(2, beside(f.direct, f.route, 3), f.carries, f.parity),
-        _ => control_byte(kind, beside(f.mark, f.stamp, 2), f.carries, f.parity),
-    }
-}
-
-fn word_of(f: Fields) -> u32
-    requires { ⌜ inRange f ≡ true ⌝ }
-    ensures { λ r. ⌜ r ≡ wordOf f ⌝ }
-{
-    if f.kind == 1 {
-        f.source * 65536 + f.destination
-    } else {
-        f.word
     }
 }
