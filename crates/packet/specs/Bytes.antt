@@ -47,10 +47,6 @@ takenOf s = cond (rightLength s) (cond (usedType (getD s 0 0)) (record { refusal
 abbrev pub bigEndian : ℕ → List ℕ
 bigEndian w = w / 16777216 ∷ w / 65536 % 256 ∷ w / 256 % 256 ∷ w % 256 ∷ []
 
--- The places of a packet under a refusal's number, where 0 is none.
-abbrev pub packedUnder : ℕ → Packet → ℕ → ℕ → Packed
-packedUnder refusal p n payload = record { refusal = refusal; length = n; bytes = p .control % 256 ∷ bigEndian (p .word) ++ bigEndian payload }
-
 -- Nine places, of which the first `length` count.
 abbrev pub packedAs : Packet → ℕ → ℕ → Packed
 packedAs p n payload = record { refusal = 0; length = n; bytes = p .control % 256 ∷ bigEndian (p .word) ++ bigEndian payload }

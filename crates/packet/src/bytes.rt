@@ -7,7 +7,7 @@ ghost use mathlib.Core.Path.{_≡_};
 ghost use mathlib.Core.Bool.{cond};
 ghost use lib.ListN.{length};
 ghost use Prim.Native.Nat.{_+_, _/_, _%_, _≤_, _<_};
-ghost use Rattle.packet.specs.Bytes.{wordAt, packetAt, usedType, notTaken, takenOf, packedUnder, packedBytes};
+ghost use Rattle.packet.specs.Bytes.{wordAt, packetAt, usedType, notTaken, takenOf, packedAs, packedBytes};
 
 // The packet that stands in the bytes: 2 for a length other than 5 or 9, then 3 for type 11.
 pub fn take(s: &[u8]) -> Taken
@@ -28,9 +28,9 @@ pub fn bytes_of(p: Packet) -> Packed
     ensures { λ r. ⌜ r ≡ packedBytes p ⌝ }
 {
     if p.nine == 0 {
-        packed(0, p, 5, 0)
+        packed(p, 5, 0)
     } else {
-        packed(0, p, 9, p.payload)
+        packed(p, 9, p.payload)
     }
 }
 
@@ -99,14 +99,14 @@ pub fn not_taken(refusal: u32) -> Taken
     Taken { refusal, packet }
 }
 
-// The packet's places under a refusal's number. Both words are turned first, so that each is stored at once.
-pub fn packed(refusal: u32, p: Packet, length: u32, payload: u32) -> Packed
-    ensures { λ r. ⌜ r ≡ packedUnder refusal p length payload ⌝ }
+// The packet's nine places. Both words are turned first, so that each is stored at once.
+fn packed(p: Packet, length: u32, payload: u32) -> Packed
+    ensures { λ r. ⌜ r ≡ packedAs p length payload ⌝ }
 {
     let word = turned(p.word);
     let last = turned(payload);
     Packed {
-        refusal,
+        refusal: 0,
         length,
         bytes: [
             (p.control % 256) as u8,

@@ -14,40 +14,40 @@ turned-requires-2 : tie.Need-turned-requires-2
 turned-requires-2 c κs = search needs
 
 -- src/bytes.rt:112:13
-cast-t8 : tie.Need-cast-t8
-cast-t8 c = search needs
+cast-t7 : tie.Need-cast-t7
+cast-t7 c = search needs
 
 -- src/bytes.rt:113:13
-cast-t10 : tie.Need-cast-t10
-cast-t10 c = search needs
+cast-t9 : tie.Need-cast-t9
+cast-t9 c = search needs
 
 -- src/bytes.rt:114:13
-cast-t13 : tie.Need-cast-t13
-cast-t13 c = search needs
+cast-t12 : tie.Need-cast-t12
+cast-t12 c = search needs
 
 -- src/bytes.rt:115:13
-cast-t16 : tie.Need-cast-t16
-cast-t16 c = search needs
+cast-t15 : tie.Need-cast-t15
+cast-t15 c = search needs
 
 -- src/bytes.rt:116:13
-cast-t18 : tie.Need-cast-t18
-cast-t18 c = search needs
+cast-t17 : tie.Need-cast-t17
+cast-t17 c = search needs
 
 -- src/bytes.rt:117:13
-cast-t20 : tie.Need-cast-t20
-cast-t20 c = search needs
+cast-t19 : tie.Need-cast-t19
+cast-t19 c = search needs
 
 -- src/bytes.rt:118:13
-cast-t23 : tie.Need-cast-t23
-cast-t23 c = search needs
+cast-t22 : tie.Need-cast-t22
+cast-t22 c = search needs
 
 -- src/bytes.rt:119:13
-cast-t26 : tie.Need-cast-t26
-cast-t26 c = search needs
+cast-t25 : tie.Need-cast-t25
+cast-t25 c = search needs
 
 -- src/bytes.rt:120:13
-cast-t28 : tie.Need-cast-t28
-cast-t28 c = search needs
+cast-t27 : tie.Need-cast-t27
+cast-t27 c = search needs
 
 -- src/bytes.rt:103:1
 returns : tie.Need-returns
@@ -62,13 +62,13 @@ packed-spec =
     (tie.spec
     turned-requires
     turned-requires-2
-    cast-t8
-    cast-t10
-    cast-t13
-    cast-t16
-    cast-t18
-    cast-t20
-    cast-t23
-    cast-t26
-    cast-t28
+    cast-t7
+    cast-t9
+    cast-t12
+    cast-t15
+    cast-t17
+    cast-t19
+    cast-t22
+    cast-t25
+    cast-t27
     returns)

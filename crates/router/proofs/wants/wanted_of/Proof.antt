@@ -57,13 +57,13 @@ returns : tie.Need-returns
 unfolding wantedOf
 returns c =
     λ rows e.
-      let a = c .before .before .before .before .before .before .args in
-      let none = c .before .before .before .before .if1 .taken in
-      let mc = sym (c .before .before .before .kind-of .ensures) ∙ c .before .before .match .keys1 in
-      c .mc-wanted .ensures
-      ∙ ap (λ (n : ℕ). markWanted (a .found) n (a .source) (a .t .monitor)) (c .before .mark-of .ensures)
-      ∙ mc-looked-up (a .errors) (a .p) (a .source) (a .t .monitor) rows (a .found) none mc e
-      ∙ simp (eq-eqb _ _ none, eq-eqb _ _ mc)
+    let a = c .before .before .before .before .before .before .args in
+    let none = c .before .before .before .before .if1 .taken in
+    let mc = sym (c .before .before .before .kind-of .ensures) ∙ c .before .before .match .keys1 in
+    c .mc-wanted .ensures
+    ∙ ap (λ (n : ℕ). markWanted (a .found) n (a .source) (a .t .monitor)) (c .before .mark-of .ensures)
+    ∙ mc-looked-up (a .errors) (a .p) (a .source) (a .t .monitor) rows (a .found) none mc e
+    ∙ simp (eq-eqb _ _ none, eq-eqb _ _ mc)
 
 -- src/wants.rt:30:1
 returns-2 : tie.Need-returns-2
@@ -75,9 +75,9 @@ returns-3 : tie.Need-returns-3
 unfolding wantedOf
 returns-3 c =
     λ rows e.
-      let k = c .before .before .before .kind-of .ensures in
-      let n = c .before .before .match .rest in
-      c .alone2 .ensures ∙ simp (c .before .nn-wanted .ensures, eq-eqb _ _ (c .before .before .before .before .if1 .taken), ne-eqb _ _ (rw k at (n .0 .1)), ne-eqb _ _ (rw k at (n .1)))
+    let k = c .before .before .before .kind-of .ensures in
+    let n = c .before .before .match .rest in
+    c .alone2 .ensures ∙ simp (c .before .nn-wanted .ensures, eq-eqb _ _ (c .before .before .before .before .if1 .taken), ne-eqb _ _ (rw k at (n .0 .1)), ne-eqb _ _ (rw k at (n .1)))
 
 -- src/wants.rt:30:1
 returns-4 : tie.Need-returns-4
