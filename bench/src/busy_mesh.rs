@@ -1,5 +1,5 @@
-//! Meshes that stay as busy as they are: the mesh wraps, so that what keeps its direction never ends. F is the most there is,
-//! and no packet grows too old while it is timed.
+//! Meshes that stay as busy as they are: the mesh wraps, so that what keeps its direction never ends. F is the most
+//! there is, and no packet grows too old while it is timed.
 
 use crate::interface::{Added, LentTables};
 use crate::mesh_calls;

@@ -1,5 +1,5 @@
-//! What the time of a round grows with: chips, packets in flight, and rows of the tables that are lent; not with how long the
-//! mesh has run, nor with how much longer than needed buffer and log are.
+//! What the time of a round grows with: chips, packets in flight, and rows of the tables that are lent; not with how
+//! long the mesh has run, nor with how much longer than needed buffer and log are.
 
 use crate::busy_mesh::BusyMesh;
 use crate::mesh_times::library_round;

@@ -1,6 +1,6 @@
 //! Times the static library beside the plain Rust model, which makes the same checks, and measures the library's stack.
-//! The pass has two plain versions: as one first writes it, and tuned, with the numbers of a table joined before the test.
-//! Rounds of all are interleaved, so that what else the machine does falls on all. Argument: rounds (300).
+//! The pass has two plain versions: as one first writes it, and tuned, with the numbers of a table joined before the
+//! test. Rounds of all are interleaved, so that what else the machine does falls on all. Argument: rounds (300).
 
 mod busy_mesh;
 mod growth;

@@ -10,7 +10,16 @@ pub fn all(rounds: usize) {
     let plain: fn(&[u8; 9]) -> Read = |bytes| model::read(bytes);
     timing::line("read, nine bytes", rounds, &NINE, [library, plain]);
 
+    let fields = model::read(&NINE).fields;
     let library: fn(&Fields) -> Packed = lib_calls::pack;
     let plain: fn(&Fields) -> Packed = model::pack;
-    timing::line("pack, nine bytes", rounds, &model::read(&NINE).fields, [library, plain]);
+    let handed_over: fn(&Fields) -> Packed = |fields| pack_by_value(*fields);
+    timing::line("pack, nine bytes", rounds, &fields, [library, plain]);
+    timing::line("pack, nine bytes, both by value", rounds, &fields, [library, handed_over]);
+}
+
+/// Plain Rust behind the interface that the library has: the fields are copied to the call.
+#[inline(never)]
+extern "C" fn pack_by_value(fields: Fields) -> Packed {
+    model::pack(&fields)
 }

@@ -1,6 +1,6 @@
-//! Injection and round on a flat buffer of the same layout (docs/LAYOUT.md), in plain Rust, with the same checks at each call:
-//! whether the buffer holds a mesh, the tables, the log, and for an injection the packet. `JOINED` says how the numbers of the
-//! tables are checked, as in the one-router model.
+//! Injection and round on a flat buffer of the same layout (docs/LAYOUT.md), in plain Rust, with the same checks at
+//! each call: whether the buffer holds a mesh, the tables, the log, and for an injection the packet. `JOINED` says how
+//! the numbers of the tables are checked, as in the one-router model.
 
 mod checks;
 mod holding;

@@ -1,6 +1,6 @@
-//! Compares the static library with the model, every field of every answer, and counts what was reached.
-//! Arguments: how many times the usual count (1), the seed (1), and at choice the number of one sequence of calls on a mesh:
-//! that one alone is then run, and its calls are printed.
+//! Compares the static library with the model, every field of every answer, and counts what was reached. Arguments: how
+//! many times the usual count (1), the seed (1), and at choice the number of one sequence of calls on a mesh: that one
+//! alone is then run, and its calls are printed.
 
 mod compare;
 mod interface;

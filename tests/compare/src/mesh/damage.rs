@@ -1,5 +1,5 @@
-//! One word of a buffer changed: in the header, the registers, a counter, a link's state or count, a packet in flight, a
-//! place not in use, or what a round sets aside. docs/LAYOUT.md says whether the buffer still holds a mesh.
+//! One word of a buffer changed: in the header, the registers, a counter, a link's state or count, a packet in flight,
+//! a place not in use, or what a round sets aside. docs/LAYOUT.md says whether the buffer still holds a mesh.
 
 use super::layout::{link_at, CHIP, COUNTERS_AT, HEADER, LINK, PLACE, PLACES_AT};
 use super::model::Mesh;

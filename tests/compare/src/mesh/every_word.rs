@@ -1,5 +1,5 @@
-//! Every word of a busy buffer set to values about each of its bounds: the library has to say that it holds no mesh exactly
-//! where docs/LAYOUT.md does.
+//! Every word of a busy buffer set to values about each of its bounds: the library has to say that it holds no mesh
+//! exactly where docs/LAYOUT.md does.
 
 use super::layout::{mesh_in, words_for};
 use super::model::Mesh;

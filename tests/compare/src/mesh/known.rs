@@ -1,4 +1,5 @@
-//! The known passes 14 and 15, held against the model of a mesh: so the model is not only equal to the library but right.
+//! The known passes 14 and 15, held against the model of a mesh: so the model is not only equal to the library but
+//! right.
 
 use super::model::Mesh;
 use super::refusals;

@@ -1,87 +1,93 @@
-//! The mesh that a buffer holds, read word by word as docs/LAYOUT.md says, or nothing where it holds none.
+//! The words of a mesh buffer, as docs/LAYOUT.md has them: where each stands, and the mesh that they hold.
 
 use super::model::{Chip, Link, Mesh};
+use super::passing::{carries_payload, is_odd};
 use crate::interface::{Packet, Registers};
-use crate::model::{kind, kind_of};
+use crate::model::{direct_of, kind, MOST_SIDE};
 
+/// Words of the header, of a chip, of a directed link, and of a packet's place.
 pub const HEADER: usize = 6;
 pub const CHIP: usize = 322;
+pub const LINK: usize = 51;
+pub const PLACE: usize = 3;
+/// Where counters and links begin in a chip, and places in a link.
 pub const COUNTERS_AT: usize = 6;
 pub const LINKS_AT: usize = 16;
-pub const LINK: usize = 51;
 pub const PLACES_AT: usize = 2;
-pub const PLACE: usize = 3;
+/// The most packets that a link holds.
 pub const MOST_HELD: u32 = 8;
+
+pub const MOST_ROUNDS: u32 = 65_535;
+pub const PROCESSORS: u32 = 20;
 
 pub fn words_for(width: u32, height: u32) -> usize {
     HEADER + (width * height) as usize * CHIP
 }
 
-/// Where a directed link's words begin.
+/// Where a directed link's words begin in the buffer.
 pub fn link_at(chip: usize, link: usize) -> usize {
     HEADER + chip * CHIP + LINKS_AT + link * LINK
 }
 
+/// The mesh that a buffer holds.
 pub fn mesh_in(words: &[u32]) -> Option<Mesh> {
-    let &[width, height, rounds_per_phase, monitor, phase, rounds_in_phase, ..] = words else { return None };
-    let in_range = (1..=12).contains(&width)
-        && (1..=12).contains(&height)
-        && (1..=65_535).contains(&rounds_per_phase)
-        && monitor <= 19
-        && phase <= 3
-        && rounds_in_phase < rounds_per_phase;
-    if !in_range || words.len() < words_for(width, height) {
+    let header: [u32; HEADER] = words.get(..HEADER)?.try_into().ok()?;
+    let [width, height, rounds_per_phase, monitor, phase, rounds_in_phase] = header;
+    let sides_fit = is_side(width) && is_side(height);
+    let rounds_fit = is_rounds(rounds_per_phase) && rounds_in_phase < rounds_per_phase;
+    if !sides_fit || !rounds_fit || monitor >= PROCESSORS || phase > 3 {
         return None;
     }
-    let blocks = words[HEADER..words_for(width, height)].chunks_exact(CHIP);
-    let chips: Option<Vec<Chip>> = blocks.map(chip_in).collect();
-    Some(Mesh { width, height, rounds_per_phase, monitor, phase, rounds_in_phase, chips: chips? })
+    let blocks = words.get(HEADER..words_for(width, height))?;
+    let chips = blocks.chunks(CHIP).map(chip_in).collect::<Option<Vec<Chip>>>()?;
+    Some(Mesh { width, height, rounds_per_phase, monitor, phase, rounds_in_phase, chips })
+}
+
+pub fn is_side(side: u32) -> bool {
+    side >= 1 && side <= MOST_SIDE
+}
+
+pub fn is_rounds(rounds_per_phase: u32) -> bool {
+    rounds_per_phase >= 1 && rounds_per_phase <= MOST_ROUNDS
 }
 
 fn chip_in(words: &[u32]) -> Option<Chip> {
     let mut chip = Chip { registers: registers_in(&words[..COUNTERS_AT])?, ..Chip::default() };
     chip.counters.copy_from_slice(&words[COUNTERS_AT..LINKS_AT]);
-    for (link, words) in chip.links.iter_mut().zip(words[LINKS_AT..].chunks_exact(LINK)) {
+    for (link, words) in chip.links.iter_mut().zip(words[LINKS_AT..].chunks(LINK)) {
         *link = link_in(words)?;
     }
     Some(chip)
 }
 
-/// Within: nothing where the registers are empty.
+/// Some(None) where the registers are empty, None where they are out of range.
 fn registers_in(words: &[u32]) -> Option<Option<Registers>> {
-    let &[control, word, payload, link, leg, more] = words else { return None };
-    if control >= 256 || link > 5 || leg > 1 || more > 1 {
-        return None;
+    let [control, word, payload, link, leg, more] = words.try_into().ok()?;
+    let registers = Registers { control, word, payload, link, leg, more };
+    if registers == Registers::default() {
+        return Some(None);
     }
-    if control == 0 && word == 0 && payload == 0 {
-        return if link == 0 && leg == 0 && more == 0 { Some(None) } else { None };
-    }
-    Some(Some(Registers { control, word, payload, link, leg, more }))
+    let keeps_a_packet = control != 0 || word != 0 || payload != 0;
+    (keeps_a_packet && control < 256 && link < 6 && leg < 2 && more < 2).then_some(Some(registers))
 }
 
 fn link_in(words: &[u32]) -> Option<Link> {
-    let up = match words[0] {
-        0 => true,
-        1 => false,
-        _ => return None,
-    };
-    let count = words[1];
-    if count > MOST_HELD {
+    let (down, count) = (words[0], words[1]);
+    if down > 1 || count > MOST_HELD {
         return None;
     }
-    let places = words[PLACES_AT..].chunks_exact(PLACE).take(count as usize);
-    let held: Option<Vec<Packet>> = places.map(packet_in).collect();
-    Some(Link { up, held: held? })
+    let places = words[PLACES_AT..].chunks(PLACE).take(count as usize);
+    Some(Link { up: down == 0, held: places.map(packet_in).collect::<Option<Vec<Packet>>>()? })
 }
 
-fn packet_in(words: &[u32]) -> Option<Packet> {
-    let (control, word, payload) = (words[0], words[1], words[2]);
-    let carries = control >> 1 & 1;
-    let ones = control.count_ones() + word.count_ones() + payload.count_ones();
-    let is_fine = control < 256
-        && kind_of(control) != kind::UNUSED
-        && !(kind_of(control) == kind::NN && control >> 5 & 1 == 1)
-        && ones % 2 == 1
-        && (carries == 1 || payload == 0);
-    is_fine.then_some(Packet { control, nine: carries, word, payload })
+fn packet_in(place: &[u32]) -> Option<Packet> {
+    let (control, word, payload) = (place[0], place[1], place[2]);
+    let nine = carries_payload(control);
+    let packet = Packet { control, nine: nine.into(), word, payload };
+    let sound_type = match control >> 6 {
+        kind::MC | kind::P2P => true,
+        kind::NN => direct_of(control) == 0,
+        _ => false,
+    };
+    (sound_type && is_odd(&packet) && (nine || payload == 0)).then_some(packet)
 }

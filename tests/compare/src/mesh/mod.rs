@@ -8,6 +8,7 @@ mod layout;
 mod model;
 mod packets;
 mod pair;
+mod passing;
 mod refusals;
 mod refused_steps;
 mod sequence;

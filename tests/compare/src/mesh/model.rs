@@ -1,13 +1,11 @@
-//! A mesh of routers as an ordinary Rust struct, each pass that of the one-router model. Written from the rules, not translated
-//! from the Rattle sources. Every call here is one that the refusals let through.
+//! A mesh of routers in plain Rust, written from the rules, without sight of the Rattle sources, with a pass of its own
+//! (passing.rs).
 
-use crate::interface::{LentTables, LinkLook, MeshLook, Packet, Pass, PassCall, Registers};
-use crate::model::{self, LINKS, LOCAL};
+use super::passing::{Router, Source};
+use crate::interface::{LentTables, LinkLook, MeshLook, Packet, Pass, Registers};
 
 pub const COUNTERS: u32 = 10;
-/// The most packets that a link holds where it is still ready.
-const READY_HOLDS: usize = 6;
-const DROPPED: usize = 7;
+const MOST_HELD_WHEN_READY: usize = 6;
 
 #[derive(Clone, Debug, PartialEq)]
 pub struct Mesh {
@@ -17,16 +15,16 @@ pub struct Mesh {
     pub monitor: u32,
     pub phase: u32,
     pub rounds_in_phase: u32,
-    /// By number, y * width + x.
+    /// By number y * width + x.
     pub chips: Vec<Chip>,
 }
 
 #[derive(Clone, Debug, Default, PartialEq)]
 pub struct Chip {
-    /// Nothing where they are empty.
+    /// None where they are empty.
     pub registers: Option<Registers>,
-    pub counters: [u32; COUNTERS as usize],
-    pub links: [Link; LINKS as usize],
+    pub counters: [u32; 10],
+    pub links: [Link; 6],
 }
 
 #[derive(Clone, Debug, PartialEq)]
@@ -36,10 +34,12 @@ pub struct Link {
     pub held: Vec<Packet>,
 }
 
-/// What an injection or a round did beside changing the mesh.
+/// What an injection or a round did.
 #[derive(Debug, Default)]
 pub struct Done {
+    /// The log records in order.
     pub records: Vec<[u32; 6]>,
+    /// Every pass made, in order.
     pub passes: Vec<Pass>,
     /// How often a counter went past its width.
     pub wraps: u64,
@@ -52,8 +52,22 @@ impl Default for Link {
 }
 
 impl Link {
+    /// "A link is ready when it is up and holds at most 6 outgoing"
     pub fn is_ready(&self) -> bool {
-        self.up && self.held.len() <= READY_HOLDS
+        self.up && self.held.len() <= MOST_HELD_WHEN_READY
+    }
+}
+
+impl Chip {
+    /// Answers how many counters went past their width.
+    fn count(&mut self, counts: &[u32; 10]) -> u64 {
+        let mut wraps = 0;
+        for (counter, more) in self.counters.iter_mut().zip(counts) {
+            let (sum, wrapped) = counter.overflowing_add(*more);
+            *counter = sum;
+            wraps += u64::from(wrapped);
+        }
+        wraps
     }
 }
 
@@ -65,24 +79,24 @@ impl Mesh {
 
     pub fn inject(&mut self, chip: u32, packet: &[u8], tables: &LentTables) -> Done {
         let mut done = Done::default();
-        self.pass_at(chip as usize, LOCAL, packet, tables, &mut done);
+        self.pass_at(chip, packet_of(packet), Source::Local, tables, &mut done);
         done
     }
 
+    /// "A round takes exactly what was in flight when it began, all of it set aside first: chips by number y*W + x,
+    /// arrival links 0 to 5, oldest first"
     pub fn round(&mut self, tables: &LentTables) -> Done {
         let mut done = Done::default();
-        for (chip, by_link) in self.set_aside().iter().enumerate() {
-            for (source, packets) in by_link.iter().enumerate() {
-                for packet in packets {
-                    self.pass_at(chip, source as u32, &bytes_of(packet), tables, &mut done);
+        let mut aside = self.set_aside();
+        for chip in 0..self.chips.len() as u32 {
+            for arrival in 0..6 {
+                let (sender, link) = (self.neighbour(chip, arrival), (arrival + 3) % 6);
+                for packet in std::mem::take(&mut aside[sender as usize][link as usize]) {
+                    self.pass_at(chip, packet, Source::Link(arrival), tables, &mut done);
                 }
             }
         }
-        self.rounds_in_phase += 1;
-        if self.rounds_in_phase == self.rounds_per_phase {
-            self.rounds_in_phase = 0;
-            self.phase = next_phase(self.phase);
-        }
+        self.end_round();
         done
     }
 
@@ -90,6 +104,7 @@ impl Mesh {
         self.chips[chip as usize].links[link as usize].up = up;
     }
 
+    /// "Reading hands them over and empties them; empty ones are all zeros."
     pub fn read_registers(&mut self, chip: u32) -> Registers {
         self.chips[chip as usize].registers.take().unwrap_or_default()
     }
@@ -113,104 +128,86 @@ impl Mesh {
 
     pub fn look_at_link(&self, chip: u32, link: u32) -> LinkLook {
         let link = &self.chips[chip as usize].links[link as usize];
-        LinkLook { refusal: 0, up: u32::from(link.up), held: link.held.len() as u32, ready: u32::from(link.is_ready()) }
+        LinkLook { refusal: 0, up: link.up.into(), held: link.held.len() as u32, ready: link.is_ready().into() }
     }
 
-    /// Takes all that is in flight off the links: what arrives at each chip by each link, oldest first.
-    fn set_aside(&mut self) -> Vec<[Vec<Packet>; LINKS as usize]> {
-        let mut arriving = vec![<[Vec<Packet>; LINKS as usize]>::default(); self.chips.len()];
-        for from in 0..self.chips.len() {
-            for link in 0..LINKS as usize {
-                let to = self.neighbour(from, link);
-                arriving[to][(link + 3) % 6] = std::mem::take(&mut self.chips[from].links[link].held);
-            }
+    /// What each link of each chip held; the links hold nothing after it.
+    fn set_aside(&mut self) -> Vec<[Vec<Packet>; 6]> {
+        let of_chip = |chip: &mut Chip| chip.links.each_mut().map(|link| std::mem::take(&mut link.held));
+        self.chips.iter_mut().map(of_chip).collect()
+    }
+
+    /// The chip that this link of a chip leads to, which is also the one that arrivals by this link come from.
+    fn neighbour(&self, chip: u32, link: u32) -> u32 {
+        let (width, height) = (self.width, self.height);
+        let (x, y) = (chip % width, chip / width);
+        let (east, west) = ((x + 1) % width, (x + width - 1) % width);
+        let (north, south) = ((y + 1) % height, (y + height - 1) % height);
+        let (to_x, to_y) = match link {
+            0 => (east, y),
+            1 => (east, north),
+            2 => (x, north),
+            3 => (west, y),
+            4 => (west, south),
+            _ => (x, south),
+        };
+        to_y * width + to_x
+    }
+
+    fn pass_at(&mut self, number: u32, packet: Packet, source: Source, tables: &LentTables, done: &mut Done) {
+        let passed = self.router(number, tables).pass(packet, source);
+        let chip = &mut self.chips[number as usize];
+        for (link, packet) in passed.sendings() {
+            chip.links[link].held.push(packet);
         }
-        arriving
+        passed.note_drops(&mut chip.registers);
+        done.wraps += chip.count(&passed.counts());
+        done.records.extend(passed.record(number));
+        done.passes.push(passed.answer());
     }
 
-    /// The chip that a link leads to. The mesh wraps.
-    fn neighbour(&self, chip: usize, link: usize) -> usize {
-        let (east, north) = [(1, 0), (1, 1), (0, 1), (-1, 0), (-1, -1), (0, -1)][link];
-        let (width, height) = (self.width as i32, self.height as i32);
-        let x = (chip as i32 % width + east).rem_euclid(width);
-        let y = (chip as i32 / width + north).rem_euclid(height);
-        (y * width + x) as usize
-    }
-
-    fn pass_at(&mut self, chip: usize, source: u32, packet: &[u8], tables: &LentTables, done: &mut Done) {
-        let chips = self.chips.len();
-        let (first, end) = (tables.starts[chip] as usize, tables.starts[chip + 1] as usize);
-        let number = chip as u32;
-        let here = &mut self.chips[chip];
-        let ready = (0..6).filter(|&link| here.links[link].is_ready()).fold(0, |set, link| set | 1 << link);
-        let pass = model::pass::<false>(&PassCall {
-            packet,
-            source,
+    /// A chip's router as it now stands, with its own part of the lent tables.
+    fn router<'a>(&self, number: u32, tables: &LentTables<'a>) -> Router<'a> {
+        let (number, chips) = (number as usize, self.chips.len());
+        let (first, end) = (tables.starts[number] as usize, tables.starts[number + 1] as usize);
+        Router {
             width: self.width,
             height: self.height,
-            rows: &tables.rows[3 * first..3 * end],
-            codes: &tables.codes[chip * chips..(chip + 1) * chips],
             monitor: self.monitor,
             phase: self.phase,
-            ready,
-        });
-        assert_eq!(pass.refusal, 0, "a pass within the mesh");
-        here.send(&pass);
-        here.keep(&pass);
-        done.wraps += here.count(&pass);
-        if pass.processors != 0 {
-            let packet = pass.delivered;
-            done.records.push([number, pass.processors, pass.errors, packet.control, packet.word, packet.payload]);
-        }
-        done.passes.push(pass);
-    }
-}
-
-impl Chip {
-    /// The packet of a link first, then the second leg.
-    fn send(&mut self, pass: &Pass) {
-        for link in 0..6 {
-            if pass.sent >> link & 1 == 1 {
-                self.links[link].held.push(pass.packets[link]);
-            }
-            if pass.leg_sent >> link & 1 == 1 {
-                self.links[link].held.push(pass.leg);
-            }
+            rows: &tables.rows[3 * first..3 * end],
+            codes: &tables.codes[number * chips..(number + 1) * chips],
+            ready: self.chips[number].links.each_ref().map(Link::is_ready),
         }
     }
 
-    fn keep(&mut self, pass: &Pass) {
-        if pass.counters.count[DROPPED] == 0 {
-            return;
+    /// "then, after each F rounds, the phase steps on"
+    fn end_round(&mut self) {
+        self.rounds_in_phase += 1;
+        if self.rounds_in_phase == self.rounds_per_phase {
+            self.rounds_in_phase = 0;
+            self.phase = next_phase(self.phase);
         }
-        match &mut self.registers {
-            None => self.registers = Some(pass.registers),
-            Some(kept) => kept.more = 1,
-        }
-    }
-
-    /// Answers how many counters went past their width.
-    fn count(&mut self, pass: &Pass) -> u64 {
-        let mut wraps = 0;
-        for (counter, more) in self.counters.iter_mut().zip(pass.counters.count) {
-            let (sum, wrapped) = counter.overflowing_add(more);
-            *counter = sum;
-            wraps += u64::from(wrapped);
-        }
-        wraps
     }
 }
 
 /// "The phase code runs 00, 01, 11, 10 and round again."
 fn next_phase(phase: u32) -> u32 {
-    [0b01, 0b11, 0b00, 0b10][phase as usize]
+    match phase {
+        0b00 => 0b01,
+        0b01 => 0b11,
+        0b11 => 0b10,
+        _ => 0b00,
+    }
 }
 
-fn bytes_of(packet: &Packet) -> Vec<u8> {
-    let mut bytes = vec![packet.control as u8];
-    bytes.extend_from_slice(&packet.word.to_be_bytes());
-    if packet.nine == 1 {
-        bytes.extend_from_slice(&packet.payload.to_be_bytes());
+/// The packet in five or nine bytes.
+fn packet_of(bytes: &[u8]) -> Packet {
+    let big_endian = |bytes: &[u8]| bytes.iter().fold(0, |word, &byte| word << 8 | u32::from(byte));
+    Packet {
+        control: bytes[0].into(),
+        nine: (bytes.len() == 9).into(),
+        word: big_endian(&bytes[1..5]),
+        payload: big_endian(&bytes[5..]),
     }
-    bytes
 }

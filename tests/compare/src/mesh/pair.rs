@@ -1,5 +1,5 @@
-//! The library's buffer and log beside the model's mesh: what a call left is compared with what it has to leave, word for
-//! word where the call may not touch a word. The first difference ends the program.
+//! The library's buffer and log beside the model's mesh: what a call left is compared with what it has to leave, word
+//! for word where the call may not touch a word. The first difference ends the program.
 
 use super::layout::{mesh_in, words_for};
 use super::model::{Done, Mesh};

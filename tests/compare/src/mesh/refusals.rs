@@ -1,120 +1,97 @@
-//! What each call on a mesh refuses, the first number that applies, and 0 where it accepts. A mesh that is not there is a
-//! buffer that holds none.
+//! Which calls on a mesh are refused, and by which number: the first that applies of 8, 7, 9, 6, 5, 11, 10, 1, 2, 3, 4,
+//! or on opening of 7, 6, 8. 0 is a call that is accepted.
 
-use super::layout;
+use super::layout::{is_rounds, is_side, words_for, PROCESSORS};
 use super::model::{Mesh, COUNTERS};
 use crate::interface::LentTables;
-use crate::model::{kind, kind_of, refusal, LINKS, MOST_ROWS, MOST_SIDE};
+use crate::model::{direct_of, kind, kind_of, refusal, LINKS, MOST_ROWS};
 
 pub const NO_MESH: u32 = 8;
 pub const NOT_THERE: u32 = 9;
 pub const LOG: u32 = 10;
-const RECORD: u64 = 6;
-const MOST_ROUNDS: u32 = 65_535;
-const MOST_MONITOR: u32 = 19;
+const RECORD: usize = 6;
+const ROW: usize = 3;
+const ROUTE_BITS: u32 = 26;
+const MOST_CODE: u8 = 7;
 
 pub fn size(width: u32, height: u32) -> u32 {
-    if is_side(width) && is_side(height) {
-        0
-    } else {
-        refusal::SIZE
-    }
+    number(!is_side(width) || !is_side(height), refusal::SIZE)
 }
 
 pub fn open(words: usize, width: u32, height: u32, rounds_per_phase: u32, monitor: u32) -> u32 {
-    if size(width, height) != 0 || rounds_per_phase < 1 || rounds_per_phase > MOST_ROUNDS {
-        refusal::SIZE
-    } else if monitor > MOST_MONITOR {
-        refusal::RANGE
-    } else if words < layout::words_for(width, height) {
-        NO_MESH
-    } else {
-        0
+    if size(width, height) != 0 || !is_rounds(rounds_per_phase) {
+        return refusal::SIZE;
     }
+    first(&[number(monitor >= PROCESSORS, refusal::RANGE), number(words < words_for(width, height), NO_MESH)])
 }
 
-/// 8, 9, 5, 11, 10, 2, 3, 4.
 pub fn inject(mesh: Option<&Mesh>, log: usize, chip: u32, packet: &[u8], tables: &LentTables) -> u32 {
     let Some(mesh) = mesh else { return NO_MESH };
-    if !has_chip(mesh, chip) {
-        return NOT_THERE;
-    }
-    if let Err(refusal) = check_tables(mesh.chips.len(), tables) {
-        return refusal;
-    }
-    if (log as u64) < RECORD {
-        return LOG;
-    }
-    match packet {
-        _ if packet.len() != 5 && packet.len() != 9 => refusal::LENGTH,
-        [control, ..] if kind_of(u32::from(*control)) == kind::UNUSED => refusal::TYPE,
-        [control, ..] if control & 0b1110_0000 == 0b1010_0000 => refusal::DIRECT,
-        _ => 0,
-    }
+    first(&[no_chip(mesh, chip), of_tables(mesh, tables), number(log < RECORD, LOG), of_packet(packet)])
 }
 
-/// 8, 5, 11, 10.
 pub fn round(mesh: Option<&Mesh>, log: usize, tables: &LentTables) -> u32 {
     let Some(mesh) = mesh else { return NO_MESH };
-    if let Err(refusal) = check_tables(mesh.chips.len(), tables) {
-        return refusal;
-    }
-    if (log as u64) < RECORD * u64::from(mesh.in_flight()) {
-        return LOG;
-    }
-    0
+    first(&[of_tables(mesh, tables), number(log < RECORD * mesh.in_flight() as usize, LOG)])
 }
 
 /// A link change, and a look at a link.
 pub fn link(mesh: Option<&Mesh>, chip: u32, link: u32) -> u32 {
-    number(mesh, chip, link < LINKS)
+    first(&[read_registers(mesh, chip), number(link >= LINKS, NOT_THERE)])
 }
 
 pub fn read_counter(mesh: Option<&Mesh>, chip: u32, counter: u32) -> u32 {
-    number(mesh, chip, counter < COUNTERS)
+    first(&[read_registers(mesh, chip), number(counter >= COUNTERS, NOT_THERE)])
 }
 
 pub fn read_registers(mesh: Option<&Mesh>, chip: u32) -> u32 {
-    number(mesh, chip, true)
+    mesh.map_or(NO_MESH, |mesh| no_chip(mesh, chip))
 }
 
-fn number(mesh: Option<&Mesh>, chip: u32, other_is_there: bool) -> u32 {
-    match mesh {
-        None => NO_MESH,
-        Some(mesh) if has_chip(mesh, chip) && other_is_there => 0,
-        Some(_) => NOT_THERE,
+fn number(applies: bool, number: u32) -> u32 {
+    if applies {
+        number
+    } else {
+        0
     }
 }
 
-fn has_chip(mesh: &Mesh, chip: u32) -> bool {
-    (chip as usize) < mesh.chips.len()
+/// The first that is not 0.
+fn first(numbers: &[u32]) -> u32 {
+    numbers.iter().copied().find(|&number| number != 0).unwrap_or(0)
 }
 
-fn is_side(side: u32) -> bool {
-    side >= 1 && side <= MOST_SIDE
+fn no_chip(mesh: &Mesh, chip: u32) -> u32 {
+    number(chip as usize >= mesh.chips.len(), NOT_THERE)
 }
 
-/// 5, 11.
-fn check_tables(chips: usize, tables: &LentTables) -> Result<(), u32> {
-    if tables.rows.len() % 3 != 0 || !starts_fit(chips, tables.rows.len() / 3, tables.starts) {
-        return Err(refusal::ROWS);
-    }
-    if tables.starts.windows(2).any(|pair| (pair[1] - pair[0]) as usize > MOST_ROWS) {
-        return Err(refusal::ROWS);
-    }
-    if tables.rows.chunks(3).any(|row| row[2] >> 26 != 0) {
-        return Err(refusal::ROWS);
-    }
-    if tables.codes.len() != chips * chips || tables.codes.iter().any(|&code| code > 7) {
-        return Err(refusal::CODES);
-    }
-    Ok(())
+fn of_tables(mesh: &Mesh, tables: &LentTables) -> u32 {
+    let chips = mesh.chips.len();
+    let rows_fit = routes_fit(tables.rows) && starts_fit(tables.starts, chips, tables.rows.len() / ROW);
+    let codes_fit = tables.codes.len() == chips * chips && tables.codes.iter().all(|&code| code <= MOST_CODE);
+    first(&[number(!rows_fit, refusal::ROWS), number(!codes_fit, refusal::CODES)])
 }
 
-/// "First 0, never falling, last the number of rows, one more number than chips."
-fn starts_fit(chips: usize, rows: usize, starts: &[u32]) -> bool {
-    starts.len() == chips + 1
-        && starts[0] == 0
-        && starts.windows(2).all(|pair| pair[0] <= pair[1])
-        && starts[chips] as usize == rows
+/// "A count that is no multiple of 3 is refusal 5", and so is a "route bit 26 to 31 set".
+fn routes_fit(rows: &[u32]) -> bool {
+    rows.len() % ROW == 0 && rows.chunks(ROW).all(|row| row[2] >> ROUTE_BITS == 0)
+}
+
+/// "first 0, never falling, last the number of rows, one more number than chips", and at most 1,024 rows for a chip.
+fn starts_fit(starts: &[u32], chips: usize, rows: usize) -> bool {
+    let ends_fit = starts.first() == Some(&0) && starts.last().is_some_and(|&last| last as usize == rows);
+    let rows_fit = |pair: &[u32]| pair[0] <= pair[1] && (pair[1] - pair[0]) as usize <= MOST_ROWS;
+    starts.len() == chips + 1 && ends_fit && starts.windows(2).all(rows_fit)
+}
+
+fn of_packet(packet: &[u8]) -> u32 {
+    if packet.len() != 5 && packet.len() != 9 {
+        return refusal::LENGTH;
+    }
+    let control = packet[0].into();
+    match kind_of(control) {
+        kind::UNUSED => refusal::TYPE,
+        kind::NN => number(direct_of(control) == 1, refusal::DIRECT),
+        _ => 0,
+    }
 }

@@ -1,5 +1,5 @@
-//! One sequence of calls on one buffer: injections and rounds that fill the links, links that go down and come up, reads and
-//! looks, and between them calls that are refused and buffers with a changed word.
+//! One sequence of calls on one buffer: injections and rounds that fill the links, links that go down and come up,
+//! reads and looks, and between them calls that are refused and buffers with a changed word.
 
 use super::layout::{words_for, CHIP, HEADER};
 use super::pair::Pair;
