@@ -239,6 +239,10 @@ module _ (t : Tables) (l log : List ℕ) (n : ℕ) (l₁ log₁ : List ℕ) (n�
   pub chips-same : (xs : List (Arrival (Unit {0}))) → Passed t xs l log n l₁ log₁ n₁ → chipsOf l₁ ≡ chipsOf l
   chips-same xs p = λ i. number t xs l log n l₁ log₁ n₁ p 1 (lit< tt) i * number t xs l log n l₁ log₁ n₁ p 0 (lit< tt) i
 
+  -- how many there are stands where it stood
+  pub place-same : (chip source : ℕ) (xs : List (Arrival (Unit {0}))) → Passed t xs l log n l₁ log₁ n₁ → asidePlace (getD l 0 0) (getD l 1 0) chip source ≡ asidePlace (getD l₁ 0 0) (getD l₁ 1 0) chip source
+  place-same chip source xs p = sym (λ i. asidePlace (number t xs l log n l₁ log₁ n₁ p 0 (lit< tt) i) (number t xs l log n l₁ log₁ n₁ p 1 (lit< tt) i) chip source)
+
   module _ (chip k : ℕ) (h : k < 6) (d : DueAside t (asideAt l chip) l log n) (p : Passed t (upTo (asideBy l chip) k) l log n l₁ log₁ n₁) where
     pub links-due : DueAside t (asideBy l₁ chip k) l₁ log₁ n₁
     links-due =

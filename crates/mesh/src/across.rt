@@ -1,28 +1,29 @@
 // Where a link leads: the mesh is W by H and wraps.
 ghost use mathlib.Core.Path.{_≡_};
 ghost use mathlib.Core.Bool.{true};
-ghost use Prim.Native.Nat.{_+_, _*_, _%_, _≤_, _<_};
+ghost use Prim.Native.Nat.{ℕ, _+_, _/_, _%_, _≤_, _<_};
 ghost use Rattle.router.specs.Call.{sizeFine};
 ghost use Rattle.mesh.specs.Mesh.{stepEast, stepNorth, across};
 ghost use Rattle.mesh.specs.Going.{asidePlace};
 
-// The place of the count of what was set aside for a chip on the link that it arrives by.
-pub fn aside_place(width: u32, height: u32, chip: usize, source: u32) -> usize
-    requires { ⌜ (sizeFine width height ≡ true) × ((chip < height * width) × (source < 6)) ⌝ }
-    ensures { λ r. ⌜ r ≡ asidePlace width height chip source ⌝ }
+// The place of the count of what was set aside for the chip at x and y on the link that it arrives by.
+pub fn aside_place(width: u32, height: u32, x: u32, y: u32, source: u32) -> usize
+    requires { ⌜ (sizeFine width height ≡ true) × ((x < width) × ((y < height) × (source < 6))) ⌝ }
+    ensures { λ r. ⌜ ((chip : ℕ) → x ≡ chip % width → y ≡ chip / width → r ≡ asidePlace width height chip source) ⌝ }
 {
-    let from = across_link(width, height, chip as u32, source) as usize;
+    let from = across_link(width, height, x, y, source) as usize;
     let link = ((source + 3) % 6) as usize;
     6 + from * 322 + (16 + link * 51) + 26
 }
 
-// The chip at the other end of link i.
-fn across_link(width: u32, height: u32, chip: u32, i: u32) -> u32
-    requires { ⌜ (sizeFine width height ≡ true) × (chip < height * width) ⌝ }
-    ensures { λ r. ⌜ (r ≡ across width height chip i) × (r < 144) ⌝ }
+// The chip at the other end of link i of the chip at x and y.
+fn across_link(width: u32, height: u32, x: u32, y: u32, i: u32) -> u32
+    requires { ⌜ (sizeFine width height ≡ true) × ((x < width) × (y < height)) ⌝ }
+    ensures { λ r. ⌜ ((chip : ℕ) → x ≡ chip % width → y ≡ chip / width → r ≡ across width height chip i) ⌝ }
+    ensures { λ r. ⌜ r < 144 ⌝ }
 {
-    let north = wrapped(chip / width + step_north(height, i), height);
-    let east = wrapped(chip % width + step_east(width, i), width);
+    let north = wrapped(y + step_north(height, i), height);
+    let east = wrapped(x + step_east(width, i), width);
     north * width + east
 }
 

@@ -2,8 +2,10 @@
 use super::across::aside_place;
 use super::going::pass_one;
 use super::line::packet_at;
+ghost use mathlib.Core.Path.{_≡_};
+ghost use lib.ListN.{getD};
 ghost use Prim.Native.Nat.{_≤_, _<_};
-ghost use Rattle.mesh.specs.Going.{tablesOf, chipsOf, upTo, asideBy, asideAt, DueAside, Passed};
+ghost use Rattle.mesh.specs.Going.{tablesOf, chipsOf, upTo, asideBy, asideAt, asidePlace, DueAside, Passed};
 
 // At the first chips.
 pub fn pass_chips(
@@ -39,30 +41,35 @@ fn pass_links(
     requires { ⌜ (chip < chipsOf (now mesh)) × DueAside (tablesOf (now rows) (now starts) (now codes)) (asideAt (now mesh) chip) (now mesh) (now log) n ⌝ }
     ensures { λ r. ⌜ Passed (tablesOf (now (rows .entry)) (now (starts .entry)) (now (codes .entry))) (asideAt (now (mesh .entry)) chip) (now (mesh .entry)) (now (log .entry)) n (now (mesh .exit)) (now (log .exit)) r ⌝ }
 {
+    let width = mesh[0];
+    let height = mesh[1];
+    let x = (chip as u32) % width;
+    let y = (chip as u32) / width;
     let mut done = n;
     let mut source = 0;
     while source < 6 {
-        done = pass_link(mesh, log, done, chip, source, rows, starts, codes);
+        let at = aside_place(width, height, x, y, source);
+        done = pass_link(mesh, log, done, chip, source, at, rows, starts, codes);
         source += 1;
     }
     done
 }
 
-// At one chip by one link.
+// At one chip by one link: how many were set aside stands at a place, and they behind it.
 fn pass_link(
     mesh: &mut [u32],
     log: &mut [u32],
     n: usize,
     chip: usize,
     source: u32,
+    at: usize,
     rows: &[u32],
     starts: &[u32],
     codes: &[u8],
 ) -> usize
-    requires { ⌜ ((chip < chipsOf (now mesh)) × (source < 6)) × DueAside (tablesOf (now rows) (now starts) (now codes)) (asideBy (now mesh) chip source) (now mesh) (now log) n ⌝ }
+    requires { ⌜ ((at ≡ asidePlace (getD (now mesh) 0 0) (getD (now mesh) 1 0) chip source) × (source < 6)) × DueAside (tablesOf (now rows) (now starts) (now codes)) (asideBy (now mesh) chip source) (now mesh) (now log) n ⌝ }
     ensures { λ r. ⌜ Passed (tablesOf (now (rows .entry)) (now (starts .entry)) (now (codes .entry))) (asideBy (now (mesh .entry)) chip source) (now (mesh .entry)) (now (log .entry)) n (now (mesh .exit)) (now (log .exit)) r ⌝ }
 {
-    let at = aside_place(mesh[0], mesh[1], chip, source);
     let count = mesh[at] as usize;
     let mut done = n;
     let mut i = 0;

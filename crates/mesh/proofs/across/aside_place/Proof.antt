@@ -1,15 +1,9 @@
-use native.Mathlib.Omega.{arith}
-use Rattle.router.proofs.Inputs as inputs
 use borrow.Author.Needs.{needs}
 use Rattle.mesh.proofs.across.aside_place.Statement.{statement}
 use Rattle.mesh.proofs.across.aside_place.Tie as tie
 use Rattle.mesh.proofs.across.aside_place.Reads as reads
 use Rattle.mesh.proofs.across.aside_place.Lts as lts
 use Rattle.mesh.proofs.across.across_link.Reads as across-link-reads
-
--- src/across.rt:14:43
-cast-across-link : tie.Need-cast-across-link
-cast-across-link c = omega (arith, inputs.chips-small (c .args .width) (c .args .height) (c .pre .0), c .pre .1 .0)
 
 -- src/across.rt:14:16
 across-link-requires : tie.Need-across-link-requires
@@ -53,13 +47,12 @@ add-result-4 c = search needs
 
 -- src/across.rt:10:1
 returns : tie.Need-returns
-returns c = search needs
+returns c chip ex ey = simp (c .across-link .ensures .0 chip ex ey)
 
 pub aside-place-spec : {M : Type 1} → statement M
 aside-place-spec =
     tie.close
     (tie.spec
-    cast-across-link
     across-link-requires
     cast-from
     add-link
