@@ -15,7 +15,9 @@ pub fn print_head() {
 }
 
 /// Times the versions, the library's first, and prints the best rate of each, which other work on the machine disturbs
-/// least. The ratio is library to plain, above 1 where the library is faster. All must give the same answer.
+/// least. The ratio is library to plain, above 1 where the library is faster: the middle one of all turns, each held to the
+/// turn of the other that follows at once, so that what slows both for a while does not count. All must give the same
+/// answer.
 pub fn line<Input, Answer: Debug + PartialEq, const VERSIONS: usize>(
     name: &str,
     rounds: usize,
@@ -26,13 +28,8 @@ pub fn line<Input, Answer: Debug + PartialEq, const VERSIONS: usize>(
         assert_eq!(version(input), versions[0](input), "{name}");
     }
     let calls = calls_in_a_turn(input, versions[0]);
-    let mut rates = [0.0f64; VERSIONS];
-    for _ in 0..rounds {
-        for (best, version) in rates.iter_mut().zip(versions) {
-            *best = best.max(rate(calls, input, version));
-        }
-    }
-    print_rates(name, &rates);
+    let turns: Vec<_> = (0..rounds).map(|_| versions.map(|version| rate(calls, input, version))).collect();
+    print_rates(name, &turns);
 }
 
 /// The same for calls that change a mesh. Every turn of every version starts from the same mesh, and all must leave the same
@@ -51,13 +48,9 @@ pub fn line_from<const VERSIONS: usize>(
         mesh_rate(calls, &mut mesh, start, version);
         assert!(mesh.words == expected.words && mesh.log == expected.log, "{name}: words or log differ");
     }
-    let mut rates = [0.0f64; VERSIONS];
-    for _ in 0..turns {
-        for (best, version) in rates.iter_mut().zip(versions) {
-            *best = best.max(mesh_rate(calls, &mut mesh, start, version));
-        }
-    }
-    print_rates(name, &rates);
+    let turns: Vec<_> =
+        (0..turns).map(|_| versions.map(|version| mesh_rate(calls, &mut mesh, start, version))).collect();
+    print_rates(name, &turns);
 }
 
 /// How long the best turn of a call took, by call.
@@ -68,12 +61,18 @@ pub fn nanoseconds(name: &str, turns: usize, start: &BusyMesh, call: fn(&mut Bus
     println!("{name:<44} {:>14.0}", 1e9 / best);
 }
 
-fn print_rates(name: &str, rates: &[f64]) {
-    print!("{name:<34} {:>14.0}", rates[0]);
-    for plain in &rates[1..] {
-        print!(" {plain:>14.0} {:>7.2}", rates[0] / plain);
+fn print_rates<const VERSIONS: usize>(name: &str, turns: &[[f64; VERSIONS]]) {
+    let best = |version: usize| turns.iter().map(|rates| rates[version]).fold(0.0, f64::max);
+    print!("{name:<34} {:>14.0}", best(0));
+    for plain in 1..VERSIONS {
+        print!(" {:>14.0} {:>7.2}", best(plain), middle(turns.iter().map(|rates| rates[0] / rates[plain]).collect()));
     }
     println!();
+}
+
+fn middle(mut numbers: Vec<f64>) -> f64 {
+    numbers.sort_by(f64::total_cmp);
+    numbers[numbers.len() / 2]
 }
 
 fn mesh_calls_in_a_turn(mesh: &mut BusyMesh, start: &BusyMesh, call: fn(&mut BusyMesh) -> Added) -> u32 {

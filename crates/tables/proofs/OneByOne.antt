@@ -67,3 +67,22 @@ module _ (s : List ℕ) (i : ℕ) where
 
   pub codes-last : (all : Bool) (joined : ℕ) → length s ≤ i → all ≡ (ltb joined 8 && allCodes (drop i s)) → all ≡ ltb joined 8
   codes-last all joined h e = e ∙ ap (λ (r : Bool). ltb joined 8 && r) (codes-end h) ∙ and-true (ltb joined 8)
+
+-- four rows at once
+pub routes-four : (s : List ℕ) (i : ℕ) (all : Bool) (joined : ℕ) → (i + 3) * 3 + 2 < length s → all ≡ (ltb joined 67108864 && allRoutes (rowsOf (drop (i * 3) s)))
+    → all
+    ≡ (
+    ltb (bitOr (bitOr (bitOr (bitOr joined (getD s (i * 3 + 2) 0)) (getD s ((i + 1) * 3 + 2) 0)) (getD s ((i + 2) * 3 + 2) 0)) (getD s ((i + 3) * 3 + 2) 0)) 67108864
+    && allRoutes (rowsOf (drop ((i + 4) * 3) s))
+    )
+routes-four s i all joined h e =
+    let two : i + 1 + 1 ≡ i + 2 = omega arith in
+    let three : i + 2 + 1 ≡ i + 3 = omega arith in
+    let four : i + 3 + 1 ≡ i + 4 = omega arith in
+    let j = bitOr joined (getD s (i * 3 + 2) 0) in
+    let k = bitOr j (getD s ((i + 1) * 3 + 2) 0) in
+    let l = bitOr k (getD s ((i + 2) * 3 + 2) 0) in
+    let first = routes-joined s i all joined (omega arith) e in
+    let second = rw two at (routes-joined s (i + 1) all j (omega arith) first) in
+    let third = rw three at (routes-joined s (i + 2) all k (omega arith) second) in
+    rw four at (routes-joined s (i + 3) all l h third)

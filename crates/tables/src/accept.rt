@@ -1,4 +1,5 @@
 // What makes lent tables acceptable.
+use super::search::route_at;
 ghost use mathlib.Core.Path.{_≡_};
 ghost use Rattle.tables.specs.Accept.{routesFine, rowsFine, codesFine, startsFine};
 
@@ -19,7 +20,7 @@ pub fn rows_fine(rows: &[u32]) -> bool
     }
 }
 
-// Rows of any number of chips: a whole number of them, no route bit 26 to 31.
+// Rows of any number of chips: a whole number of them, no route bit 26 to 31. Four rows a turn, then what is left of them.
 pub fn routes_fine(rows: &[u32]) -> bool
     ensures { λ r. ⌜ r ≡ routesFine (now (rows .entry)) ⌝ }
 {
@@ -29,8 +30,16 @@ pub fn routes_fine(rows: &[u32]) -> bool
     let count = rows.len() / 3;
     let mut joined = 0;
     let mut i = 0;
+    while 4 <= count - i {
+        joined = joined
+            | route_at(rows, i)
+            | route_at(rows, i + 1)
+            | route_at(rows, i + 2)
+            | route_at(rows, i + 3);
+        i += 4;
+    }
     while i < count {
-        joined = joined | rows[i * 3 + 2];
+        joined = joined | route_at(rows, i);
         i += 1;
     }
     joined < ROUTES

@@ -99,7 +99,7 @@ fn matches_row(key: u32, row_key: u32, mask: u32) -> bool
     (key & mask) == (row_key & mask)
 }
 
-fn route_at(rows: &[u32], n: usize) -> u32
+pub fn route_at(rows: &[u32], n: usize) -> u32
     requires { ⌜ n * 3 + 2 < length (now rows) ⌝ }
     ensures { λ r. ⌜ r ≡ getD (now (rows .entry)) (n * 3 + 2) 0 ⌝ }
 {
