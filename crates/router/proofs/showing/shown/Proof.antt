@@ -10,42 +10,42 @@ use Rattle.router.proofs.showing.on_leg.Reads as on-leg-reads
 use Rattle.router.proofs.showing.packets_of.Reads as packets-of-reads
 use Rattle.router.proofs.showing.to_processors.Reads as to-processors-reads
 
--- src/showing.rt:27:9
-to-processors-requires : tie.Need-to-processors-requires
-to-processors-requires c κs = search needs
-
--- src/showing.rt:28:9
+-- src/showing.rt:27:19
 packets-of-requires : tie.Need-packets-of-requires
 packets-of-requires c κs = search needs
 
--- src/showing.rt:29:9
+-- src/showing.rt:28:15
 on-leg-requires : tie.Need-on-leg-requires
 on-leg-requires c κs = search needs
 
--- src/showing.rt:30:29
+-- src/showing.rt:29:29
 empty-registers-requires : tie.Need-empty-registers-requires
 empty-registers-requires c κs = search needs
 
--- src/showing.rt:30:9
+-- src/showing.rt:29:21
 kept-of-requires : tie.Need-kept-of-requires
 kept-of-requires c κs = search needs
 
--- src/showing.rt:31:9
+-- src/showing.rt:30:21
+to-processors-requires : tie.Need-to-processors-requires
+to-processors-requires c κs = search needs
+
+-- src/showing.rt:31:20
 counts-shown-requires : tie.Need-counts-shown-requires
 counts-shown-requires c κs = search needs
 
 -- src/showing.rt:23:1
 returns : tie.Need-returns
-returns c = simp (c .before .before .before .before .before .before .to-processors .ensures, c .before .before .before .before .before .packets-of .ensures, c .before .before .before .before .on-leg .ensures, c .before .before .kept-of .ensures, c .before .before .before .empty-registers .ensures, c .before .counts-shown .ensures)
+returns c = simp (c .before .before .before .before .before .before .packets-of .ensures, c .before .before .before .before .before .on-leg .ensures, c .before .before .before .before .empty-registers .ensures, c .before .before .before .kept-of .ensures, c .before .before .to-processors .ensures, c .before .counts-shown .ensures)
 
 pub shown-spec : {M : Type 1} → statement M
 shown-spec =
     tie.close
     (tie.spec
-    to-processors-requires
     packets-of-requires
     on-leg-requires
     empty-registers-requires
     kept-of-requires
+    to-processors-requires
     counts-shown-requires
     returns)
