@@ -1,5 +1,6 @@
 pub mod Account
 pub mod Bounds
+pub mod BySource
 pub mod Inputs
 pub mod LookedUp
 pub mod LowestFirst

@@ -50,10 +50,13 @@ abbrev pub kindWanted : ℕ → Packet → ℕ → List ℕ → List ℕ → Set
 kindWanted kind p source rows codes t =
     cond (eqb kind 0) (mcWanted p source rows (t .monitor)) (wants (cond (eqb kind 1) (p2pWanted p codes t) (nnWanted p source (t .monitor))))
 
--- What is looked up in the rows: the route of an MC packet without error and not marked 10, and nothing for any other.
+-- What goes by the rows: an MC packet without error and not marked 10.
+abbrev pub byRows : ℕ → ℕ → Bool
+byRows errors control = eqb errors 0 && eqb (kindOf control) 0 && not (eqb (markOf control) 2)
+
+-- What is looked up in them: the route of such a packet, and nothing for any other.
 abbrev pub lookedUp : ℕ → Packet → List ℕ → Matched
-lookedUp errors p rows =
-    cond (eqb errors 0 && eqb (kindOf (p .control)) 0 && not (eqb (markOf (p .control)) 2)) (routeFor (p .word) (rowsOf rows)) Missed
+lookedUp errors p rows = cond (byRows errors (p .control)) (routeFor (p .word) (rowsOf rows)) Missed
 
 -- "A packet in error goes, as it came, to the monitor and nowhere else".
 unfoldable pub wantedOf : ℕ → Packet → ℕ → List ℕ → List ℕ → Setting → Wanted

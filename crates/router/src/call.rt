@@ -7,6 +7,7 @@ use super::deciding::no_outcome;
 use super::errors::errors_of;
 use super::errors::stamped_of;
 use super::showing::shown;
+use super::wants::by_rows;
 use super::wants::looked_up;
 use super::wants::wanted_of;
 use packet::Packet;
@@ -52,7 +53,8 @@ fn outcome_unless(
     if refusal == 0 {
         let errors = errors_of(p, source, t.phase);
         let stamped = stamped_of(p, source, errors, t.phase);
-        let found = looked_up(errors, p, rows);
+        let goes = by_rows(errors, p.control);
+        let found = looked_up(goes, p.word, rows);
         let wanted = wanted_of(errors, p, source, found, codes, t);
         decide(errors, stamped, source, wanted, t.ready)
     } else {

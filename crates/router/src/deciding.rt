@@ -10,6 +10,7 @@ use super::detour::send_set;
 use super::errors::errors_of;
 use super::errors::stamped_of;
 use super::wants::bit;
+use super::wants::by_rows;
 use super::wants::looked_up;
 use super::wants::wanted_of;
 use packet::Packet;
@@ -28,7 +29,8 @@ pub fn outcome_of(p: Packet, source: u32, rows: &[u32], codes: &[u8], t: Setting
 {
     let errors = errors_of(p, source, t.phase);
     let stamped = stamped_of(p, source, errors, t.phase);
-    let found = looked_up(errors, p, rows);
+    let goes = by_rows(errors, p.control);
+    let found = looked_up(goes, p.word, rows);
     let wanted = wanted_of(errors, p, source, found, codes, t);
     decide(errors, stamped, source, wanted, t.ready)
 }

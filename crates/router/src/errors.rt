@@ -7,17 +7,26 @@ use packet::control::stamp_of;
 use packet::parity::is_odd;
 use packet::parity::with_stamp;
 ghost use mathlib.Core.Path.{_≡_};
-ghost use Prim.Native.Nat.{_≤_};
+ghost use Prim.Native.Nat.{_+_, _≤_};
 ghost use Rattle.router.specs.Errors.{tooOld, wrongLength, badLocal, flag, errorsOf, stampedOf};
 
 pub fn errors_of(p: Packet, source: u32, phase: u32) -> u32
     requires { ⌜ phase ≤ 3 ⌝ }
     ensures { λ r. ⌜ (r ≡ errorsOf p source phase) × (r ≤ 15) ⌝ }
 {
-    flag_of(!is_odd(p), 1)
-        + flag_of(too_old(p.control, source, phase), 2)
-        + flag_of(wrong_length(p), 4)
-        + flag_of(bad_local(p.control, source), 8)
+    flag_of(!is_odd(p), 1) + flag_of(wrong_length(p), 4) + source_errors(p.control, source, phase)
+}
+
+// The errors that only a local packet, or only one from a link, can show.
+fn source_errors(control: u32, source: u32, phase: u32) -> u32
+    requires { ⌜ phase ≤ 3 ⌝ }
+    ensures { λ r. ⌜ (r ≡ flag (tooOld control source phase) 2 + flag (badLocal control source) 8) × (r ≤ 8) ⌝ }
+{
+    if source == 7 {
+        flag_of(bad_local(control, source), 8)
+    } else {
+        flag_of(too_old(control, source, phase), 2)
+    }
 }
 
 pub fn stamped_of(p: Packet, source: u32, errors: u32, phase: u32) -> Packet

@@ -6,6 +6,7 @@ use super::counting::counted_of;
 use super::counting::no_counts;
 use super::deciding::leg_packet;
 use super::deciding::packet_on;
+use super::errors::flag_of;
 use super::keeping::empty_registers;
 use super::keeping::kept_of;
 use packet::Packet;
@@ -16,11 +17,12 @@ ghost use Prim.Native.Nat.{_<_};
 ghost use Rattle.packet.specs.Bytes.{nothing};
 ghost use Rattle.router.specs.Showing.{onLeg, toProcessors, packetsOf, passShown};
 ghost use Rattle.router.specs.Counting.{zeros, countedOf};
+ghost use Rattle.router.specs.Deciding.{noOutcome};
 
 // All that a pass did, its registers and counters begun from zeros; or, of a pass that was refused, the number of the
 // refusal and zeros. What needs most room to be worked out comes first.
 pub fn shown(refusal: u32, o: Outcome) -> Pass
-    requires { ⌜ (o .sent < 64) × ((o .dropped < 64) × (o .lost < 64)) ⌝ }
+    requires { ⌜ (o ≡ cond (eqb refusal 0) o noOutcome) × ((o .sent < 64) × ((o .dropped < 64) × (o .lost < 64))) ⌝ }
     ensures { λ r. ⌜ r ≡ passShown refusal o ⌝ }
 {
     let packets = packets_of(o);
@@ -45,13 +47,27 @@ pub fn shown(refusal: u32, o: Outcome) -> Pass
     }
 }
 
+// Of a pass that did not take place, all but two of the counts are 0 as it is: no need to choose between two lists of ten.
 fn counts_shown(refusal: u32, o: Outcome) -> Counters
+    requires { ⌜ o ≡ cond (eqb refusal 0) o noOutcome ⌝ }
     ensures { λ r. ⌜ r ≡ cond (eqb refusal 0) (countedOf zeros o) zeros ⌝ }
 {
-    if refusal == 0 {
-        counted_of(no_counts(), o)
-    } else {
-        no_counts()
+    let c = counted_of(no_counts(), o);
+    let passes = flag_of(refusal == 0, c.count[0]);
+    let swallowed = flag_of(refusal == 0, c.count[8]);
+    Counters {
+        count: [
+            passes,
+            c.count[1],
+            c.count[2],
+            c.count[3],
+            c.count[4],
+            c.count[5],
+            c.count[6],
+            c.count[7],
+            swallowed,
+            c.count[9],
+        ],
     }
 }
 
@@ -95,5 +111,17 @@ fn on_leg(o: Outcome) -> Packet
 fn to_processors(o: Outcome) -> Packet
     ensures { λ r. ⌜ r ≡ toProcessors o ⌝ }
 {
-    if o.wanted < 64 { no_packet() } else { o.packet }
+    only(64 <= o.wanted, o.packet)
+}
+
+// Number by number, so that no branch is needed.
+fn only(kept: bool, p: Packet) -> Packet
+    ensures { λ r. ⌜ r ≡ cond kept p nothing ⌝ }
+{
+    Packet {
+        control: flag_of(kept, p.control),
+        nine: flag_of(kept, p.nine),
+        word: flag_of(kept, p.word),
+        payload: flag_of(kept, p.payload),
+    }
 }

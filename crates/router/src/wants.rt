@@ -13,15 +13,25 @@ ghost use lib.ListN.{length};
 ghost use mathlib.Core.List.{List};
 ghost use Prim.Native.Nat.{ℕ, _*_, _^_, _≤_, _<_};
 ghost use Rattle.router.specs.Links.{monitorBit};
-ghost use Rattle.router.specs.Wants.{wants, missWanted, matchWanted, markWanted, numberWanted, p2pWanted, nnWanted, lookedUp, wantedOf};
+ghost use mathlib.Core.Bool.{cond};
+ghost use Rattle.tables.specs.declared.Matched.the-variants.{Missed};
+ghost use Rattle.tables.specs.Rows.{rowsOf, routeFor};
+ghost use Rattle.router.specs.Wants.{wants, missWanted, matchWanted, markWanted, numberWanted, p2pWanted, nnWanted, byRows, lookedUp, wantedOf};
 
-// What the rows say of a packet that goes by them. It is a step of its own so that only the search is left to call: all else
-// of a pass is small enough for the compiler to put in place, and then keeps its numbers out of memory.
-pub fn looked_up(errors: u32, p: Packet, rows: &[u32]) -> Matched
-    ensures { λ r. ⌜ r ≡ lookedUp errors p (now (rows .entry)) ⌝ }
+// Whether a packet goes by the rows.
+pub fn by_rows(errors: u32, control: u32) -> bool
+    ensures { λ r. ⌜ r ≡ byRows errors control ⌝ }
 {
-    if (errors == 0) & (kind_of(p.control) == 0) & (mark_of(p.control) != 2) {
-        route_for(rows, p.word)
+    (errors == 0) & (kind_of(control) == 0) & (mark_of(control) != 2)
+}
+
+// What the rows say to a key, where it is to be looked up. It is a step of its own, and small, so that the compiler puts it in
+// place in both passes, the one-router call's and the mesh's, and keeps their numbers out of memory.
+pub fn looked_up(goes: bool, key: u32, rows: &[u32]) -> Matched
+    ensures { λ r. ⌜ r ≡ cond goes (routeFor key (rowsOf (now (rows .entry)))) Missed ⌝ }
+{
+    if goes {
+        route_for(rows, key)
     } else {
         Matched::Missed
     }

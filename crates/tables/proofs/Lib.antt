@@ -1,4 +1,5 @@
 pub mod Chips
+pub mod EightCodes
 pub mod LentRows
 pub mod OneByOne
 pub mod RowByRow

@@ -15,7 +15,7 @@ use Rattle.tables.specs.Accept.{allRoutes, allCodes}
 use Rattle.tables.proofs.RowByRow.{rows-step, rows-end}
 
 -- two numbers joined are below a power of two when both are
-or-below : (k a b : ℕ) → ltb (bitOr a b) (2 ^ k) ≡ (ltb a (2 ^ k) && ltb b (2 ^ k))
+pub or-below : (k a b : ℕ) → ltb (bitOr a b) (2 ^ k) ≡ (ltb a (2 ^ k) && ltb b (2 ^ k))
 or-below k a b = go (ltb a (2 ^ k)) (ltb b (2 ^ k)) refl refl
   where
     sum : bitOr a b + bitAnd a b ≡ a + b
@@ -33,7 +33,7 @@ or-below k a b = go (ltb a (2 ^ k)) (ltb b (2 ^ k)) refl refl
     go false q x y = let big : 2 ^ k ≤ a = ltb-false _ _ x in le-ltb (bitOr a b) (2 ^ k) (omega (arith, sum, right))
 
 -- a test of every entry so far, of all joined, and of the entries to come
-or-on : (k a b : ℕ) (all rest : Bool) → all ≡ (ltb a (2 ^ k) && (ltb b (2 ^ k) && rest)) → all ≡ (ltb (bitOr a b) (2 ^ k) && rest)
+pub or-on : (k a b : ℕ) (all rest : Bool) → all ≡ (ltb a (2 ^ k) && (ltb b (2 ^ k) && rest)) → all ≡ (ltb (bitOr a b) (2 ^ k) && rest)
 or-on k a b all rest e =
     e ∙ sym (and-assoc (ltb a (2 ^ k)) (ltb b (2 ^ k)) rest) ∙ ap (λ (f : Bool). f && rest) (sym (or-below k a b))
 
@@ -53,36 +53,42 @@ module _ (s : List ℕ) (i : ℕ) where
   pub routes-last : (all : Bool) (joined : ℕ) → length s / 3 ≤ i → all ≡ (ltb joined 67108864 && allRoutes (rowsOf (drop (i * 3) s))) → all ≡ ltb joined 67108864
   routes-last all joined h e = e ∙ ap (λ (r : Bool). ltb joined 67108864 && r) (routes-end h) ∙ and-true (ltb joined 67108864)
 
-  codes-step : i < length s → allCodes (drop i s) ≡ (ltb (getD s i 0) 8 && allCodes (drop (i + 1) s))
+  pub codes-step : i < length s → allCodes (drop i s) ≡ (ltb (getD s i 0) 8 && allCodes (drop (i + 1) s))
   unfolding allCodes
   codes-step h = ap allCodes (drop-cons s i 0 h) ∙ simp add-one
 
-  codes-end : length s ≤ i → allCodes (drop i s) ≡ true
+  pub codes-end : length s ≤ i → allCodes (drop i s) ≡ true
   unfolding allCodes
   codes-end h = ap allCodes (drop-of-length-le s h)
 
-  pub codes-joined : (all : Bool) (joined : ℕ) → i < length s → all ≡ (ltb joined 8 && allCodes (drop i s))
-      → all ≡ (ltb (bitOr joined (getD s i 0)) 8 && allCodes (drop (i + 1) s))
-  codes-joined all joined h e = or-on 3 joined (getD s i 0) all _ (e ∙ ap (λ (r : Bool). ltb joined 8 && r) (codes-step h))
-
-  pub codes-last : (all : Bool) (joined : ℕ) → length s ≤ i → all ≡ (ltb joined 8 && allCodes (drop i s)) → all ≡ ltb joined 8
-  codes-last all joined h e = e ∙ ap (λ (r : Bool). ltb joined 8 && r) (codes-end h) ∙ and-true (ltb joined 8)
+-- two numbers joined with two others, each with its own
+pub two-on : (k a b c d : ℕ) (all rest : Bool) → all ≡ (ltb a (2 ^ k) && (ltb b (2 ^ k) && (ltb c (2 ^ k) && (ltb d (2 ^ k) && rest))))
+    → all ≡ (ltb (bitOr a c) (2 ^ k) && (ltb (bitOr b d) (2 ^ k) && rest))
+two-on k a b c d all rest e =
+    e ∙ crossed (ltb a (2 ^ k)) (ltb b (2 ^ k)) (ltb c (2 ^ k)) (ltb d (2 ^ k))
+    ∙ (λ i. sym (or-below k a c) i && (sym (or-below k b d) i && rest))
+  where
+    crossed : (p q r s : Bool) → (p && (q && (r && (s && rest)))) ≡ ((p && r) && ((q && s) && rest))
+    crossed true true r s = refl
+    crossed true false true s = refl
+    crossed true false false s = refl
+    crossed false q r s = refl
 
 -- four rows at once
-pub routes-four : (s : List ℕ) (i : ℕ) (all : Bool) (joined : ℕ) → (i + 3) * 3 + 2 < length s → all ≡ (ltb joined 67108864 && allRoutes (rowsOf (drop (i * 3) s)))
-    → all
+pub routes-four : (s : List ℕ) (i : ℕ) → (i + 3) * 3 + 2 < length s
+    → allRoutes (rowsOf (drop (i * 3) s))
     ≡ (
-    ltb (bitOr (bitOr (bitOr (bitOr joined (getD s (i * 3 + 2) 0)) (getD s ((i + 1) * 3 + 2) 0)) (getD s ((i + 2) * 3 + 2) 0)) (getD s ((i + 3) * 3 + 2) 0)) 67108864
+    ltb (bitOr (bitOr (bitOr (getD s (i * 3 + 2) 0) (getD s ((i + 1) * 3 + 2) 0)) (getD s ((i + 2) * 3 + 2) 0)) (getD s ((i + 3) * 3 + 2) 0)) 67108864
     && allRoutes (rowsOf (drop ((i + 4) * 3) s))
     )
-routes-four s i all joined h e =
+routes-four s i h =
     let two : i + 1 + 1 ≡ i + 2 = omega arith in
     let three : i + 2 + 1 ≡ i + 3 = omega arith in
     let four : i + 3 + 1 ≡ i + 4 = omega arith in
-    let j = bitOr joined (getD s (i * 3 + 2) 0) in
-    let k = bitOr j (getD s ((i + 1) * 3 + 2) 0) in
-    let l = bitOr k (getD s ((i + 2) * 3 + 2) 0) in
-    let first = routes-joined s i all joined (omega arith) e in
-    let second = rw two at (routes-joined s (i + 1) all j (omega arith) first) in
-    let third = rw three at (routes-joined s (i + 2) all k (omega arith) second) in
-    rw four at (routes-joined s (i + 3) all l h third)
+    let a = getD s (i * 3 + 2) 0 in
+    let b = bitOr a (getD s ((i + 1) * 3 + 2) 0) in
+    let c = bitOr b (getD s ((i + 2) * 3 + 2) 0) in
+    let first = routes-step s i (omega arith) in
+    let second = rw two at (routes-joined s (i + 1) _ a (omega arith) first) in
+    let third = rw three at (routes-joined s (i + 2) _ b (omega arith) second) in
+    rw four at (routes-joined s (i + 3) _ c h third)

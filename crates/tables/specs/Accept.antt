@@ -1,10 +1,12 @@
 -- Which lent tables are acceptable. Refusal 5: "over 1,024 rows for a chip, route bit 26 to 31 set, bad starts"; 11: "P2P table of wrong size,
 -- or a code above 7".
-use Prim.Native.Nat.{ℕ, _+_, _-_, _/_, _%_, _^_}
+use Prim.Native.Nat.{ℕ, _+_, _-_, _*_, _/_, _%_, _^_, _<_}
+use mathlib.Core.Path.{_≡_}
 use mathlib.Core.Bool.{Bool, true, _&&_}
 use mathlib.Core.List.{List, [], _∷_}
 use lib.Dec.{eqb, ltb, leb}
-use lib.ListN.{length, getD}
+use lib.Bits.{bitAnd}
+use lib.ListN.{length, getD, drop}
 use Rattle.tables.specs.Rows.{Entry, rowsOf}
 
 -- "Route bits 0 to 5 are links, 6 to 25 are processors 0 to 19."
@@ -25,6 +27,14 @@ allCodes (c ∷ cs) = ltb c 8 && allCodes cs
 
 abbrev pub codesFine : List ℕ → ℕ → Bool
 codesFine s n = eqb (length s) n && allCodes s
+
+-- In each of eight bytes, the bits above the lowest three: a code above 7 has one of them.
+abbrev pub aboveSeven : ℕ
+aboveSeven = 17940362863843014904
+
+-- Where n codes stand in one number, a byte each, that number tells of all of them at once whether one is above 7.
+abbrev pub SideBySide : ℕ → List ℕ → ℕ → ℕ → Type 0
+SideBySide n codes i r = (r < 2 ^ (8 * n)) × (allCodes (drop i codes) ≡ (eqb (bitAnd r aboveSeven) 0 && allCodes (drop (i + n) codes)))
 
 -- "First 0, never falling, last the number of rows, one more number than chips"; "over 1,024 rows for a chip" are too many.
 unfoldable pub climbs : List ℕ → Bool

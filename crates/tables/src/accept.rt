@@ -1,13 +1,21 @@
 // What makes lent tables acceptable.
 use super::search::route_at;
 ghost use mathlib.Core.Path.{_≡_};
-ghost use Rattle.tables.specs.Accept.{routesFine, rowsFine, codesFine, startsFine};
+ghost use mathlib.Core.Bool.{_&&_};
+ghost use lib.Dec.{ltb};
+ghost use lib.ListN.{length, drop};
+ghost use Prim.Native.Nat.{_+_, _*_, _≤_, _<_};
+ghost use Rattle.tables.specs.Rows.{rowsOf};
+ghost use Rattle.tables.specs.Accept.{allRoutes, routesFine, rowsFine, codesFine, startsFine, SideBySide};
 
 // The most rows that a chip's table has.
 pub const MOST_ROWS: usize = 1024;
 
 // The lowest route bit that names neither a link nor a processor.
 const ROUTES: u32 = 0x0400_0000;
+
+// In each of eight bytes, the bits that no code has set.
+const ABOVE_SEVEN: u64 = 0xf8f8_f8f8_f8f8_f8f8;
 
 // One chip's rows: a whole number of them, at most 1,024, no route bit 26 to 31.
 pub fn rows_fine(rows: &[u32]) -> bool
@@ -20,7 +28,8 @@ pub fn rows_fine(rows: &[u32]) -> bool
     }
 }
 
-// Rows of any number of chips: a whole number of them, no route bit 26 to 31. Four rows a turn, then what is left of them.
+// Rows of any number of chips: a whole number of them, no route bit 26 to 31. Eight rows a turn, joined in two numbers so that
+// neither waits for the other, then what is left of them.
 pub fn routes_fine(rows: &[u32]) -> bool
     ensures { λ r. ⌜ r ≡ routesFine (now (rows .entry)) ⌝ }
 {
@@ -28,16 +37,17 @@ pub fn routes_fine(rows: &[u32]) -> bool
         return false;
     }
     let count = rows.len() / 3;
+    let eights = count / 8;
     let mut joined = 0;
+    let mut other = 0;
     let mut i = 0;
-    while 4 <= count - i {
-        joined = joined
-            | route_at(rows, i)
-            | route_at(rows, i + 1)
-            | route_at(rows, i + 2)
-            | route_at(rows, i + 3);
-        i += 4;
+    while i < eights {
+        joined = joined | four_routes(rows, i * 8);
+        other = other | four_routes(rows, i * 8 + 4);
+        i += 1;
     }
+    joined = joined | other;
+    i = eights * 8;
     while i < count {
         joined = joined | route_at(rows, i);
         i += 1;
@@ -45,20 +55,69 @@ pub fn routes_fine(rows: &[u32]) -> bool
     joined < ROUTES
 }
 
-// P2P codes: as many as asked for, none above 7.
+// The routes of four rows joined: they are fine where it is below the lowest bit that may not be set.
+fn four_routes(rows: &[u32], i: usize) -> u32
+    requires { ⌜ (i + 3) * 3 + 2 < length (now rows) ⌝ }
+    ensures { λ r. ⌜ allRoutes (rowsOf (drop (i * 3) (now (rows .entry)))) ≡ (ltb r 67108864 && allRoutes (rowsOf (drop ((i + 4) * 3) (now (rows .entry))))) ⌝ }
+{
+    route_at(rows, i) | route_at(rows, i + 1) | route_at(rows, i + 2) | route_at(rows, i + 3)
+}
+
+// P2P codes: as many as asked for, none above 7. Eight of them a turn, as one number, then what is left of them.
 pub fn codes_fine(codes: &[u8], count: usize) -> bool
     ensures { λ r. ⌜ r ≡ codesFine (now (codes .entry)) count ⌝ }
 {
     if codes.len() != count {
         return false;
     }
-    let mut joined: u8 = 0;
+    let eights = codes.len() / 8;
+    let mut joined = 0;
     let mut i = 0;
-    while i < codes.len() {
-        joined = joined | codes[i];
+    while i < eights {
+        joined = joined | eight_codes(codes, i * 8);
         i += 1;
     }
-    joined < 8
+    i = eights * 8;
+    while i < codes.len() {
+        joined = joined | code_at(codes, i);
+        i += 1;
+    }
+    joined & ABOVE_SEVEN == 0
+}
+
+// Codes side by side in one number, a byte each, the first one lowest.
+fn eight_codes(codes: &[u8], i: usize) -> u64
+    requires { ⌜ i + 8 ≤ length (now codes) ⌝ }
+    ensures { λ r. ⌜ SideBySide 8 (now (codes .entry)) i r ⌝ }
+{
+    four_codes(codes, i) | (four_codes(codes, i + 4) << 32)
+}
+
+fn four_codes(codes: &[u8], i: usize) -> u64
+    requires { ⌜ i + 4 ≤ length (now codes) ⌝ }
+    ensures { λ r. ⌜ SideBySide 4 (now (codes .entry)) i r ⌝ }
+{
+    two_codes(codes, i) | (two_codes(codes, i + 2) << 16)
+}
+
+fn two_codes(codes: &[u8], i: usize) -> u64
+    requires { ⌜ i + 2 ≤ length (now codes) ⌝ }
+    ensures { λ r. ⌜ SideBySide 2 (now (codes .entry)) i r ⌝ }
+{
+    code_at(codes, i) | (code_at(codes, i + 1) << 8)
+}
+
+fn code_at(codes: &[u8], i: usize) -> u64
+    requires { ⌜ i + 1 ≤ length (now codes) ⌝ }
+    ensures { λ r. ⌜ SideBySide 1 (now (codes .entry)) i r ⌝ }
+{
+    wide_code(codes[i])
+}
+
+fn wide_code(b: u8) -> u64
+    ensures { λ r. ⌜ (r ≡ b) × (r < 256) ⌝ }
+{
+    b as u64
 }
 
 // A start as a number of the machine's width, so that 1,024 more does not wrap.

@@ -2,7 +2,7 @@ use borrow.Author.Needs.{needs}
 use mathlib.Core.Path.{_≡_, refl, sym, ap, _∙_}
 use Prim.Native.Nat.{_<_}
 use Rattle.router.proofs.Inputs.{checked, passed}
-use Rattle.router.proofs.Shown.{answer-shown, unless-sets}
+use Rattle.router.proofs.Shown.{answer-shown, unless-none, unless-sets}
 use Rattle.router.specs.Showing.{passShown}
 use Rattle.router.specs.Call.{passOf, answer}
 use Rattle.packet.specs.declared.Taken.{Taken}
@@ -33,7 +33,7 @@ shown-requires : tie.Need-shown-requires
 shown-requires c κs =
     let a = c .before .before .before .before .before .before .args in
     let s = unless-sets (c .before .before .checked .result) (a .source) (a .rows .now) (a .codes .now) (a .t) in
-    rw (c .outcome-unless .ensures) (s .sent, (s .dropped, s .lost))
+    rw (c .outcome-unless .ensures) (unless-none (c .before .before .checked .result) (a .source) (a .rows .now) (a .codes .now) (a .t), (s .sent, (s .dropped, s .lost)))
 
 -- src/call.rt:26:1
 returns : tie.Need-returns
