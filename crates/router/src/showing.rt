@@ -20,16 +20,16 @@ ghost use Rattle.router.specs.Counting.{zeros, countedOf};
 ghost use Rattle.router.specs.Deciding.{noOutcome};
 
 // All that a pass did, its registers and counters begun from zeros; or, of a pass that was refused, the number of the
-// refusal and zeros. What needs most room to be worked out comes first.
+// refusal and zeros. What needs most room to be worked out comes first, what is mostly zeros last.
 pub fn shown(refusal: u32, o: Outcome) -> Pass
     requires { ⌜ (o ≡ cond (eqb refusal 0) o noOutcome) × ((o .sent < 64) × ((o .dropped < 64) × (o .lost < 64))) ⌝ }
     ensures { λ r. ⌜ r ≡ passShown refusal o ⌝ }
 {
     let packets = packets_of(o);
     let leg = on_leg(o);
-    let registers = kept_of(empty_registers(), o);
     let delivered = to_processors(o);
     let counters = counts_shown(refusal, o);
+    let registers = kept_of(empty_registers(), o);
     Pass {
         refusal,
         errors: o.errors,

@@ -36,7 +36,7 @@ counts-shown-requires c κs = search needs
 
 -- src/showing.rt:23:1
 returns : tie.Need-returns
-returns c = simp (c .before .before .before .before .before .before .packets-of .ensures, c .before .before .before .before .before .on-leg .ensures, c .before .before .before .before .empty-registers .ensures, c .before .before .before .kept-of .ensures, c .before .before .to-processors .ensures, c .before .counts-shown .ensures)
+returns c = simp (c .before .before .before .before .before .before .packets-of .ensures, c .before .before .before .before .before .on-leg .ensures, c .before .before .before .before .to-processors .ensures, c .before .before .before .counts-shown .ensures, c .before .before .empty-registers .ensures, c .before .kept-of .ensures)
 
 pub shown-spec : {M : Type 1} → statement M
 shown-spec =
@@ -44,8 +44,8 @@ shown-spec =
     (tie.spec
     packets-of-requires
     on-leg-requires
-    empty-registers-requires
-    kept-of-requires
     to-processors-requires
     counts-shown-requires
+    empty-registers-requires
+    kept-of-requires
     returns)
