@@ -1,88 +1,26 @@
--- What was set aside, as it arrives: where its words stand, that passes leave it alone, and that some of it passed and then the next is more of
--- it. Assumes nothing.
-use mathlib.Core.Path.{_≡_, refl, sym, ap, _∙_, subst}
-use mathlib.Core.List.{List, [], _∷_, _++_, map, append-nil, append-assoc}
-use Prim.Native.Nat.{ℕ, zero, suc, _+_, _-_, _*_, _≤_, _<_}
+-- What was set aside, as it arrives: that passes leave it alone, and that some of it passed and then the next is more of it. Assumes nothing.
+use mathlib.Core.Path.{_≡_, sym, ap, _∙_, subst}
+use mathlib.Core.List.{List, [], _∷_, _++_, map}
+use Prim.Native.Nat.{ℕ, suc, _+_, _-_, _*_, _≤_, _<_}
 use native.Mathlib.Omega.{arith}
-use native.Mathlib.Nat.{add-zero, add-suc}
 use lib.Dec.{lit<}
-use lib.ListN.{length, getD, take, drop, length-append, length-map, List·getD-map}
-use lib.Seq.{getD-take, getD-drop, drop-drop, take-suc, take-all}
+use lib.ListN.{length, getD, drop, length-append, length-map, List·getD-map}
+use lib.Seq.{getD-drop, drop-drop}
 use Rattle.packet.specs.declared.Packet.{Packet}
-use Rattle.packet.specs.Control.{carriesOf}
 use Rattle.mesh.specs.Mesh.{Flight, across, opposite}
-use Rattle.mesh.specs.Layout.{part, packetIn, placesIn, asideIn, linePlace, chipPlace, wordsFor}
+use Rattle.mesh.specs.Layout.{packetIn, placesIn, asideIn, linePlace, chipPlace, wordsFor}
 use Rattle.mesh.specs.Steps.{Tables, Arrival}
 use Rattle.mesh.specs.Chips.{lineWords, still}
 use Rattle.mesh.specs.Passing.{chipWords}
 use Rattle.mesh.specs.Sound.{Arrives}
 use Rattle.mesh.specs.Going.{chipsOf, arrival, upTo, asideFor, asideBy, asideAt, asidePlace, AsideFew, Due, DueAside, Passed}
 use Rattle.mesh.proofs.Alls.{all-left}
-use Rattle.mesh.proofs.Places.{length-places, packet-at}
+use Rattle.mesh.proofs.Places.{length-places}
 use Rattle.mesh.proofs.SoundArrivals.{across-there, opposite-there}
-use Rattle.mesh.proofs.Goings.{Head, head-range, head-same, passed-none, passed-append, due-next}
-
--- ---- where the words stand
-
--- a word of a link of a chip
-pub word-at : (c j k : ℕ) (l : List ℕ) → j < 6 → k < 51 → getD (lineWords j (chipWords c l)) k 0 ≡ getD l (chipPlace c + linePlace j + k) 0
-word-at c j k l hj hk =
-    getD-take 51 (drop (linePlace j) (chipWords c l)) k 0 hk
-    ∙ getD-drop (linePlace j) (chipWords c l) k 0
-    ∙ getD-take 322 (drop (chipPlace c) l) (linePlace j + k) 0 (omega arith)
-    ∙ getD-drop (chipPlace c) l (linePlace j + k) 0
-    ∙ ap (λ (i : ℕ). getD l i 0) (omega arith)
-
--- a packet in a link of a chip
-pub packet-there : (c j k : ℕ) (l : List ℕ) → j < 6 → k + 2 < 51 → packetIn (drop k (lineWords j (chipWords c l))) ≡ packetIn (drop (chipPlace c + linePlace j + k) l)
-packet-there c j k l hj hk =
-    let w = lineWords j (chipWords c l) in
-    let e₀ : getD w k 0 ≡ getD l (chipPlace c + linePlace j + k) 0 = word-at c j k l hj (omega arith) in
-    let e₁ : getD w (k + 1) 0 ≡ getD l (chipPlace c + linePlace j + k + 1) 0 = word-at c j (k + 1) l hj (omega arith) ∙ ap (λ (i : ℕ). getD l i 0) (omega arith) in
-    let e₂ : getD w (k + 2) 0 ≡ getD l (chipPlace c + linePlace j + k + 2) 0 = word-at c j (k + 2) l hj (omega arith) ∙ ap (λ (i : ℕ). getD l i 0) (omega arith) in
-    packet-at w k ∙ (λ i. record { control = e₀ i; nine = carriesOf (e₀ i); word = e₁ i; payload = e₂ i }) ∙ sym (packet-at l (chipPlace c + linePlace j + k))
-
--- the packet at one of n places
-places-at : (n i : ℕ) (w : List ℕ) (d : Flight (Unit {0})) → i < n → getD (placesIn n w) i d ≡ record { packet = packetIn (drop (i * 3) w); tag = tt }
-unfolding placesIn
-places-at zero i w d h = absurd (omega arith)
-places-at (suc n) zero w d h = refl
-places-at (suc n) (suc i) w d h =
-    let e : 3 + i * 3 ≡ suc i * 3 = omega arith in
-    places-at n i (drop 3 w) d (omega arith) ∙ (λ k. record { packet = packetIn ((drop-drop (i * 3) 3 w ∙ ap (λ (m : ℕ). drop m w) e) k); tag = tt })
-
--- ---- lists up to a number
-
-module _ {X : Type 0} where
-  pub upto-same : (f g : ℕ → List X) (n : ℕ) → ((k : ℕ) → k < n → f k ≡ g k) → upTo f n ≡ upTo g n
-  unfolding upTo
-  upto-same f g zero e = refl
-  upto-same f g (suc n) e = λ i. upto-same f g n (λ k h. e k (omega arith)) i ++ e n (omega arith) i
-
-  -- a list is its elements, one after the other
-  taken : (d : X) (xs : List X) (n : ℕ) → n ≤ length xs → take n xs ≡ upTo (λ k. getD xs k d ∷ []) n
-  unfolding upTo
-  taken d xs zero h = refl
-  taken d xs (suc n) h = take-suc xs n d (omega arith) ∙ ap (λ (l : List X). l ++ getD xs n d ∷ []) (taken d xs n (omega arith))
-
-  pub one-by-one : (d : X) (xs : List X) → xs ≡ upTo (λ k. getD xs k d ∷ []) (length xs)
-  one-by-one d xs = sym (take-all (length xs) xs (omega arith)) ∙ taken d xs (length xs) (omega arith)
-
-  -- what comes behind the part below k
-  pub rest : (f : ℕ → List X) (k m : ℕ) → List X
-  rest f k zero = []
-  rest f k (suc m) = rest f k m ++ f (k + m)
-
-  split-sum : (f : ℕ → List X) (k m : ℕ) → upTo f (k + m) ≡ upTo f k ++ rest f k m
-  unfolding upTo rest
-  split-sum f k zero = ap (upTo f) (add-zero k) ∙ sym (append-nil (upTo f k))
-  split-sum f k (suc m) = ap (upTo f) (add-suc k m) ∙ ap (λ (l : List X). l ++ f (k + m)) (split-sum f k m) ∙ append-assoc (upTo f k) (rest f k m) (f (k + m))
-
-  pub upto-split : (f : ℕ → List X) (k m : ℕ) → k < m → upTo f m ≡ upTo f k ++ (f k ++ rest f (suc k) (m - suc k))
-  unfolding upTo
-  upto-split f k m h =
-      let e : m ≡ suc k + (m - suc k) = omega arith in
-      ap (upTo f) e ∙ split-sum f (suc k) (m - suc k) ∙ append-assoc (upTo f k) (f k) (rest f (suc k) (m - suc k))
+use Rattle.mesh.proofs.LinkWords.{word-at, packet-there, places-at}
+use Rattle.mesh.proofs.ListsUpTo.{upto-same, one-by-one, rest, upto-split}
+use Rattle.mesh.proofs.Headers.{Head, head-range, head-same}
+use Rattle.mesh.proofs.Goings.{passed-none, passed-append, due-next}
 
 -- ---- passes leave it alone
 

@@ -29,7 +29,7 @@ use Rattle.mesh.proofs.ChipParts.{withLine, order, words-other, words-s
 use Rattle.mesh.proofs.MeshParts.{mesh-chip, mesh-put}
 use Rattle.mesh.proofs.StepAt.{chip-long}
 use Rattle.mesh.proofs.Upto.{line-long}
-use Rattle.mesh.proofs.Goings.{head-same}
+use Rattle.mesh.proofs.Headers.{head-same}
 use Rattle.mesh.proofs.SoundChanges.{sound-linked, sound-emptied}
 use Rattle.mesh.proofs.Counts.{words-enough}
 use Rattle.mesh.proofs.SoundWords.{holds-sound, holds-states, sound-holds}

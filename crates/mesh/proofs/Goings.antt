@@ -1,59 +1,31 @@
 -- Passes one after the other: one is as the mesh's definition says, and some followed by others are all of them. Assumes nothing.
 use mathlib.Core.Path.{_≡_, refl, sym, ap, _∙_, subst}
-use mathlib.Core.Logic.{_⊎_, inl, inr}
-use mathlib.Core.Bool.{true, _&&_, and-eq-true-iff}
-use mathlib.Core.List.{List, [], _∷_, _++_, foldl, append-assoc}
-use Prim.Native.Nat.{ℕ, zero, suc, _+_, _-_, _*_, _/_, _≤_, _<_}
+use mathlib.Core.Bool.{_&&_, and-eq-true-iff}
+use mathlib.Core.List.{List, [], _∷_, _++_, foldl}
+use Prim.Native.Nat.{ℕ, suc, _+_, _-_, _*_, _/_, _≤_, _<_}
 use native.Mathlib.Nat.{mul-le-mul, suc-mul, le-refl, le-trans, le-of-eq, add-sub-cancel-left}
 use native.Mathlib.Omega.{arith}
-use lib.Dec.{eqb, leb, ltb, lit<}
+use lib.Dec.{eqb, lit<}
 use lib.ListN.{length, getD, take, drop, length-append, length-drop}
-use lib.Seq.{getD-take, drop-drop, length-take-le}
-use borrow.Author.Tests.{leb-true, eqb-true}
-use Rattle.packet.specs.declared.Packet.{Packet}
+use lib.Seq.{drop-drop, length-take-le}
+use borrow.Author.Tests.{eqb-true}
 use Rattle.router.specs.declared.Outcome.{Outcome}
 use Rattle.router.specs.Deciding.{outcomeOf}
-use Rattle.router.specs.Call.{sizeFine}
 use Rattle.router.proofs.Inputs as inputs
 use Rattle.tables.specs.Accept.{climbs}
 use Rattle.tables.proofs.Starts.{start-below, start-end}
-use Rattle.mesh.specs.Mesh.{Chip, Mesh, fresh}
+use Rattle.mesh.specs.Mesh.{Chip, fresh}
 use Rattle.mesh.specs.Layout.{chipIn, chipPlace, meshOf, wordsFor}
 use Rattle.mesh.specs.Steps.{Tables, Arrival, Going, rowsAt, codesAt, logOf, outcomeAt, settingAt, chipAfter, withChip, passAt}
-use Rattle.mesh.specs.Chips.{lineWords, still}
+use Rattle.mesh.specs.Chips.{still}
 use Rattle.mesh.specs.Passing.{chipWords, settingIn, Ready, MeshStep}
 use Rattle.mesh.specs.Holding.{headFine}
-use Rattle.mesh.specs.Opening.{roundsFine}
 use Rattle.mesh.specs.Logs.{Logged}
-use Rattle.mesh.specs.Going.{chipsOf, same, arrival, goingIn, Lent, Due, Passed}
+use Rattle.mesh.specs.Going.{chipsOf, same, goingIn, Lent, Due, Passed}
 use Rattle.mesh.proofs.Alls.{all-right}
-use Rattle.mesh.proofs.FineSteps.{head-size}
+use Rattle.mesh.proofs.Headers.{Head, head-range, head-same, head-fine-same}
 use Rattle.mesh.proofs.MeshParts.{mesh-chip}
 use Rattle.mesh.specs.Sound.{All, Arrives}
-
--- ---- what a header in range says
-
-pub record Head (l : List ℕ) : Type 0 where
-  pub wide : 1 ≤ getD l 0 0
-  pub width : getD l 0 0 ≤ 12
-  pub tall : 1 ≤ getD l 1 0
-  pub height : getD l 1 0 ≤ 12
-  pub monitor : getD l 3 0 ≤ 19
-  pub phase : getD l 4 0 ≤ 3
-  pub few : chipsOf l ≤ 144
-
-pub head-range : (l : List ℕ) → headFine l ≡ true → Head l
-head-range l e =
-    let s = inputs.size (getD l 0 0) (getD l 1 0) (head-size l e) in
-    record {
-      wide = s .width-low;
-      width = s .width-high;
-      tall = s .height-low;
-      height = s .height-high;
-      monitor = omega (arith, leb-true, simp and-eq-true-iff at e);
-      phase = omega (arith, leb-true, simp and-eq-true-iff at e);
-      few = inputs.chips-small (getD l 0 0) (getD l 1 0) (head-size l e);
-    }
 
 -- ---- the tables of one chip
 
@@ -158,17 +130,6 @@ module _ (t : Tables) (a : Arrival (Unit {0})) (l log : List ℕ) (n : ℕ) (d :
       }
 
 -- ---- some, and then others
-
-pub head-same : (l l′ : List ℕ) → take 6 l′ ≡ take 6 l → (i : ℕ) → i < 6 → getD l′ i 0 ≡ getD l i 0
-head-same l l′ e i h = sym (getD-take 6 l′ i 0 h) ∙ ap (λ (w : List ℕ). getD w i 0) e ∙ getD-take 6 l i 0 h
-
-pub chips-kept : (l l′ : List ℕ) → take 6 l′ ≡ take 6 l → chipsOf l ≤ chipsOf l′
-chips-kept l l′ e = le-of-eq (λ i. sym (head-same l l′ e 1 (lit< tt)) i * sym (head-same l l′ e 0 (lit< tt)) i)
-
-pub head-fine-same : (l l′ : List ℕ) → take 6 l′ ≡ take 6 l → headFine l′ ≡ headFine l
-head-fine-same l l′ e =
-    let f = head-same l l′ e in
-    λ i. sizeFine (f 0 (lit< tt) i) (f 1 (lit< tt) i) && roundsFine (f 2 (lit< tt) i) && leb (f 3 (lit< tt) i) 19 && leb (f 4 (lit< tt) i) 3 && ltb (f 5 (lit< tt) i) (f 2 (lit< tt) i)
 
 pub passed-none : (t : Tables) (l log : List ℕ) (n : ℕ) → Passed t [] l log n l log n
 passed-none t l log n =

@@ -23,7 +23,7 @@ use Rattle.mesh.specs.Leaving.{Leaves, injectLeft}
 use Rattle.mesh.proofs.Counts.{holds-head, words-enough}
 use Rattle.mesh.proofs.SoundSteps.{sound-injected}
 use Rattle.mesh.proofs.SoundWords.{holds-sound, holds-states, sound-holds}
-use Rattle.mesh.proofs.Goings.{head-same}
+use Rattle.mesh.proofs.Headers.{head-same}
 use Rattle.mesh.proofs.Leaving.{refused-leaves, accepted-leaves, accepted-log}
 use Rattle.mesh.proofs.Accepts.{InjectGoes, inject-goes}
 

@@ -10,8 +10,11 @@ pub mod FineSteps
 pub mod Fitting
 pub mod Flights
 pub mod Goings
+pub mod Headers
 pub mod InjectCall
 pub mod Leaving
+pub mod LinkWords
+pub mod ListsUpTo
 pub mod Logs
 pub mod Looks
 pub mod MeshParts

@@ -30,7 +30,7 @@ use Rattle.mesh.proofs.Torus.{arrivals-count}
 use Rattle.mesh.proofs.SoundArrivals.{sound-arrivals}
 use Rattle.mesh.proofs.SoundSteps.{sound-rounded}
 use Rattle.mesh.proofs.SoundWords.{holds-sound, holds-states, sound-holds}
-use Rattle.mesh.proofs.Goings.{Head, head-range, head-same, head-fine-same}
+use Rattle.mesh.proofs.Headers.{Head, head-range, head-same, head-fine-same}
 use Rattle.mesh.proofs.RoundWords.{mesh-aside, aside-arrivals, few-aside, mesh-over, length-over, over-behind}
 use Rattle.mesh.proofs.Leaving.{refused-leaves, accepted-leaves, accepted-log}
 use Rattle.mesh.proofs.Accepts.{RoundGoes, round-goes}

@@ -20,8 +20,8 @@ use Rattle.mesh.proofs.ChipParts.{line-at}
 use Rattle.mesh.proofs.MeshParts.{mesh-chip}
 use Rattle.mesh.proofs.Places.{length-places}
 use Rattle.mesh.proofs.SoundArrivals.{across-there, opposite-there}
-use Rattle.mesh.proofs.Goings.{Head, head-same}
-use Rattle.mesh.proofs.Arrivals.{upto-same}
+use Rattle.mesh.proofs.Headers.{Head, head-same}
+use Rattle.mesh.proofs.ListsUpTo.{upto-same}
 
 -- ---- all set aside
 

@@ -1,4 +1,5 @@
 pub mod Determined
+pub mod FieldsBack
 pub mod First
 pub mod Folded
 pub mod Masks

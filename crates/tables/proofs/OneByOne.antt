@@ -1,8 +1,8 @@
 -- The tests of lent tables, entry by entry: what is known of all from those that are still to come. Assumes nothing.
-use mathlib.Core.Path.{_≡_, refl, sym, ap, _∙_, subst}
+use mathlib.Core.Path.{_≡_, refl, sym, ap, _∙_}
 use mathlib.Core.Bool.{Bool, true, false, _&&_, and-assoc, and-true}
-use mathlib.Core.List.{List, [], _∷_}
-use Prim.Native.Nat.{ℕ, suc, _+_, _*_, _/_, _^_, _<_, _≤_}
+use mathlib.Core.List.{List}
+use Prim.Native.Nat.{ℕ, _+_, _*_, _/_, _^_, _<_, _≤_}
 use native.Mathlib.Omega.{arith}
 use native.Mathlib.Numerals.{add-one}
 use lib.ListN.{length, getD, drop, drop-of-length-le}
@@ -10,7 +10,7 @@ use lib.Seq.{drop-cons}
 use lib.Dec.{ltb}
 use lib.Bits.{bitOr, bitAnd, or-lt, or-add-and, and-le-l, and-le-r}
 use borrow.Author.Tests.{lt-ltb, le-ltb, ltb-true, ltb-false}
-use Rattle.tables.specs.Rows.{Entry, rowsOf}
+use Rattle.tables.specs.Rows.{rowsOf}
 use Rattle.tables.specs.Accept.{allRoutes, allCodes}
 use Rattle.tables.proofs.RowByRow.{rows-step, rows-end}
 

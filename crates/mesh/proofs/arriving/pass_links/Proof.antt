@@ -5,7 +5,7 @@ use native.Mathlib.Numerals.{add-one}
 use Prim.Native.Nat.{_-_, _≤_, _<_}
 use Rattle.mesh.specs.Going.{tablesOf, upTo, asideBy, Passed}
 use Rattle.mesh.proofs.FineSteps.{head-size}
-use Rattle.mesh.proofs.Goings.{head-range}
+use Rattle.mesh.proofs.Headers.{head-range}
 use Rattle.mesh.proofs.Arrivals as arrivals
 use Rattle.mesh.proofs.arriving.pass_links.Statement.{statement}
 use Rattle.mesh.proofs.arriving.pass_links.Tie as tie

@@ -3,7 +3,7 @@ use mathlib.Core.Path.{_≡_, _∙_, sym}
 use native.Mathlib.Omega.{arith}
 use Rattle.mesh.specs.Going.{tablesOf}
 use Rattle.mesh.proofs.Counts.{holds-size, words-enough, few-held}
-use Rattle.mesh.proofs.Goings.{chips-kept}
+use Rattle.mesh.proofs.Headers.{chips-kept}
 use Rattle.mesh.proofs.RoundCall.{round-holds, round-refused, round-due, over-requires, count-small, round-leaves}
 use Rattle.mesh.proofs.moving.round.Statement.{statement}
 use Rattle.mesh.proofs.moving.round.Tie as tie
