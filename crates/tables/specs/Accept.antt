@@ -28,11 +28,12 @@ allCodes (c ∷ cs) = ltb c 8 && allCodes cs
 abbrev pub codesFine : List ℕ → ℕ → Bool
 codesFine s n = eqb (length s) n && allCodes s
 
--- In each of eight bytes, the bits above the lowest three: a code above 7 has one of them.
+-- In each of eight bytes, the bits above the lowest three: a code above 7 has one of them, and no other code has.
 abbrev pub aboveSeven : ℕ
 aboveSeven = 17940362863843014904
 
--- Where n codes stand in one number, a byte each, that number tells of all of them at once whether one is above 7.
+-- No rule of the model, but what the steps of that test promise each other: a number of n bytes that tells of n codes at once whether one is
+-- above 7. Where in it each of them stands is not said.
 abbrev pub SideBySide : ℕ → List ℕ → ℕ → ℕ → Type 0
 SideBySide n codes i r = (r < 2 ^ (8 * n)) × (allCodes (drop i codes) ≡ (eqb (bitAnd r aboveSeven) 0 && allCodes (drop (i + n) codes)))
 
