@@ -1,6 +1,6 @@
 // Case 13, and of case 15 the half about rows: one router, all links ready.
 use packet::reading::read;
-use router::Setting;
+use steps::Setting;
 use router::call::pass;
 
 // Lengths 0, 4, 6 and 10 are refused with 2, and C0 00 00 00 00, whose parity is even, with 3.

@@ -7,15 +7,18 @@ use lib.Dec.{lit<}
 use lib.ListN.{length, getD, drop, length-append, length-map, List·getD-map}
 use lib.Seq.{getD-drop, drop-drop}
 use Rattle.packet.specs.declared.Packet.{Packet}
-use Rattle.mesh.specs.Mesh.{Flight, across, opposite}
-use Rattle.mesh.specs.Layout.{packetIn, placesIn, asideIn, linePlace, chipPlace, wordsFor}
+use Rattle.links.specs.Line.{Flight}
+use Rattle.links.specs.Across.{across, opposite, asidePlace}
+use Rattle.links.specs.Words.{packetIn, placesIn, asideIn, linePlace, chipPlace}
+use Rattle.links.specs.Lines.{still}
+use Rattle.mesh.specs.Layout.{wordsFor}
 use Rattle.mesh.specs.Steps.{Tables, Arrival}
-use Rattle.mesh.specs.Chips.{lineWords, still}
+use Rattle.mesh.specs.Chips.{lineWords}
 use Rattle.mesh.specs.Passing.{chipWords}
 use Rattle.mesh.specs.Sound.{Arrives}
-use Rattle.mesh.specs.Going.{chipsOf, arrival, upTo, asideFor, asideBy, asideAt, asidePlace, AsideFew, Due, DueAside, Passed}
+use Rattle.mesh.specs.Going.{chipsOf, arrival, upTo, asideFor, asideBy, asideAt, AsideFew, Due, DueAside, Passed}
 use Rattle.mesh.proofs.Alls.{all-left}
-use Rattle.mesh.proofs.Places.{length-places}
+use Rattle.links.proofs.Places.{length-places}
 use Rattle.mesh.proofs.SoundArrivals.{across-there, opposite-there}
 use Rattle.mesh.proofs.LinkWords.{word-at, packet-there, places-at}
 use Rattle.mesh.proofs.ListsUpTo.{upto-same, one-by-one, rest, upto-split}

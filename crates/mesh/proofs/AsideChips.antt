@@ -7,7 +7,8 @@ use native.Mathlib.Omega.{arith}
 use lib.Dec.{lit<}
 use lib.ListN.{length, getD, take, drop}
 use Rattle.mesh.specs.Steps.{emptied, emptiedChip, setAside}
-use Rattle.mesh.specs.Layout.{part, lineIn, asideIn, registersIn, chipIn, chipPlace, chipsIn, meshOf}
+use Rattle.links.specs.Words.{part, lineIn, asideIn, chipPlace}
+use Rattle.mesh.specs.Layout.{registersIn, chipIn, chipsIn, meshOf}
 use Rattle.mesh.specs.Chips.{putBack, lineWords, Upto}
 use Rattle.mesh.specs.Passing.{chipWords}
 use Rattle.mesh.specs.Aside.{asideWords, asideOn, ChipAside, AsideUpto}

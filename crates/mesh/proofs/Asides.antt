@@ -6,9 +6,9 @@ use native.Mathlib.Omega.{arith}
 use lib.Dec.{eqb}
 use lib.ListN.{length, getD, take, drop, set, length-set, length-drop, List·getD-append}
 use lib.Seq.{paste, length-paste, length-take-le, length-paste-head, getD-take, getD-set-same, getD-set-other, drop-set-lt, drop-append-le, drop-at, take-append-le}
-use Rattle.mesh.specs.Mesh.{Flight, Line}
+use Rattle.links.specs.Line.{Flight, Line}
+use Rattle.links.specs.Words.{packetIn, placesIn, lineIn, asideIn}
 use Rattle.mesh.specs.Steps.{emptied}
-use Rattle.mesh.specs.Layout.{packetIn, placesIn, lineIn, asideIn}
 use Rattle.mesh.specs.Aside.{asideWords}
 
 module _ (w : List ℕ) (n : ℕ) (long : length w ≡ 51) (few : n ≤ 24) where

@@ -10,12 +10,15 @@ use lib.ListN.{length, getD, take, drop, set, replicate, length-set, length-appe
 use lib.Seq.{getD-set-same, getD-set-other, drop-set-lt, length-take-le}
 use borrow.Author.Tests.{eq-eqb, ne-eqb}
 use Rattle.packet.specs.Refusal.{firstOf}
-use Rattle.router.specs.declared.Registers.{Registers}
-use Rattle.router.specs.Keeping.{empty}
+use Rattle.kept.specs.declared.Registers.{Registers}
+use Rattle.kept.specs.Keeping.{empty}
 use Rattle.mesh.specs.declared.Added.{Added}
 use Rattle.mesh.specs.declared.RegistersRead.{RegistersRead}
-use Rattle.mesh.specs.Mesh.{Line, Chip, Mesh, idle, fresh}
-use Rattle.mesh.specs.Layout.{part, placesIn, lineIn, registersIn, linePlace, chipIn, chipPlace, meshOf, wordsFor}
+use Rattle.links.specs.Line.{Line, idle}
+use Rattle.links.specs.Words.{part, placesIn, lineIn, linePlace, chipPlace}
+use Rattle.links.specs.Lines.{stateOf}
+use Rattle.mesh.specs.Mesh.{Chip, Mesh, fresh}
+use Rattle.mesh.specs.Layout.{registersIn, chipIn, meshOf, wordsFor}
 use Rattle.mesh.specs.Steps.{Going, withChip}
 use Rattle.mesh.specs.Holding.{holdsMesh}
 use Rattle.mesh.specs.Chips.{putBack, changedOn, lineWords}
@@ -23,7 +26,7 @@ use Rattle.mesh.specs.Passing.{chipWords}
 use Rattle.mesh.specs.Sound.{SoundMesh, StatesFine}
 use Rattle.mesh.specs.Going.{chipsOf}
 use Rattle.mesh.specs.Calls.{chipRefusals, numberRefusals, unless, chipOf, lineOf, withUp, withLink, withEmpty, registersRead}
-use Rattle.mesh.specs.Leaving.{Leaves, linkLeft, registersLeft, stateOf, stateOn}
+use Rattle.mesh.specs.Leaving.{Leaves, linkLeft, registersLeft, stateOn}
 use Rattle.mesh.proofs.Parts.{length-back, part-same, part-before, part-behind, take-before, drop-behind}
 use Rattle.mesh.proofs.ChipParts.{withLine, order, words-other, words-same, chip-line}
 use Rattle.mesh.proofs.MeshParts.{mesh-chip, mesh-put}

@@ -9,8 +9,10 @@ use lib.ListN.{length, getD, take, drop, set, length-set}
 use lib.Dec.{lit<, lit≤}
 use lib.Seq.{getD-set-same, getD-set-other}
 use Rattle.router.proofs.LowestFirst.{six}
-use Rattle.mesh.specs.Mesh.{Line, Chip, idle}
-use Rattle.mesh.specs.Layout.{part, lineIn, asideIn, registersIn, linePlace, chipIn}
+use Rattle.links.specs.Line.{Line, idle}
+use Rattle.links.specs.Words.{part, lineIn, asideIn, linePlace}
+use Rattle.mesh.specs.Mesh.{Chip}
+use Rattle.mesh.specs.Layout.{registersIn, chipIn}
 use Rattle.mesh.specs.Chips.{putBack, lineWords}
 use Rattle.mesh.proofs.Parts.{part-same, part-before, part-behind}
 

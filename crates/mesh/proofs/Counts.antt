@@ -11,7 +11,8 @@ use lib.Seq.{length-take-le}
 use borrow.Author.Tests.{leb-true}
 use Rattle.router.specs.Call.{sizeFine}
 use Rattle.router.proofs.Inputs.{chips-small}
-use Rattle.mesh.specs.Layout.{part, registersIn, chipPlace, wordsFor}
+use Rattle.links.specs.Words.{part, chipPlace}
+use Rattle.mesh.specs.Layout.{registersIn, wordsFor}
 use Rattle.mesh.specs.Chips.{lineWords}
 use Rattle.mesh.specs.Passing.{chipWords}
 use Rattle.mesh.specs.Holding.{registersFine, placesFine, lineFine, chipFine, chipsFine, headFine, holdsMesh}

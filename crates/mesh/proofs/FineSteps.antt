@@ -8,7 +8,7 @@ use lib.Dec.{leb, ltb}
 use lib.ListN.{getD, drop}
 use Rattle.router.specs.Call.{sizeFine}
 use lib.Seq.{drop-drop}
-use Rattle.mesh.specs.Layout.{part, packetIn, chipPlace}
+use Rattle.links.specs.Words.{part, packetIn, chipPlace}
 use Rattle.mesh.specs.Holding.{packetFine, placesFine, chipFine, chipsFine, headFine}
 use Rattle.mesh.specs.Opening.{roundsFine}
 

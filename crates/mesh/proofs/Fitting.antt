@@ -12,18 +12,19 @@ use borrow.Author.Tests.{eqb-true, eqb-false, ne-eqb, not-false}
 use Rattle.packet.specs.declared.Packet.{Packet}
 use Rattle.packet.specs.Control.{carriesOf}
 use Rattle.packet.proofs.Rewrite.{FieldSet}
-use Rattle.router.specs.declared.Outcome.{Outcome}
-use Rattle.router.specs.declared.Setting.{Setting}
-use Rattle.router.specs.Links.{has, setOf, linksOf}
-use Rattle.router.specs.Detour.{carries, sends}
-use Rattle.router.specs.Errors.{errorsOf, stampedOf}
-use Rattle.router.specs.Wants.{wantedOf}
-use Rattle.router.specs.Deciding.{isMc, hasLeg, legSet, decided, outcomeOf, packetOn, legPacket, Checked}
-use Rattle.router.proofs.Bounds.{Sets, outcome-sets}
-use Rattle.router.proofs.OnePass as pass
+use Rattle.steps.specs.declared.Outcome.{Outcome}
+use Rattle.steps.specs.declared.Setting.{Setting}
+use Rattle.steps.specs.Links.{has, setOf, linksOf}
+use Rattle.steps.specs.Detour.{carries, sends}
+use Rattle.steps.specs.Errors.{errorsOf, stampedOf}
+use Rattle.steps.specs.Wants.{wantedOf}
+use Rattle.steps.specs.Deciding.{isMc, hasLeg, legSet, decided, outcomeOf, packetOn, legPacket, Checked}
+use Rattle.steps.proofs.Bounds.{Sets, outcome-sets}
+use Rattle.kept.proofs.OnePass as pass
 use Rattle.mesh.specs.Mesh.{readyOf}
 use Rattle.mesh.specs.Layout.{chipIn}
-use Rattle.mesh.specs.Chips.{lineWords, Right, Takes}
+use Rattle.links.specs.Lines.{Right}
+use Rattle.mesh.specs.Chips.{lineWords, Takes}
 use Rattle.mesh.proofs.Sets.{has-set}
 use Rattle.mesh.proofs.Ready.{sent-ready, leg-ready, ready-room}
 

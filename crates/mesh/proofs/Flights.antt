@@ -8,14 +8,15 @@ use native.Mathlib.Omega.{arith}
 use lib.Dec.{lit<}
 use lib.ListN.{getD, drop}
 use lib.Seq.{getD-take, getD-drop}
-use Rattle.mesh.specs.Layout.{linePlace, lineIn, chipsIn, meshOf}
+use Rattle.links.specs.Words.{linePlace, lineIn}
+use Rattle.mesh.specs.Layout.{chipsIn, meshOf}
 use Rattle.mesh.specs.Chips.{lineWords}
 use Rattle.mesh.specs.Passing.{chipWords}
 use Rattle.mesh.specs.Holding.{holdsMesh}
 use Rattle.mesh.specs.Weights.{total, onLine, onChip, inFlight}
 use Rattle.mesh.specs.Held.{chipFlight, Few}
 use Rattle.mesh.proofs.Counts.{few-held}
-use Rattle.mesh.proofs.Places.{length-places}
+use Rattle.links.proofs.Places.{length-places}
 use Rattle.mesh.proofs.Totals.{total-ones}
 
 -- ---- on one chip

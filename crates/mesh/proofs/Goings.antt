@@ -9,15 +9,16 @@ use lib.Dec.{eqb, lit<}
 use lib.ListN.{length, getD, take, drop, length-append, length-drop}
 use lib.Seq.{drop-drop, length-take-le}
 use borrow.Author.Tests.{eqb-true}
-use Rattle.router.specs.declared.Outcome.{Outcome}
-use Rattle.router.specs.Deciding.{outcomeOf}
+use Rattle.steps.specs.declared.Outcome.{Outcome}
+use Rattle.steps.specs.Deciding.{outcomeOf}
 use Rattle.router.proofs.Inputs as inputs
 use Rattle.tables.specs.Accept.{climbs}
 use Rattle.tables.proofs.Starts.{start-below, start-end}
 use Rattle.mesh.specs.Mesh.{Chip, fresh}
-use Rattle.mesh.specs.Layout.{chipIn, chipPlace, meshOf, wordsFor}
+use Rattle.links.specs.Words.{chipPlace}
+use Rattle.links.specs.Lines.{still}
+use Rattle.mesh.specs.Layout.{chipIn, meshOf, wordsFor}
 use Rattle.mesh.specs.Steps.{Tables, Arrival, Going, rowsAt, codesAt, logOf, outcomeAt, settingAt, chipAfter, withChip, passAt}
-use Rattle.mesh.specs.Chips.{still}
 use Rattle.mesh.specs.Passing.{chipWords, settingIn, Ready, MeshStep}
 use Rattle.mesh.specs.Holding.{headFine}
 use Rattle.mesh.specs.Logs.{Logged}

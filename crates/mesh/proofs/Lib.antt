@@ -20,7 +20,6 @@ pub mod Looks
 pub mod MeshParts
 pub mod Opened
 pub mod Parts
-pub mod Places
 pub mod Ready
 pub mod Refusals
 pub mod RegistersCall

@@ -6,11 +6,11 @@ use native.Mathlib.Omega.{arith}
 use lib.ListN.{getD, drop}
 use lib.Seq.{getD-take, getD-drop, drop-drop}
 use Rattle.packet.specs.Control.{carriesOf}
-use Rattle.mesh.specs.Mesh.{Flight}
-use Rattle.mesh.specs.Layout.{packetIn, placesIn, linePlace, chipPlace}
+use Rattle.links.specs.Line.{Flight}
+use Rattle.links.specs.Words.{packetIn, placesIn, linePlace, chipPlace}
 use Rattle.mesh.specs.Chips.{lineWords}
 use Rattle.mesh.specs.Passing.{chipWords}
-use Rattle.mesh.proofs.Places.{packet-at}
+use Rattle.links.proofs.Places.{packet-at}
 
 -- a word of a link of a chip
 pub word-at : (c j k : ℕ) (l : List ℕ) → j < 6 → k < 51 → getD (lineWords j (chipWords c l)) k 0 ≡ getD l (chipPlace c + linePlace j + k) 0

@@ -14,8 +14,10 @@ use Rattle.mesh.specs.declared.CountRead.{CountRead}
 use Rattle.mesh.specs.declared.LinkRead.{LinkRead}
 use Rattle.mesh.specs.declared.MeshRead.{MeshRead}
 use Rattle.mesh.specs.Weights.{inFlight}
-use Rattle.mesh.specs.Mesh.{Line, Chip, idle, fresh}
-use Rattle.mesh.specs.Layout.{part, lineIn, linePlace, chipIn, chipPlace, meshOf, wordsFor}
+use Rattle.links.specs.Line.{Line, idle}
+use Rattle.links.specs.Words.{part, lineIn, linePlace, chipPlace}
+use Rattle.mesh.specs.Mesh.{Chip, fresh}
+use Rattle.mesh.specs.Layout.{chipIn, meshOf, wordsFor}
 use Rattle.mesh.specs.Holding.{holdsMesh}
 use Rattle.mesh.specs.Chips.{lineWords}
 use Rattle.mesh.specs.Passing.{chipWords}

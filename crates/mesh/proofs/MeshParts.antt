@@ -9,7 +9,8 @@ use lib.Dec.{lit<}
 use lib.ListN.{length, getD, take, drop, set}
 use Rattle.mesh.specs.Mesh.{Chip, Mesh, fresh}
 use Rattle.mesh.specs.Steps.{withChip}
-use Rattle.mesh.specs.Layout.{part, chipIn, chipPlace, chipsIn, meshOf, wordsFor}
+use Rattle.links.specs.Words.{part, chipPlace}
+use Rattle.mesh.specs.Layout.{chipIn, chipsIn, meshOf, wordsFor}
 use Rattle.mesh.specs.Chips.{putBack}
 use Rattle.mesh.specs.Passing.{chipWords}
 use Rattle.mesh.proofs.Parts.{part-same, part-before, part-behind, getD-before}

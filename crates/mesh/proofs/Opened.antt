@@ -9,7 +9,8 @@ use borrow.Author.Tests.{ltb-false, not-false}
 use Rattle.packet.specs.Refusal.{firstOf}
 use Rattle.packet.proofs.First.{none-applies}
 use Rattle.mesh.specs.Mesh.{fresh, opened}
-use Rattle.mesh.specs.Layout.{part, placesIn, chipIn, chipPlace, chipsIn, meshOf, wordsFor}
+use Rattle.links.specs.Words.{part, placesIn, chipPlace}
+use Rattle.mesh.specs.Layout.{chipIn, chipsIn, meshOf, wordsFor}
 use Rattle.mesh.specs.Opening.{roundsFine, openRefusals, openedWords}
 use Rattle.mesh.specs.Holding.{holdsMesh}
 use Rattle.mesh.specs.Chips.{lineWords}

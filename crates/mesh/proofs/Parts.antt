@@ -6,7 +6,7 @@ use native.Mathlib.Nat.{zero-add, suc-add}
 use native.Mathlib.Omega.{arith}
 use lib.ListN.{length, getD, take, drop, length-take, length-drop, length-append}
 use lib.Seq.{length-take-le, take-append-le, take-at, drop-at, drop-drop, take-take, take-nil, getD-take}
-use Rattle.mesh.specs.Layout.{part}
+use Rattle.links.specs.Words.{part}
 use Rattle.mesh.specs.Chips.{putBack}
 
 -- a part is the end of a beginning

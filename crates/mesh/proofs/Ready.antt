@@ -8,17 +8,19 @@ use lib.Dec.{eqb, leb}
 use lib.ListN.{length, getD}
 use borrow.Author.Tests.{leb-true}
 use Rattle.packet.specs.declared.Packet.{Packet}
-use Rattle.router.specs.declared.Outcome.{Outcome}
-use Rattle.router.specs.declared.Setting.{Setting}
-use Rattle.router.specs.declared.Wanted.{Wanted}
-use Rattle.router.specs.Links.{has, setOf, linksOf}
-use Rattle.router.specs.Detour.{carries, sends}
-use Rattle.router.specs.Deciding.{isMc, legSet, decided, outcomeOf}
-use Rattle.mesh.specs.Mesh.{isReady, readyOf, idle}
-use Rattle.mesh.specs.Layout.{lineIn, chipIn}
+use Rattle.steps.specs.declared.Outcome.{Outcome}
+use Rattle.steps.specs.declared.Setting.{Setting}
+use Rattle.steps.specs.declared.Wanted.{Wanted}
+use Rattle.steps.specs.Links.{has, setOf, linksOf}
+use Rattle.steps.specs.Detour.{carries, sends}
+use Rattle.steps.specs.Deciding.{isMc, legSet, decided, outcomeOf}
+use Rattle.links.specs.Line.{isReady, idle}
+use Rattle.links.specs.Words.{lineIn}
+use Rattle.mesh.specs.Mesh.{readyOf}
+use Rattle.mesh.specs.Layout.{chipIn}
 use Rattle.mesh.specs.Chips.{lineWords}
 use Rattle.mesh.proofs.Sets.{has-set}
-use Rattle.mesh.proofs.Places.{length-places}
+use Rattle.links.proofs.Places.{length-places}
 use Rattle.mesh.proofs.ChipParts.{line-at}
 
 -- a link that a pass sends by is in its ready set

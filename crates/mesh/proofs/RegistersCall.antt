@@ -9,12 +9,13 @@ use lib.ListN.{length, getD, take, drop, replicate, length-append, length-drop}
 use lib.Seq.{take-take, length-take-le}
 use borrow.Author.Tests.{eq-eqb, ne-eqb}
 use Rattle.packet.specs.Refusal.{firstOf}
-use Rattle.router.specs.declared.Registers.{Registers}
-use Rattle.router.specs.Keeping.{empty}
+use Rattle.kept.specs.declared.Registers.{Registers}
+use Rattle.kept.specs.Keeping.{empty}
 use Rattle.mesh.specs.declared.Added.{Added}
 use Rattle.mesh.specs.declared.RegistersRead.{RegistersRead}
 use Rattle.mesh.specs.Mesh.{Chip}
-use Rattle.mesh.specs.Layout.{part, lineIn, registersIn, linePlace, chipIn, chipPlace, meshOf}
+use Rattle.links.specs.Words.{part, lineIn, linePlace, chipPlace}
+use Rattle.mesh.specs.Layout.{registersIn, chipIn, meshOf}
 use Rattle.mesh.specs.Steps.{withChip}
 use Rattle.mesh.specs.Holding.{holdsMesh}
 use Rattle.mesh.specs.Chips.{putBack, lineWords}

@@ -12,7 +12,8 @@ use Rattle.router.proofs.Inputs as inputs
 use lib.ListN.{length, getD, take, drop}
 use Rattle.mesh.specs.declared.Added.{Added}
 use Rattle.mesh.specs.Mesh.{Chip, Mesh, fresh}
-use Rattle.mesh.specs.Layout.{part, chipIn, chipPlace, meshOf, wordsFor}
+use Rattle.links.specs.Words.{part, chipPlace}
+use Rattle.mesh.specs.Layout.{chipIn, meshOf, wordsFor}
 use Rattle.mesh.specs.Steps.{Tables, Going, setAside, arrivals, passAt, roundOver, rounded}
 use Rattle.mesh.specs.Holding.{holdsMesh, headFine}
 use Rattle.mesh.specs.Chips.{lineWords}

@@ -8,9 +8,13 @@ use native.Mathlib.Nat.{zero-add, add-zero, add-suc, suc-add}
 use lib.Dec.{ltb, lit<}
 use lib.ListN.{length, getD, take, drop, set, length-set}
 use lib.Seq.{getD-drop, getD-set-same, getD-set-other, drop-set-lt}
-use Rattle.mesh.specs.Mesh.{Flight, Chip, Mesh, idle, fresh, across, opposite}
-use Rattle.mesh.specs.Layout.{part, lineIn, asideIn, placesIn, chipIn, chipPlace, chipsIn, meshOf}
-use Rattle.mesh.specs.Steps.{Arrival, nextPhase, emptiedChip, setAside, arrivingBy, arrivingAt, arrivingFrom, arrivals, roundOver}
+use Rattle.links.specs.Line.{Flight, idle}
+use Rattle.links.specs.Across.{across, opposite}
+use Rattle.links.specs.Phase.{nextPhase}
+use Rattle.links.specs.Words.{part, lineIn, asideIn, placesIn, chipPlace}
+use Rattle.mesh.specs.Mesh.{Chip, Mesh, fresh}
+use Rattle.mesh.specs.Layout.{chipIn, chipsIn, meshOf}
+use Rattle.mesh.specs.Steps.{Arrival, emptiedChip, setAside, arrivingBy, arrivingAt, arrivingFrom, arrivals, roundOver}
 use Rattle.mesh.specs.Chips.{lineWords}
 use Rattle.mesh.specs.Passing.{chipWords}
 use Rattle.mesh.specs.Aside.{ChipAside, AsideUpto}
@@ -18,7 +22,7 @@ use Rattle.mesh.specs.Going.{chipsOf, upTo, asideBy, asideAt, asideFor, 
 use Rattle.mesh.specs.Leaving.{overWords}
 use Rattle.mesh.proofs.ChipParts.{line-at}
 use Rattle.mesh.proofs.MeshParts.{mesh-chip}
-use Rattle.mesh.proofs.Places.{length-places}
+use Rattle.links.proofs.Places.{length-places}
 use Rattle.mesh.proofs.SoundArrivals.{across-there, opposite-there}
 use Rattle.mesh.proofs.Headers.{Head, head-same}
 use Rattle.mesh.proofs.ListsUpTo.{upto-same}

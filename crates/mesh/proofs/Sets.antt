@@ -4,7 +4,7 @@ use mathlib.Core.Bool.{Bool, true, false, cond}
 use Prim.Native.Nat.{ℕ, zero, suc, _+_, _*_, _/_, _%_, _^_, _≤_, _<_}
 use native.Mathlib.Omega.{arith}
 use lib.Dec.{eqb}
-use Rattle.router.specs.Links.{has, setOf}
+use Rattle.steps.specs.Links.{has, setOf}
 
 bit : Bool → ℕ
 bit b = cond b 1 0

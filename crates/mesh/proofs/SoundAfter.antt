@@ -8,14 +8,15 @@ use lib.Dec.{leb, lit<}
 use lib.ListN.{length, getD, length-append}
 use borrow.Author.Tests.{leb-true}
 use Rattle.packet.specs.declared.Packet.{Packet}
-use Rattle.router.specs.declared.Outcome.{Outcome}
-use Rattle.router.specs.declared.Setting.{Setting}
-use Rattle.router.specs.Links.{has}
-use Rattle.router.specs.Deciding.{outcomeOf, packetOn, legPacket, Checked}
+use Rattle.steps.specs.declared.Outcome.{Outcome}
+use Rattle.steps.specs.declared.Setting.{Setting}
+use Rattle.steps.specs.Links.{has}
+use Rattle.steps.specs.Deciding.{outcomeOf, packetOn, legPacket, Checked}
 use Rattle.router.proofs.LowestFirst.{six}
-use Rattle.router.proofs.OnePass as pass
-use Rattle.mesh.specs.Mesh.{Flight, Line, Chip, idle, isReady, readyOf}
-use Rattle.mesh.specs.Steps.{sent, lineAfter, linesAfter, chipAfter}
+use Rattle.kept.proofs.OnePass as pass
+use Rattle.links.specs.Line.{Flight, Line, idle, isReady, sent, lineAfter}
+use Rattle.mesh.specs.Mesh.{Chip, readyOf}
+use Rattle.mesh.specs.Steps.{linesAfter, chipAfter}
 use Rattle.mesh.specs.Sound.{All, Passable, SoundPacket, SoundLine, SoundChip}
 use Rattle.mesh.proofs.Alls.{all-append, all-getD}
 use Rattle.mesh.proofs.Sets.{has-set}

@@ -10,7 +10,9 @@ use lib.ListN.{getD}
 use borrow.Author.Tests.{ltb-true, leb-true, eqb-true, not-true}
 use Rattle.packet.specs.declared.Packet.{Packet}
 use Rattle.router.proofs.Inputs as inputs
-use Rattle.mesh.specs.Mesh.{Mesh, idle, fresh, across, opposite, stepEast, stepNorth}
+use Rattle.links.specs.Line.{idle}
+use Rattle.links.specs.Across.{across, opposite, stepEast, stepNorth}
+use Rattle.mesh.specs.Mesh.{Mesh, fresh}
 use Rattle.mesh.specs.Steps.{Arrival, arrivingBy, arrivingAt, arrivingFrom, arrivals}
 use Rattle.mesh.specs.Sound.{All, Passable, Arrives, SoundPacket, SoundLine, SoundChip, SoundMesh}
 use Rattle.mesh.proofs.Alls.{all-nil, all-append, all-getD, all-map, all-weaken}

@@ -4,7 +4,8 @@ use mathlib.Core.Bool.{Bool}
 use Prim.Native.Nat.{ℕ, _*_, _<_}
 use native.Mathlib.Omega.{arith}
 use lib.ListN.{getD, length-set}
-use Rattle.mesh.specs.Mesh.{Chip, Mesh, idle, fresh}
+use Rattle.links.specs.Line.{idle}
+use Rattle.mesh.specs.Mesh.{Chip, Mesh, fresh}
 use Rattle.mesh.specs.Steps.{withChip}
 use Rattle.mesh.specs.Calls.{withLink, withEmpty}
 use Rattle.mesh.specs.Sound.{SoundLine, SoundChip, SoundMesh}

@@ -10,15 +10,15 @@ use lib.Dec.{eqb, ltb, lit<}
 use borrow.Author.Tests.{eqb-true, eqb-false, lt-ltb, le-leb, ne-eqb}
 use Rattle.packet.specs.declared.Packet.{Packet}
 use Rattle.packet.specs.Parity.{isOdd}
-use Rattle.router.specs.declared.Outcome.{Outcome}
-use Rattle.router.specs.declared.Registers.{Registers}
-use Rattle.router.specs.declared.Setting.{Setting}
-use Rattle.router.specs.Links.{has, setOf}
-use Rattle.router.specs.Detour.{drops}
-use Rattle.router.specs.Errors.{errorsOf, stampedOf}
-use Rattle.router.specs.Deciding.{isMc, legSet, decided, outcomeOf, Checked}
-use Rattle.router.specs.Keeping.{isEmpty, dropCount, lowest, firstDrop, withMore, keptOf}
-use Rattle.router.proofs.OnePass as pass
+use Rattle.steps.specs.declared.Outcome.{Outcome}
+use Rattle.kept.specs.declared.Registers.{Registers}
+use Rattle.steps.specs.declared.Setting.{Setting}
+use Rattle.steps.specs.Links.{has, setOf}
+use Rattle.steps.specs.Detour.{drops}
+use Rattle.steps.specs.Errors.{errorsOf, stampedOf}
+use Rattle.steps.specs.Deciding.{isMc, legSet, decided, outcomeOf, Checked}
+use Rattle.kept.specs.Keeping.{isEmpty, dropCount, lowest, firstDrop, withMore, keptOf}
+use Rattle.kept.proofs.OnePass as pass
 use Rattle.mesh.specs.Holding.{registersFine}
 use Rattle.mesh.specs.Sound.{Passable}
 use Rattle.mesh.proofs.Fitting.{no-link-wanted}

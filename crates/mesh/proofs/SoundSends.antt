@@ -10,13 +10,13 @@ use Rattle.packet.specs.declared.Packet.{Packet}
 use Rattle.packet.specs.Control.{kindOf, markOf}
 use Rattle.packet.specs.Parity.{isOdd, withStamp}
 use Rattle.packet.proofs.Rewrite.{FieldSet, stamp-set}
-use Rattle.router.specs.declared.Setting.{Setting}
-use Rattle.router.specs.Links.{has, link}
+use Rattle.steps.specs.declared.Setting.{Setting}
+use Rattle.steps.specs.Links.{has, link}
 use Rattle.router.specs.Call.{isDirect}
-use Rattle.router.specs.Errors.{errorsOf, stampedOf}
-use Rattle.router.specs.Deciding.{isMc, hasLeg, legSet, decided, outcomeOf, packetOn, legPacket, Checked}
-use Rattle.router.proofs.OnePass as pass
-use Rattle.mesh.specs.Chips.{Right}
+use Rattle.steps.specs.Errors.{errorsOf, stampedOf}
+use Rattle.steps.specs.Deciding.{isMc, hasLeg, legSet, decided, outcomeOf, packetOn, legPacket, Checked}
+use Rattle.kept.proofs.OnePass as pass
+use Rattle.links.specs.Lines.{Right}
 use Rattle.mesh.specs.Sound.{Passable, SoundPacket}
 use Rattle.mesh.proofs.Sets.{has-set}
 use Rattle.mesh.proofs.Fitting.{has-none, stamped-right, sent-right, leg-right, sent-no-error, leg-no-error}

@@ -11,10 +11,12 @@ use lib.ListN.{length, getD, take, drop, length-set, length-drop, length-replica
 use lib.Seq.{length-take-le}
 use borrow.Author.Tests.{ltb-true, leb-true}
 use Rattle.router.specs.Call.{sizeFine}
-use Rattle.router.specs.Deciding.{Checked}
-use Rattle.router.proofs.Bounds.{set-small}
-use Rattle.mesh.specs.Mesh.{Flight, Line, Chip, Mesh, idle, fresh, opened, isReady}
-use Rattle.mesh.specs.Steps.{Tables, Arrival, Going, rowsAt, codesAt, settingAt, nextPhase, emptied, emptiedChip, setAside, arrivals, roundOver, passAt, injected, passed, rounded}
+use Rattle.steps.specs.Deciding.{Checked}
+use Rattle.steps.proofs.Bounds.{set-small}
+use Rattle.links.specs.Line.{Flight, Line, idle, isReady}
+use Rattle.links.specs.Phase.{nextPhase}
+use Rattle.mesh.specs.Mesh.{Chip, Mesh, fresh, opened}
+use Rattle.mesh.specs.Steps.{Tables, Arrival, Going, rowsAt, codesAt, settingAt, emptied, emptiedChip, setAside, arrivals, roundOver, passAt, injected, passed, rounded}
 use Rattle.mesh.specs.Opening.{roundsFine}
 use Rattle.mesh.specs.Sound.{All, Passable, Arrives, SoundLine, SoundChip, SoundMesh}
 use Rattle.mesh.proofs.Alls.{all-nil, all-getD, all-set, all-map, all-weaken, all-replicate}

@@ -8,14 +8,15 @@ use lib.Dec.{leb, ltb, lit<}
 use lib.ListN.{length, getD, drop}
 use borrow.Author.Tests.{ltb-true, leb-true, le-leb, lt-ltb}
 use Rattle.router.specs.Call.{sizeFine}
-use Rattle.mesh.specs.Mesh.{Flight, idle}
-use Rattle.mesh.specs.Layout.{part, packetIn, placesIn, lineIn, registersIn, chipIn, chipsIn, meshOf, wordsFor}
+use Rattle.links.specs.Line.{Flight, idle}
+use Rattle.links.specs.Words.{part, packetIn, placesIn, lineIn}
+use Rattle.mesh.specs.Layout.{registersIn, chipIn, chipsIn, meshOf, wordsFor}
 use Rattle.mesh.specs.Chips.{lineWords}
 use Rattle.mesh.specs.Passing.{chipWords}
 use Rattle.mesh.specs.Holding.{packetFine, placesFine, lineFine, registersFine, chipFine, chipsFine, headFine, holdsMesh}
 use Rattle.mesh.specs.Opening.{roundsFine}
 use Rattle.mesh.specs.Sound.{All, SoundPacket, SoundLine, SoundChip, SoundMesh, StatesFine}
-use Rattle.mesh.proofs.Places.{length-places}
+use Rattle.links.proofs.Places.{length-places}
 use Rattle.mesh.proofs.ChipParts.{line-at}
 use Rattle.mesh.proofs.Alls.{all-getD}
 use Rattle.mesh.proofs.Counts.{holds-head, holds-chips, chip-held, line-held, registers-held}

@@ -8,13 +8,15 @@ use lib.ListN.{length, getD, drop}
 use lib.Seq.{length-take-le}
 use lib.ListN.{length-drop}
 use Rattle.packet.specs.declared.Packet.{Packet}
-use Rattle.router.specs.declared.Outcome.{Outcome}
-use Rattle.router.specs.Deciding.{Checked}
-use Rattle.router.proofs.Bounds.{set-small}
-use Rattle.mesh.specs.Mesh.{isReady, idle}
-use Rattle.mesh.specs.Layout.{chipIn, chipPlace, meshOf, wordsFor}
+use Rattle.steps.specs.declared.Outcome.{Outcome}
+use Rattle.steps.specs.Deciding.{Checked}
+use Rattle.steps.proofs.Bounds.{set-small}
+use Rattle.links.specs.Line.{isReady, idle}
+use Rattle.links.specs.Words.{chipPlace}
+use Rattle.links.specs.Lines.{still}
+use Rattle.mesh.specs.Layout.{chipIn, meshOf, wordsFor}
 use Rattle.mesh.specs.Steps.{withChip}
-use Rattle.mesh.specs.Chips.{putBack, lineWords, still, ChipStep}
+use Rattle.mesh.specs.Chips.{putBack, lineWords, ChipStep}
 use Rattle.mesh.specs.Passing.{chipWords, settingIn, Ready, MeshStep}
 use Rattle.mesh.proofs.Parts.{length-back, part-same, part-before, part-behind, take-before, drop-behind}
 use Rattle.mesh.proofs.ChipParts.{order}

@@ -5,7 +5,9 @@ use native.Mathlib.Nat.{add-zero, zero-add}
 use native.Mathlib.Omega.{arith}
 use lib.ListN.{length, getD}
 use Rattle.router.proofs.LowestFirst.{six}
-use Rattle.mesh.specs.Mesh.{Flight, Chip, Mesh, idle, fresh, stepEast, stepNorth, across, opposite}
+use Rattle.links.specs.Line.{Flight, idle}
+use Rattle.links.specs.Across.{stepEast, stepNorth, across, opposite}
+use Rattle.mesh.specs.Mesh.{Chip, Mesh, fresh}
 use Rattle.mesh.specs.Steps.{Arrival, arrivingBy, arrivingAt, arrivingFrom, arrivals}
 use Rattle.mesh.specs.Weights.{total, onLine, onChip, onMesh, inFlight}
 use Rattle.mesh.proofs.Sums.{sumTo, sum-same, sum-add, sum-first, total-sum, sum-torus}

@@ -9,16 +9,18 @@ use native.Mathlib.Omega.{arith}
 use lib.ListN.{length, getD, take, drop, length-drop}
 use lib.Seq.{length-take-le}
 use lib.Dec.{lit<}
-use Rattle.router.specs.declared.Outcome.{Outcome}
-use Rattle.router.specs.Keeping.{keptOf}
-use Rattle.router.specs.Counting.{countedOf}
-use Rattle.mesh.specs.Steps.{lineAfter, linesAfter, chipAfter}
-use Rattle.mesh.specs.Layout.{part, lineIn, registersIn, linePlace, chipIn}
-use Rattle.mesh.specs.Lines.{sentWords, Room}
-use Rattle.mesh.specs.Chips.{putBack, changedOn, sending, registerWords, lineWords, still, Takes, ChipStep, Upto}
+use Rattle.steps.specs.declared.Outcome.{Outcome}
+use Rattle.kept.specs.Keeping.{keptOf}
+use Rattle.kept.specs.Counting.{countedOf}
+use Rattle.links.specs.Line.{lineAfter}
+use Rattle.links.specs.Words.{part, lineIn, linePlace}
+use Rattle.links.specs.Lines.{sentWords, Room, still}
+use Rattle.mesh.specs.Steps.{linesAfter, chipAfter}
+use Rattle.mesh.specs.Layout.{registersIn, chipIn}
+use Rattle.mesh.specs.Chips.{putBack, changedOn, sending, registerWords, lineWords, Takes, ChipStep, Upto}
 use Rattle.mesh.proofs.Parts.{length-back, part-same, part-before, part-behind}
 use Rattle.mesh.proofs.ChipParts.{order, words-other, words-same}
-use Rattle.mesh.proofs.Places.{line-sent, still-sent, length-sent}
+use Rattle.links.proofs.Places.{line-sent, still-sent, length-sent}
 
 pub line-long : (j : ℕ) (l : List ℕ) → j < 6 → length l ≡ 322 → length (lineWords j l) ≡ 51
 line-long j l h k = length-take-le 51 (drop (linePlace j) l) (simp length-drop (omega arith))

@@ -7,14 +7,15 @@ use lib.ListN.{length, getD, drop, set}
 use Rattle.packet.specs.Bytes.{packetAt}
 use Rattle.packet.specs.Refusal.{Refusal, firstOf}
 use Rattle.tables.specs.Accept.{routesFine, startsFine, codesFine}
-use Rattle.router.specs.Keeping.{empty}
+use Rattle.kept.specs.Keeping.{empty}
 use Rattle.router.specs.Call.{refuse, packetRefusals}
 use Rattle.mesh.specs.declared.Added.{Added}
 use Rattle.mesh.specs.declared.RegistersRead.{RegistersRead}
 use Rattle.mesh.specs.declared.CountRead.{CountRead}
 use Rattle.mesh.specs.declared.MeshRead.{MeshRead}
 use Rattle.mesh.specs.declared.LinkRead.{LinkRead}
-use Rattle.mesh.specs.Mesh.{Flight, Line, Chip, Mesh, idle, fresh, isReady}
+use Rattle.links.specs.Line.{Flight, Line, idle, isReady}
+use Rattle.mesh.specs.Mesh.{Chip, Mesh, fresh}
 use Rattle.mesh.specs.Steps.{Tables, Going, withChip, injected, rounded}
 use Rattle.mesh.specs.Weights.{inFlight}
 

@@ -4,15 +4,14 @@ use mathlib.Core.Path.{_≡_}
 use mathlib.Core.Bool.{true}
 use mathlib.Core.List.{List, [], _∷_, _++_}
 use lib.ListN.{length, getD, take, drop}
-use Rattle.packet.specs.declared.Packet.{Packet}
-use Rattle.packet.specs.Control.{carriesOf}
-use Rattle.router.specs.declared.Outcome.{Outcome}
-use Rattle.router.specs.declared.Registers.{Registers}
-use Rattle.router.specs.Links.{has}
-use Rattle.router.specs.Deciding.{packetOn, legPacket}
-use Rattle.mesh.specs.Layout.{part, linePlace, lineIn, chipIn}
+use Rattle.steps.specs.declared.Outcome.{Outcome}
+use Rattle.kept.specs.declared.Registers.{Registers}
+use Rattle.steps.specs.Links.{has}
+use Rattle.steps.specs.Deciding.{packetOn, legPacket}
+use Rattle.links.specs.Words.{part, linePlace, lineIn}
+use Rattle.links.specs.Lines.{sentWords, Room, still, Right}
+use Rattle.mesh.specs.Layout.{chipIn}
 use Rattle.mesh.specs.Steps.{chipAfter}
-use Rattle.mesh.specs.Lines.{sentWords, Room}
 
 abbrev pub registerWords : Registers → List ℕ
 registerWords r = r .control ∷ r .word ∷ r .payload ∷ r .link ∷ r .leg ∷ r .more ∷ []
@@ -28,14 +27,6 @@ changedOn f l i = putBack (linePlace i) 51 (f i (part (linePlace i) 51 l)) l
 -- the words of link j
 abbrev pub lineWords : ℕ → List ℕ → List ℕ
 lineWords j l = part (linePlace j) 51 l
-
--- What a pass leaves alone on a link: its state, and what is set aside.
-abbrev pub still : List ℕ → List ℕ
-still w = getD w 0 0 ∷ drop 26 w
-
--- A packet whose length is right, as those in flight are.
-abbrev pub Right : Packet → Type 0
-Right p = p .nine ≡ carriesOf (p .control)
 
 -- What a pass may ask of a chip: it sends only where there is room, and only packets whose length is right.
 pub record Takes (l : List ℕ) (o : Outcome) : Type 0 where

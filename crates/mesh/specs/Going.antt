@@ -6,10 +6,13 @@ use mathlib.Core.List.{List, [], _∷_, _++_, map, foldl}
 use lib.ListN.{length, getD, take, drop}
 use Rattle.packet.specs.declared.Packet.{Packet}
 use Rattle.tables.specs.Accept.{startsFine}
-use Rattle.mesh.specs.Mesh.{Flight, across, opposite}
-use Rattle.mesh.specs.Layout.{linePlace, chipPlace, asideIn, meshOf, wordsFor}
+use Rattle.links.specs.Line.{Flight}
+use Rattle.links.specs.Across.{across, opposite}
+use Rattle.links.specs.Words.{linePlace, chipPlace, asideIn}
+use Rattle.links.specs.Lines.{still}
+use Rattle.mesh.specs.Layout.{meshOf, wordsFor}
 use Rattle.mesh.specs.Steps.{Tables, Arrival, Going, passAt}
-use Rattle.mesh.specs.Chips.{lineWords, still}
+use Rattle.mesh.specs.Chips.{lineWords}
 use Rattle.mesh.specs.Passing.{chipWords}
 use Rattle.mesh.specs.Holding.{headFine}
 use Rattle.mesh.specs.Sound.{All, Arrives}
@@ -42,10 +45,6 @@ asideBy l chip source =
 
 abbrev pub asideAt : List ℕ → ℕ → List (Arrival (Unit {0}))
 asideAt l chip = upTo (asideBy l chip) 6
-
--- Where in the mesh's words it says how many of them there are.
-abbrev pub asidePlace : ℕ → ℕ → ℕ → ℕ → ℕ
-asidePlace width height chip source = chipPlace (across width height chip source) + linePlace (opposite source) + 26
 
 -- No link has set more than 8 aside.
 abbrev pub AsideFew : List ℕ → Type 0

@@ -8,10 +8,11 @@ use lib.ListN.{length, getD, drop}
 use Rattle.packet.specs.declared.Packet.{Packet}
 use Rattle.packet.specs.Bytes.{usedType}
 use Rattle.packet.specs.Parity.{isOdd}
-use Rattle.router.specs.declared.Registers.{Registers}
-use Rattle.router.specs.Keeping.{isEmpty}
+use Rattle.kept.specs.declared.Registers.{Registers}
+use Rattle.kept.specs.Keeping.{isEmpty}
 use Rattle.router.specs.Call.{sizeFine, isDirect}
-use Rattle.mesh.specs.Layout.{part, packetIn, registersIn, linePlace, chipPlace, wordsFor}
+use Rattle.links.specs.Words.{part, packetIn, linePlace, chipPlace}
+use Rattle.mesh.specs.Layout.{registersIn, wordsFor}
 use Rattle.mesh.specs.Opening.{roundsFine}
 
 -- A packet in flight; its length is right as it is read, and a payload that is not there is 0.

@@ -7,7 +7,9 @@ use lib.Dec.{ltb}
 use lib.ListN.{length, getD, drop, set}
 use Rattle.mesh.specs.Layout.{meshOf, wordsFor}
 use Rattle.mesh.specs.Holding.{holdsMesh}
-use Rattle.mesh.specs.Steps.{Tables, nextPhase}
+use Rattle.links.specs.Phase.{nextPhase}
+use Rattle.links.specs.Lines.{stateOf}
+use Rattle.mesh.specs.Steps.{Tables}
 use Rattle.mesh.specs.Going.{same}
 use Rattle.mesh.specs.Calls.{Left, injecting, rounding, linking, emptying}
 
@@ -36,9 +38,6 @@ registersLeft l chip = emptying (holdsMesh l) (meshOf l) chip
 abbrev pub overWords : List ℕ → List ℕ
 overWords l = cond (ltb (getD l 5 0 + 1) (getD l 2 0)) (set l 5 (getD l 5 0 + 1)) (set (set l 5 0) 4 (nextPhase (getD l 4 0)))
 
--- A link's state word.
-abbrev pub stateOf : Bool → ℕ
-stateOf up = cond up 0 1
-
+-- A link's words with its state set.
 abbrev pub stateOn : Bool → ℕ → List ℕ → List ℕ
 stateOn up j w = set w 0 (stateOf up)

@@ -6,7 +6,6 @@ pub mod Held
 pub mod Holding
 pub mod Layout
 pub mod Leaving
-pub mod Lines
 pub mod Logs
 pub mod Mesh
 pub mod Opening

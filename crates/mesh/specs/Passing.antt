@@ -5,12 +5,14 @@ use mathlib.Core.Logic.{_⊎_}
 use mathlib.Core.List.{List}
 use lib.ListN.{length, getD, take, drop}
 use Rattle.packet.specs.declared.Packet.{Packet}
-use Rattle.router.specs.declared.Outcome.{Outcome}
-use Rattle.router.specs.declared.Setting.{Setting}
+use Rattle.steps.specs.declared.Outcome.{Outcome}
+use Rattle.steps.specs.declared.Setting.{Setting}
 use Rattle.mesh.specs.Mesh.{readyOf}
-use Rattle.mesh.specs.Layout.{part, chipIn, chipPlace, meshOf, wordsFor}
+use Rattle.links.specs.Words.{part, chipPlace}
+use Rattle.links.specs.Lines.{still}
+use Rattle.mesh.specs.Layout.{chipIn, meshOf, wordsFor}
 use Rattle.mesh.specs.Steps.{chipAfter, withChip}
-use Rattle.mesh.specs.Chips.{lineWords, still}
+use Rattle.mesh.specs.Chips.{lineWords}
 
 -- the words of chip k
 abbrev pub chipWords : ℕ → List ℕ → List ℕ

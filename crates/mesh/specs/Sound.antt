@@ -9,9 +9,11 @@ use lib.ListN.{length, getD}
 use Rattle.packet.specs.declared.Packet.{Packet}
 use Rattle.packet.specs.Control.{kindOf}
 use Rattle.router.specs.Call.{sizeFine, isDirect}
-use Rattle.mesh.specs.Mesh.{Flight, Line, Chip, Mesh}
+use Rattle.links.specs.Line.{Flight, Line}
+use Rattle.links.specs.Lines.{Right}
+use Rattle.mesh.specs.Mesh.{Chip, Mesh}
 use Rattle.mesh.specs.Steps.{Arrival}
-use Rattle.mesh.specs.Chips.{Right, lineWords}
+use Rattle.mesh.specs.Chips.{lineWords}
 use Rattle.mesh.specs.Holding.{packetFine, registersFine}
 use Rattle.mesh.specs.Opening.{roundsFine}
 use Rattle.mesh.specs.Passing.{chipWords}

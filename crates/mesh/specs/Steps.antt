@@ -5,13 +5,16 @@ use mathlib.Core.List.{List, [], _∷_, _++_, map, foldl}
 use lib.Dec.{eqb, ltb}
 use lib.ListN.{length, getD, take, drop, set}
 use Rattle.packet.specs.declared.Packet.{Packet}
-use Rattle.router.specs.declared.Outcome.{Outcome}
-use Rattle.router.specs.declared.Setting.{Setting}
-use Rattle.router.specs.Links.{has, processorsOf}
-use Rattle.router.specs.Deciding.{outcomeOf, packetOn, legPacket}
-use Rattle.router.specs.Keeping.{keptOf, empty}
-use Rattle.router.specs.Counting.{countedOf}
-use Rattle.mesh.specs.Mesh.{Flight, Line, Chip, Mesh, idle, fresh, readyOf, across, opposite}
+use Rattle.steps.specs.declared.Outcome.{Outcome}
+use Rattle.steps.specs.declared.Setting.{Setting}
+use Rattle.steps.specs.Links.{has, processorsOf}
+use Rattle.steps.specs.Deciding.{outcomeOf, packetOn, legPacket}
+use Rattle.kept.specs.Keeping.{keptOf, empty}
+use Rattle.kept.specs.Counting.{countedOf}
+use Rattle.links.specs.Line.{Flight, Line, idle, lineAfter}
+use Rattle.links.specs.Across.{across, opposite}
+use Rattle.links.specs.Phase.{nextPhase}
+use Rattle.mesh.specs.Mesh.{Chip, Mesh, fresh, readyOf}
 
 -- ---- tables
 
@@ -34,10 +37,6 @@ logOf chip o =
     cond (ltb (o .wanted) 64) []
     (chip ∷ processorsOf (o .wanted) ∷ o .errors ∷ o .packet .control ∷ o .packet .word ∷ o .packet .payload ∷ [])
 
--- "The phase code runs 00, 01, 11, 10 and round again."
-abbrev pub nextPhase : ℕ → ℕ
-nextPhase phase = cond (eqb phase 0) 1 (cond (eqb phase 1) 3 (cond (eqb phase 3) 2 0))
-
 -- A packet that is about to pass: at which chip, from which source.
 pub record Arrival (A : Type 0) : Type 0 where
   pub chip : ℕ
@@ -58,13 +57,6 @@ module _ {A : Type 0} where
   abbrev pub outcomeAt : Tables → Mesh A → ℕ → ℕ → Packet → Outcome
   outcomeAt t m chip source p =
       outcomeOf p source (rowsAt t chip) (codesAt t (m .height * m .width) chip) (settingAt m (getD (m .chips) chip fresh))
-
-  -- What a link holds after a pass: "the one from step 5 goes first", then the second leg. A sending turns the tag.
-  abbrev pub sent : Bool → Packet → A → List (Flight A)
-  sent b p tag = cond b (record { packet = p; tag = tag } ∷ []) []
-
-  abbrev pub lineAfter : Outcome → A → ℕ → Line A → Line A
-  lineAfter o tag i l = record { up = l .up; held = l .held ++ sent (has (o .sent) i) (packetOn o i) tag ++ sent (has (o .leg) i) (legPacket o) tag }
 
   unfoldable pub linesAfter : Outcome → A → ℕ → List (Line A) → List (Line A)
   linesAfter o tag i [] = []

@@ -1,11 +1,12 @@
 // What was set aside arrives: chips by number, arrival links 0 to 5, oldest first.
-use super::across::aside_place;
+use links::across::aside_place;
 use super::going::pass_one;
-use super::line::packet_at;
+use links::line::packet_at;
 ghost use mathlib.Core.Path.{_≡_};
 ghost use lib.ListN.{getD};
 ghost use Prim.Native.Nat.{_≤_, _<_};
-ghost use Rattle.mesh.specs.Going.{tablesOf, chipsOf, upTo, asideBy, asideAt, asidePlace, DueAside, Passed};
+ghost use Rattle.links.specs.Across.{asidePlace};
+ghost use Rattle.mesh.specs.Going.{tablesOf, chipsOf, upTo, asideBy, asideAt, DueAside, Passed};
 
 // At the first chips.
 pub fn pass_chips(

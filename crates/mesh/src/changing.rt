@@ -4,16 +4,18 @@ use super::holding::registers_at;
 use super::opening::clear;
 use super::refusing::chip_refusal;
 use super::refusing::number_refusal;
-use router::keeping::empty_registers;
+use kept::keeping::empty_registers;
+use links::line::set_state;
 ghost use mathlib.Core.Path.{_≡_};
 ghost use mathlib.Core.List.{_++_};
 ghost use lib.ListN.{length, drop, replicate, set};
 ghost use Prim.Native.Nat.{_<_};
-ghost use Rattle.mesh.specs.Layout.{part, meshOf};
+ghost use Rattle.links.specs.Words.{part};
+ghost use Rattle.mesh.specs.Layout.{meshOf};
 ghost use Rattle.mesh.specs.Holding.{holdsMesh};
 ghost use Rattle.mesh.specs.Chips.{putBack, changedOn};
 ghost use Rattle.mesh.specs.Calls.{registersRead};
-ghost use Rattle.mesh.specs.Leaving.{Leaves, linkLeft, registersLeft, stateOf, stateOn};
+ghost use Rattle.mesh.specs.Leaving.{Leaves, linkLeft, registersLeft, stateOn};
 
 // Takes one directed link of a chip up or down. Refusals, the first that applies: 8 no mesh, 9 chip or link.
 pub fn set_link(mesh: &mut [u32], chip: u32, link: u32, up: bool) -> u32
@@ -34,18 +36,7 @@ fn link_on_chip(chip: &mut [u32], link: usize, up: bool)
     ensures { λ _. ⌜ now (chip .exit) ≡ changedOn (stateOn up) (now (chip .entry)) link ⌝ }
 {
     let at = 16 + link * 51;
-    state_of_line(&mut chip[at..at + 51], up);
-}
-
-fn state_of_line(line: &mut [u32], up: bool)
-    requires { ⌜ length (now line) ≡ 51 ⌝ }
-    ensures { λ _. ⌜ now (line .exit) ≡ set (now (line .entry)) 0 (stateOf up) ⌝ }
-{
-    if up {
-        line[0] = 0;
-    } else {
-        line[0] = 1;
-    }
+    set_state(&mut chip[at..at + 51], up);
 }
 
 // Hands over a chip's error registers and empties them. Refusals, the first that applies: 8 no mesh, 9 chip.

@@ -1,20 +1,21 @@
 // One chip, as the 322 words that hold it: registers, counters, six links.
-use super::line::is_ready;
-use super::line::send;
-use router::Counters;
-use router::Outcome;
-use router::Registers;
-use router::counting::counted_of;
-use router::errors::flag_of;
-use router::keeping::kept_of;
+use links::line::is_ready;
+use links::line::send;
+use kept::Counters;
+use steps::Outcome;
+use kept::Registers;
+use kept::counting::counted_of;
+use steps::errors::flag_of;
+use kept::keeping::kept_of;
 ghost use mathlib.Core.Path.{_≡_};
 ghost use lib.ListN.{length};
 ghost use Prim.Native.Nat.{_+_, _*_, _≤_, _<_};
-ghost use Rattle.router.specs.Keeping.{keptOf};
-ghost use Rattle.router.specs.Counting.{countedOf};
+ghost use Rattle.kept.specs.Keeping.{keptOf};
+ghost use Rattle.kept.specs.Counting.{countedOf};
 ghost use Rattle.mesh.specs.Mesh.{readyOf};
-ghost use Rattle.mesh.specs.Layout.{part, linePlace, registersIn, chipIn};
-ghost use Rattle.mesh.specs.Lines.{Room};
+ghost use Rattle.links.specs.Words.{part, linePlace};
+ghost use Rattle.links.specs.Lines.{Room};
+ghost use Rattle.mesh.specs.Layout.{registersIn, chipIn};
 ghost use Rattle.mesh.specs.Chips.{registerWords, changedOn, sending, Takes, ChipStep, Upto};
 
 // The links that are ready now.

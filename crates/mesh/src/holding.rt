@@ -1,11 +1,11 @@
 // Whether a buffer holds a mesh.
-use super::line::packet_at;
+use links::line::packet_at;
 use super::opening::rounds_fine;
 use super::opening::words_for;
 use packet::Packet;
 use packet::control::kind_of;
 use packet::parity::is_odd;
-use router::Registers;
+use kept::Registers;
 use router::call::chips;
 use router::call::is_direct;
 use router::call::size_fine;

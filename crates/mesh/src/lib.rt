@@ -1,5 +1,4 @@
 // A mesh of routers in a lent buffer of 32-bit words: a header, then a block for each chip. docs/LAYOUT.md has the layout.
-pub mod across;
 pub mod arriving;
 pub mod aside;
 pub mod changing;
@@ -7,7 +6,6 @@ pub mod chip;
 pub mod flight;
 pub mod going;
 pub mod holding;
-pub mod line;
 pub mod logging;
 pub mod looking;
 pub mod moving;
@@ -15,7 +13,7 @@ pub mod opening;
 pub mod passing;
 pub mod refusing;
 
-use router::Registers;
+use kept::Registers;
 
 // What an injection and a round answer.
 #[repr(C)]

@@ -1,5 +1,5 @@
 // The log of deliveries: records of six numbers, one for each pass that hands a packet to a processor.
-use router::Outcome;
+use steps::Outcome;
 ghost use lib.ListN.{length};
 ghost use Prim.Native.Nat.{_+_, _*_, _≤_, _<_};
 ghost use Rattle.mesh.specs.Steps.{logOf};

@@ -4,13 +4,14 @@ use super::LinkRead;
 use super::MeshRead;
 use super::flight::in_flight;
 use super::holding::holds;
-use super::line::is_ready;
+use links::line::is_ready;
 use super::refusing::number_refusal;
 use router::call::chips;
-use router::errors::flag_of;
+use steps::errors::flag_of;
 ghost use mathlib.Core.Path.{_≡_};
 ghost use lib.ListN.{length};
-ghost use Rattle.mesh.specs.Layout.{meshOf, lineIn};
+ghost use Rattle.links.specs.Words.{lineIn};
+ghost use Rattle.mesh.specs.Layout.{meshOf};
 ghost use Rattle.mesh.specs.Holding.{holdsMesh};
 ghost use Rattle.mesh.specs.Calls.{countRead, meshRead, lineRead, linkRead};
 

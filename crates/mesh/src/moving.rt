@@ -5,12 +5,12 @@ use super::aside::set_aside;
 use super::going::pass_one;
 use super::refusing::inject_refusal;
 use super::refusing::round_refusal;
+use links::phase::next_phase;
 use packet::bytes::take;
 use router::call::chips;
 ghost use mathlib.Core.Path.{_≡_};
 ghost use lib.ListN.{length, getD};
 ghost use Prim.Native.Nat.{_≤_};
-ghost use Rattle.mesh.specs.Steps.{nextPhase};
 ghost use Rattle.mesh.specs.Going.{tablesOf};
 ghost use Rattle.mesh.specs.Calls.{addedOf, loggedOn};
 ghost use Rattle.mesh.specs.Leaving.{Leaves, injectLeft, roundLeft, overWords};
@@ -74,17 +74,5 @@ fn round_over(mesh: &mut [u32])
     } else {
         mesh[5] = 0;
         mesh[4] = next_phase(mesh[4]);
-    }
-}
-
-// "The phase code runs 00, 01, 11, 10 and round again."
-fn next_phase(phase: u32) -> u32
-    ensures { λ r. ⌜ r ≡ nextPhase phase ⌝ }
-{
-    match phase {
-        0 => 1,
-        1 => 3,
-        3 => 2,
-        _ => 0,
     }
 }

@@ -2,11 +2,11 @@
 use super::chip::after;
 use super::chip::ready_of;
 use packet::Packet;
-use router::Outcome;
-use router::Setting;
-use router::deciding::outcome_of;
+use steps::Outcome;
+use steps::Setting;
+use steps::deciding::outcome_of;
 ghost use mathlib.Core.Path.{_≡_};
-ghost use Rattle.router.specs.Deciding.{outcomeOf};
+ghost use Rattle.steps.specs.Deciding.{outcomeOf};
 ghost use Rattle.mesh.specs.Passing.{settingIn, Ready, MeshStep};
 
 pub fn pass_at(

@@ -9,12 +9,13 @@ use native.Mathlib.Nat.{add-zero}
 use native.Mathlib.Omega.{arith}
 use lib.ListN.{replicate}
 use borrow.Author.Tests.{lt-ltb}
-use Rattle.router.specs.Counting.{delivered, swallowed}
-use Rattle.router.specs.Keeping.{dropCount}
-use Rattle.router.specs.Units.{weightIn, extra, ended, weightSent}
+use Rattle.kept.specs.Counting.{delivered, swallowed}
+use Rattle.kept.specs.Keeping.{dropCount}
+use Rattle.kept.specs.Units.{weightIn, extra, ended, weightSent}
 use Rattle.router.proofs.Inputs as inputs
-use Rattle.router.proofs.OnePass as pass
-use Rattle.mesh.specs.Mesh.{Chip, Mesh, idle, fresh, opened}
+use Rattle.kept.proofs.OnePass as pass
+use Rattle.links.specs.Line.{idle}
+use Rattle.mesh.specs.Mesh.{Chip, Mesh, fresh, opened}
 use Rattle.mesh.specs.Steps.{Tables, Arrival, Going, rowsAt, codesAt, settingAt, outcomeAt, withChip, emptied, emptiedChip, setAside, arrivals, passAt}
 use Rattle.mesh.specs.Calls.{chipOf, lineOf, withUp, withLink, withEmpty}
 use Rattle.mesh.specs.Weights.{total, onLine, onChip, onMesh}

@@ -7,11 +7,11 @@ use native.Mathlib.Nat.{le-of-eq}
 use native.Mathlib.Omega.{arith}
 use Rattle.packet.specs.declared.Packet.{Packet}
 use Rattle.packet.specs.Control.{stampOf}
-use Rattle.router.specs.declared.Setting.{Setting}
-use Rattle.router.specs.Errors.{errorsOf}
-use Rattle.router.specs.Deciding.{outcomeOf, Checked}
-use Rattle.router.proofs.OnePass as pass
-use Rattle.mesh.specs.Mesh.{Flight}
+use Rattle.steps.specs.declared.Setting.{Setting}
+use Rattle.steps.specs.Errors.{errorsOf}
+use Rattle.steps.specs.Deciding.{outcomeOf, Checked}
+use Rattle.kept.proofs.OnePass as pass
+use Rattle.links.specs.Line.{Flight}
 use Rattle.promises.specs.History.{Tag, turned}
 use Rattle.promises.specs.Told.{Stamped}
 use Rattle.promises.specs.Demand3.{span}

@@ -7,7 +7,7 @@ use Prim.Native.Nat.{ℕ, _+_, _*_, _/_, _%_, _≤_, _<_}
 use native.Mathlib.Omega.{arith}
 use lib.ListN.{getD}
 use Rattle.packet.specs.Bytes.{packetAt}
-use Rattle.router.specs.Deciding.{Checked}
+use Rattle.steps.specs.Deciding.{Checked}
 use Rattle.mesh.specs.Mesh.{Mesh, fresh}
 use Rattle.mesh.specs.Steps.{Tables, Arrival, Going, codesAt, settingAt, setAside, arrivals}
 use Rattle.mesh.specs.Sound.{All, Arrives, SoundMesh}

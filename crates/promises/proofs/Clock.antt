@@ -9,7 +9,8 @@ use native.Mathlib.Omega.{arith}
 use lib.Dec.{ltb, leb}
 use borrow.Author.Tests.{ltb-true, leb-true, ltb-false}
 use Rattle.mesh.specs.Mesh.{Chip, Mesh, opened}
-use Rattle.mesh.specs.Steps.{nextPhase, withChips, roundOver}
+use Rattle.links.specs.Phase.{nextPhase}
+use Rattle.mesh.specs.Steps.{withChips, roundOver}
 use Rattle.mesh.specs.Opening.{roundsFine}
 use Rattle.mesh.proofs.SoundSteps.{SameHead}
 use Rattle.promises.specs.Demand3.{span}

@@ -9,7 +9,7 @@ use lib.Dec.{eqb}
 use lib.ListN.{getD, getD-replicate, List·getD-map}
 use lib.Seq.{getD-set-same, getD-set-other}
 use borrow.Author.Tests.{eqb-true, eqb-false, eq-eqb}
-use Rattle.router.specs.Counting.{countsOf, plus, added, zeros}
+use Rattle.kept.specs.Counting.{countsOf, plus, added, zeros}
 use Rattle.mesh.specs.Mesh.{Chip, Mesh, fresh}
 use Rattle.mesh.specs.Steps.{Tables, Arrival, emptiedChip, passAt}
 use Rattle.mesh.specs.Sound.{SoundMesh}

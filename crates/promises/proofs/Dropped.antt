@@ -9,11 +9,11 @@ use lib.Dec.{eqb, ltb}
 use lib.ListN.{length, getD, length-append, length-map}
 use borrow.Author.Tests.{eqb-true, eqb-false, eq-eqb, ne-eqb, ltb-true, lt-ltb}
 use Rattle.packet.proofs.Small.{every, at}
-use Rattle.router.specs.declared.Outcome.{Outcome}
-use Rattle.router.specs.declared.Registers.{Registers}
-use Rattle.router.specs.Links.{has}
-use Rattle.router.specs.Keeping.{empty, isEmpty, dropCount, lowest, firstDrop, withMore, keptOf}
-use Rattle.router.proofs.Bounds.{Sets}
+use Rattle.steps.specs.declared.Outcome.{Outcome}
+use Rattle.kept.specs.declared.Registers.{Registers}
+use Rattle.steps.specs.Links.{has}
+use Rattle.kept.specs.Keeping.{empty, isEmpty, dropCount, lowest, firstDrop, withMore, keptOf}
+use Rattle.steps.proofs.Bounds.{Sets}
 use Rattle.mesh.specs.Sound.{All}
 use Rattle.mesh.proofs.Alls.{all-append, all-map}
 use Rattle.promises.specs.Told.{unit, unitIf, unitsOf, droppedUnits, firstOfUnits}

@@ -8,11 +8,13 @@ use native.Mathlib.Omega.{arith}
 use lib.Dec.{lit<}
 use lib.ListN.{length, getD}
 use Rattle.packet.specs.declared.Packet.{Packet}
-use Rattle.router.specs.declared.Outcome.{Outcome}
-use Rattle.router.specs.Links.{has}
-use Rattle.router.specs.Deciding.{packetOn, legPacket}
-use Rattle.mesh.specs.Mesh.{Flight, Line, Chip, Mesh, idle, fresh, opened, across, opposite}
-use Rattle.mesh.specs.Steps.{Tables, Arrival, Going, outcomeAt, sent, lineAfter, linesAfter, emptied, emptiedChip, setAside, arrivingBy, arrivingAt, arrivingFrom, arrivals, passAt}
+use Rattle.steps.specs.declared.Outcome.{Outcome}
+use Rattle.steps.specs.Links.{has}
+use Rattle.steps.specs.Deciding.{packetOn, legPacket}
+use Rattle.links.specs.Line.{Flight, Line, idle, sent, lineAfter}
+use Rattle.links.specs.Across.{across, opposite}
+use Rattle.mesh.specs.Mesh.{Chip, Mesh, fresh, opened}
+use Rattle.mesh.specs.Steps.{Tables, Arrival, Going, outcomeAt, linesAfter, emptied, emptiedChip, setAside, arrivingBy, arrivingAt, arrivingFrom, arrivals, passAt}
 use Rattle.mesh.specs.Calls.{chipOf, withLink, withEmpty}
 use Rattle.mesh.specs.Sound.{All, Arrives, SoundChip, SoundMesh}
 use Rattle.mesh.proofs.Alls.{all-nil, all-append, all-getD, all-set, all-map, all-weaken, all-replicate}

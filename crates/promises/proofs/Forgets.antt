@@ -9,9 +9,10 @@ use lib.ListN.{length, getD, set, replicate, length-map}
 use borrow.Author.Tests.{eqb-true, eqb-false}
 use Rattle.packet.specs.Bytes.{packetAt}
 use Rattle.packet.specs.Refusal.{firstOf}
-use Rattle.router.specs.Keeping.{empty}
+use Rattle.kept.specs.Keeping.{empty}
 use Rattle.mesh.specs.declared.LinkRead.{LinkRead}
-use Rattle.mesh.specs.Mesh.{Flight, Line, Chip, Mesh, idle, fresh, opened, isReady}
+use Rattle.links.specs.Line.{Flight, Line, idle, isReady}
+use Rattle.mesh.specs.Mesh.{Chip, Mesh, fresh, opened}
 use Rattle.mesh.specs.Layout.{meshOf}
 use Rattle.mesh.specs.Holding.{holdsMesh}
 use Rattle.mesh.specs.Steps.{Going, withChip, injected, rounded}

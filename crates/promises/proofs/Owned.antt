@@ -13,17 +13,17 @@ use Rattle.packet.specs.Parity.{isOdd}
 use Rattle.tables.specs.declared.Found.{Found}
 use Rattle.tables.specs.declared.Found.the-variants.{At, Nothing}
 use Rattle.tables.specs.Rows.{rowsOf, firstMatch, routeOf}
-use Rattle.router.specs.declared.Outcome.{Outcome}
-use Rattle.router.specs.declared.Setting.{Setting}
-use Rattle.router.specs.declared.Wanted.{Wanted}
-use Rattle.router.specs.Errors.{flag, tooOld, wrongLength, badLocal, errorsOf}
-use Rattle.router.specs.Wants.{wantedOf, kindWanted, mcWanted, matchWanted}
-use Rattle.router.specs.Deciding.{isMc, decided, outcomeOf}
-use Rattle.router.specs.Keeping.{dropCount}
-use Rattle.router.specs.Counting.{countsOf, delivered, swallowed}
-use Rattle.router.proofs.OnePass as pass
-use Rattle.router.specs.Links.{has}
-use Rattle.mesh.specs.Mesh.{idle, isReady}
+use Rattle.steps.specs.declared.Outcome.{Outcome}
+use Rattle.steps.specs.declared.Setting.{Setting}
+use Rattle.steps.specs.declared.Wanted.{Wanted}
+use Rattle.steps.specs.Errors.{flag, tooOld, wrongLength, badLocal, errorsOf}
+use Rattle.steps.specs.Wants.{wantedOf, kindWanted, mcWanted, matchWanted}
+use Rattle.steps.specs.Deciding.{isMc, decided, outcomeOf}
+use Rattle.kept.specs.Keeping.{dropCount}
+use Rattle.kept.specs.Counting.{countsOf, delivered, swallowed}
+use Rattle.kept.proofs.OnePass as pass
+use Rattle.steps.specs.Links.{has}
+use Rattle.links.specs.Line.{idle, isReady}
 use Rattle.promises.specs.History.{Passage, Event, passed, emptied}
 use Rattle.promises.specs.Told.{EachPass, sumOf, noRow, isMiss, ownCounts, countAt}
 use Rattle.promises.specs.Demand3.{Counts}

@@ -7,13 +7,15 @@ use Prim.Native.Nat.{ℕ, zero, suc, _*_}
 use lib.Dec.{leb}
 use lib.ListN.{getD, set, length-map, List·getD-map}
 use Rattle.packet.specs.declared.Packet.{Packet}
-use Rattle.router.specs.declared.Outcome.{Outcome}
-use Rattle.router.specs.Links.{has, setOf}
-use Rattle.router.specs.Deciding.{outcomeOf, packetOn, legPacket}
-use Rattle.router.specs.Keeping.{keptOf}
-use Rattle.router.specs.Counting.{countedOf}
-use Rattle.mesh.specs.Mesh.{Flight, Line, Chip, Mesh, idle, fresh, isReady, readyOf, across, opposite}
-use Rattle.mesh.specs.Steps.{Tables, Arrival, Going, rowsAt, codesAt, outcomeAt, logOf, sent, lineAfter, linesAfter, chipAfter, withChips, withChip, emptied, emptiedChip, setAside, arrivingBy, arrivingAt, arrivingFrom, arrivals, roundOver, passAt, passed, rounded}
+use Rattle.steps.specs.declared.Outcome.{Outcome}
+use Rattle.steps.specs.Links.{has, setOf}
+use Rattle.steps.specs.Deciding.{outcomeOf, packetOn, legPacket}
+use Rattle.kept.specs.Keeping.{keptOf}
+use Rattle.kept.specs.Counting.{countedOf}
+use Rattle.links.specs.Line.{Flight, Line, idle, isReady, sent, lineAfter}
+use Rattle.links.specs.Across.{across, opposite}
+use Rattle.mesh.specs.Mesh.{Chip, Mesh, fresh, readyOf}
+use Rattle.mesh.specs.Steps.{Tables, Arrival, Going, rowsAt, codesAt, outcomeAt, logOf, linesAfter, chipAfter, withChips, withChip, emptied, emptiedChip, setAside, arrivingBy, arrivingAt, arrivingFrom, arrivals, roundOver, passAt, passed, rounded}
 use Rattle.mesh.specs.Weights.{total, onLine, onChip, inFlight}
 use Rattle.mesh.specs.Going.{same}
 use Rattle.mesh.proofs.Totals.{total-map, total-ones}

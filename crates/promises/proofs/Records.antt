@@ -4,9 +4,9 @@ use mathlib.Core.Path.{_≡_, refl, sym, _∙_}
 use mathlib.Core.List.{List, [], _∷_, _++_, append-nil}
 use Prim.Native.Nat.{ℕ, _<_}
 use lib.ListN.{getD}
-use Rattle.router.specs.Links.{has}
-use Rattle.router.specs.Deciding.{outcomeOf}
-use Rattle.mesh.specs.Mesh.{idle, isReady}
+use Rattle.steps.specs.Links.{has}
+use Rattle.steps.specs.Deciding.{outcomeOf}
+use Rattle.links.specs.Line.{idle, isReady}
 use Rattle.mesh.specs.Steps.{logOf}
 use Rattle.mesh.proofs.Sets.{has-set}
 use Rattle.promises.specs.History.{Passage, Event, passed, emptied}

@@ -9,13 +9,13 @@ use lib.ListN.{length, getD, getD-replicate, List·getD-map}
 use lib.Seq.{getD-set-same, getD-set-other}
 use borrow.Author.Tests.{eqb-true, eqb-false}
 use Rattle.packet.specs.declared.Packet.{Packet}
-use Rattle.router.specs.declared.Registers.{Registers}
-use Rattle.router.specs.declared.Setting.{Setting}
-use Rattle.router.specs.Errors.{errorsOf}
-use Rattle.router.specs.Deciding.{Checked, outcomeOf}
-use Rattle.router.specs.Keeping.{empty, dropCount, keptOf}
-use Rattle.router.proofs.Bounds.{outcome-sets}
-use Rattle.router.proofs.OnePass as pass
+use Rattle.kept.specs.declared.Registers.{Registers}
+use Rattle.steps.specs.declared.Setting.{Setting}
+use Rattle.steps.specs.Errors.{errorsOf}
+use Rattle.steps.specs.Deciding.{Checked, outcomeOf}
+use Rattle.kept.specs.Keeping.{empty, dropCount, keptOf}
+use Rattle.steps.proofs.Bounds.{outcome-sets}
+use Rattle.kept.proofs.OnePass as pass
 use Rattle.mesh.specs.Mesh.{Chip, Mesh, fresh}
 use Rattle.mesh.specs.Steps.{Tables, Arrival, rowsAt, codesAt, settingAt, emptiedChip, passAt}
 use Rattle.mesh.specs.Calls.{withEmpty}

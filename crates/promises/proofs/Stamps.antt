@@ -11,11 +11,11 @@ use Rattle.packet.specs.declared.Packet.{Packet}
 use Rattle.packet.specs.Control.{kindOf, stampOf}
 use Rattle.packet.specs.Parity.{isOdd}
 use Rattle.packet.proofs.Rewrite.{stamp-set}
-use Rattle.router.specs.declared.Setting.{Setting}
-use Rattle.router.specs.Errors.{errorsOf, stampedOf, tooOld, wrongLength, badLocal, flag}
-use Rattle.router.specs.Deciding.{isMc, decided, outcomeOf, packetOn, legPacket, Checked}
-use Rattle.router.proofs.OnePass as pass
-use Rattle.mesh.specs.Mesh.{Flight}
+use Rattle.steps.specs.declared.Setting.{Setting}
+use Rattle.steps.specs.Errors.{errorsOf, stampedOf, tooOld, wrongLength, badLocal, flag}
+use Rattle.steps.specs.Deciding.{isMc, decided, outcomeOf, packetOn, legPacket, Checked}
+use Rattle.kept.proofs.OnePass as pass
+use Rattle.links.specs.Line.{Flight}
 use Rattle.mesh.proofs.Fitting.{sent-no-error, leg-no-error}
 use Rattle.promises.specs.Told.{Stamped}
 use Rattle.promises.proofs.Flights.{Sends}

@@ -11,16 +11,17 @@ use borrow.Author.Tests.{eqb-true}
 use Rattle.packet.specs.declared.Packet.{Packet}
 use Rattle.packet.specs.Control.{markOf, kindOf}
 use Rattle.packet.proofs.Small.{every, at}
-use Rattle.router.specs.declared.Outcome.{Outcome}
-use Rattle.router.specs.declared.Setting.{Setting}
-use Rattle.router.specs.Links.{has}
-use Rattle.router.specs.Deciding.{isMc, decided, outcomeOf, markOn, packetOn, legPacket, Checked}
-use Rattle.router.specs.Units.{weight, overLinks, weightSent}
-use Rattle.router.proofs.Bounds.{outcome-sets}
+use Rattle.steps.specs.declared.Outcome.{Outcome}
+use Rattle.steps.specs.declared.Setting.{Setting}
+use Rattle.steps.specs.Links.{has}
+use Rattle.steps.specs.Deciding.{isMc, decided, outcomeOf, markOn, packetOn, legPacket, Checked}
+use Rattle.kept.specs.Units.{weight, overLinks, weightSent}
+use Rattle.steps.proofs.Bounds.{outcome-sets}
 use Rattle.router.proofs.LowestFirst.{six}
-use Rattle.router.proofs.OnePass as pass
-use Rattle.mesh.specs.Mesh.{Flight, Line, Chip, idle}
-use Rattle.mesh.specs.Steps.{sent, lineAfter, linesAfter, chipAfter}
+use Rattle.kept.proofs.OnePass as pass
+use Rattle.links.specs.Line.{Flight, Line, idle, sent, lineAfter}
+use Rattle.mesh.specs.Mesh.{Chip}
+use Rattle.mesh.specs.Steps.{linesAfter, chipAfter}
 use Rattle.mesh.specs.Weights.{total, onLine, onChip}
 use Rattle.mesh.proofs.Totals.{total-append}
 use Rattle.mesh.proofs.Fitting.{has-none}

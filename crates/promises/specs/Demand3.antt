@@ -5,12 +5,13 @@ use mathlib.Core.Path.{_≡_}
 use mathlib.Core.Bool.{true}
 use mathlib.Core.List.{List}
 use lib.ListN.{getD}
-use Rattle.router.specs.Links.{has}
-use Rattle.router.specs.Deciding.{outcomeOf}
-use Rattle.router.specs.Counting.{delivered, swallowed}
-use Rattle.router.specs.Keeping.{dropCount}
-use Rattle.router.specs.Units.{weight, extra, ended}
-use Rattle.mesh.specs.Mesh.{Mesh, idle, fresh, opened, isReady}
+use Rattle.steps.specs.Links.{has}
+use Rattle.steps.specs.Deciding.{outcomeOf}
+use Rattle.kept.specs.Counting.{delivered, swallowed}
+use Rattle.kept.specs.Keeping.{dropCount}
+use Rattle.kept.specs.Units.{weight, extra, ended}
+use Rattle.links.specs.Line.{idle, isReady}
+use Rattle.mesh.specs.Mesh.{Mesh, fresh, opened}
 use Rattle.mesh.specs.Layout.{meshOf}
 use Rattle.mesh.specs.Holding.{holdsMesh}
 use Rattle.mesh.specs.Weights.{onMesh}

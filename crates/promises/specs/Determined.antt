@@ -6,9 +6,9 @@ use mathlib.Core.Path.{_≡_, sym, _∙_}
 use mathlib.Core.List.{List}
 use Rattle.packet.proofs.Determined.{determined}
 use Rattle.router.specs.declared.Pass.{Pass}
-use Rattle.router.specs.declared.Setting.{Setting}
+use Rattle.steps.specs.declared.Setting.{Setting}
 use Rattle.router.specs.Call.{passOf}
-use Rattle.mesh.specs.Mesh.{idle}
+use Rattle.links.specs.Line.{idle}
 use Rattle.mesh.specs.Layout.{meshOf}
 use Rattle.mesh.specs.Sound.{SoundLine}
 use Rattle.mesh.specs.Calls.{Left, many, chipOf, lineOf}

@@ -9,12 +9,12 @@ use Rattle.packet.specs.declared.Packet.{Packet}
 use Rattle.packet.specs.Bytes.{packedBytes, bytesIn}
 use Rattle.tables.specs.Rows.{rowsOf, firstMatch}
 use Rattle.tables.specs.Accept.{allRoutes, allCodes}
-use Rattle.router.specs.declared.Outcome.{Outcome}
+use Rattle.steps.specs.declared.Outcome.{Outcome}
 use Rattle.router.specs.declared.Pass.{Pass}
-use Rattle.router.specs.Links.{has}
-use Rattle.router.specs.Wants.{wantedOf}
-use Rattle.router.specs.Deciding.{decided, outcomeOf}
-use Rattle.router.specs.Keeping.{lowest}
+use Rattle.steps.specs.Links.{has}
+use Rattle.steps.specs.Wants.{wantedOf}
+use Rattle.steps.specs.Deciding.{decided, outcomeOf}
+use Rattle.kept.specs.Keeping.{lowest}
 use Rattle.router.specs.Call.{checkedOf, passOf}
 use Rattle.router.specs.Showing.{passFrom}
 

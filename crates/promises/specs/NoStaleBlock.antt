@@ -9,17 +9,18 @@ use lib.ListN.{length, getD, set}
 use lib.Seq.{getD-set-same}
 use borrow.Author.Tests.{le-leb}
 use Rattle.packet.specs.declared.Packet.{Packet}
-use Rattle.router.specs.declared.Outcome.{Outcome}
-use Rattle.router.specs.declared.Setting.{Setting}
-use Rattle.router.specs.Links.{has, linksOf, link}
-use Rattle.router.specs.Errors.{flag}
-use Rattle.router.specs.Deciding.{outcomeOf}
-use Rattle.mesh.specs.Mesh.{Chip, Mesh, idle, fresh, isReady, readyOf}
+use Rattle.steps.specs.declared.Outcome.{Outcome}
+use Rattle.steps.specs.declared.Setting.{Setting}
+use Rattle.steps.specs.Links.{has, linksOf, link}
+use Rattle.steps.specs.Errors.{flag}
+use Rattle.steps.specs.Deciding.{outcomeOf}
+use Rattle.links.specs.Line.{idle, isReady}
+use Rattle.mesh.specs.Mesh.{Chip, Mesh, fresh, readyOf}
 use Rattle.mesh.specs.Calls.{many, chipOf, lineOf, withUp, withLink}
 use Rattle.mesh.specs.Sound.{SoundMesh}
 use Rattle.mesh.proofs.SoundChanges.{chip-sound}
 use Rattle.mesh.proofs.Sets.{has-set}
-use Rattle.router.proofs.Ways.{OneWay, waysOf, pass-way}
+use Rattle.steps.proofs.Ways.{OneWay, waysOf, pass-way}
 
 -- of three ways that count to one, the first being taken, the others are not
 only-first : (a b c : Bool) → a ≡ true → flag a 1 + flag b 1 + flag c 1 ≡ 1 → (b ≡ false) × (c ≡ false)

@@ -3,12 +3,12 @@ use Prim.Native.Nat.{ℕ, _+_}
 use mathlib.Core.Path.{_≡_}
 use mathlib.Core.List.{List}
 use Rattle.packet.specs.declared.Packet.{Packet}
-use Rattle.router.specs.declared.Setting.{Setting}
-use Rattle.router.specs.Deciding.{outcomeOf, Checked}
-use Rattle.router.specs.Counting.{delivered, swallowed}
-use Rattle.router.specs.Keeping.{dropCount}
-use Rattle.router.specs.Units.{weightIn, extra, ended, weightSent}
-use Rattle.router.proofs.OnePass as proved
+use Rattle.steps.specs.declared.Setting.{Setting}
+use Rattle.steps.specs.Deciding.{outcomeOf, Checked}
+use Rattle.kept.specs.Counting.{delivered, swallowed}
+use Rattle.kept.specs.Keeping.{dropCount}
+use Rattle.kept.specs.Units.{weightIn, extra, ended, weightSent}
+use Rattle.kept.proofs.OnePass as proved
 
 -- "Weight in plus extra branches equals delivered plus ended in error plus dropped plus swallowed plus weight sent." A source is a link, or 7.
 pub account : (p : Packet) (source : ℕ) (rows codes : List ℕ) (t : Setting) → Checked p source codes t → proved.Source source

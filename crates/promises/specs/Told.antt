@@ -11,14 +11,15 @@ use Rattle.packet.specs.Parity.{isOdd}
 use Rattle.tables.specs.declared.Found.{Found}
 use Rattle.tables.specs.declared.Found.the-variants.{At, Nothing}
 use Rattle.tables.specs.Rows.{rowsOf, firstMatch}
-use Rattle.router.specs.declared.Outcome.{Outcome}
-use Rattle.router.specs.declared.Registers.{Registers}
-use Rattle.router.specs.Links.{has}
-use Rattle.router.specs.Keeping.{empty, withMore, dropCount}
-use Rattle.router.specs.Errors.{flag, tooOld, wrongLength, badLocal}
-use Rattle.router.specs.Deciding.{isMc}
-use Rattle.router.specs.Counting.{delivered, swallowed}
-use Rattle.mesh.specs.Mesh.{Flight, Line, Chip, Mesh}
+use Rattle.steps.specs.declared.Outcome.{Outcome}
+use Rattle.kept.specs.declared.Registers.{Registers}
+use Rattle.steps.specs.Links.{has}
+use Rattle.kept.specs.Keeping.{empty, withMore, dropCount}
+use Rattle.steps.specs.Errors.{flag, tooOld, wrongLength, badLocal}
+use Rattle.steps.specs.Deciding.{isMc}
+use Rattle.kept.specs.Counting.{delivered, swallowed}
+use Rattle.links.specs.Line.{Flight, Line}
+use Rattle.mesh.specs.Mesh.{Chip, Mesh}
 use Rattle.mesh.specs.Steps.{logOf}
 use Rattle.mesh.specs.Calls.{Left}
 use Rattle.mesh.specs.Sound.{All}

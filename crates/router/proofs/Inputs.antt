@@ -15,8 +15,8 @@ use Rattle.packet.specs.Refusal.{Refusal, firstOf, readRefusals}
 use Rattle.packet.proofs.Refusals.{take-refuses, take-refused, take-accepts}
 use Rattle.packet.proofs.First.{first-append, none-applies}
 use Rattle.tables.specs.Accept.{rowsFine, codesFine, allCodes}
-use Rattle.router.specs.declared.Setting.{Setting}
-use Rattle.router.specs.Deciding.{Checked}
+use Rattle.steps.specs.declared.Setting.{Setting}
+use Rattle.steps.specs.Deciding.{Checked}
 use Rattle.router.specs.Call.{sizeFine, settingFine, sourceFine, isDirect, refuse, settingRefusals, packetRefusals, passRefusals, checkedOf}
 
 pub record Size (width height : ℕ) : Type 0 where

@@ -1,9 +1,3 @@
-pub mod Account
-pub mod Bounds
-pub mod BySource
 pub mod Inputs
-pub mod LookedUp
 pub mod LowestFirst
-pub mod OnePass
 pub mod Shown
-pub mod Ways

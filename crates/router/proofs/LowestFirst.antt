@@ -15,9 +15,9 @@ use borrow.Author.Tests.{eqb-true, eqb-false, eq-eqb, ne-eqb, ltb-true}
 use Rattle.packet.specs.declared.Packet.{Packet}
 use Rattle.packet.specs.Bytes.{nothing}
 use Rattle.packet.proofs.Small.{every, at}
-use Rattle.router.specs.declared.Outcome.{Outcome}
-use Rattle.router.specs.Links.{has}
-use Rattle.router.specs.Deciding.{packetOn}
+use Rattle.steps.specs.declared.Outcome.{Outcome}
+use Rattle.steps.specs.Links.{has}
+use Rattle.steps.specs.Deciding.{packetOn}
 use Rattle.router.specs.Showing.{packetsOf}
 
 -- ---- the lowest link, and the others

@@ -10,15 +10,15 @@ use borrow.Author.Tests.{eqb-true, ltb-true, ltb-false, le-leb, lt-leb}
 use Rattle.packet.specs.declared.Packet.{Packet}
 use Rattle.packet.specs.declared.Taken.{Taken}
 use Rattle.packet.specs.Bytes.{nothing}
-use Rattle.router.specs.declared.Counters.{Counters}
-use Rattle.router.specs.declared.Outcome.{Outcome}
-use Rattle.router.specs.declared.Setting.{Setting}
-use Rattle.router.specs.Deciding.{noOutcome, outcomeOf}
-use Rattle.router.specs.Errors.{flag}
-use Rattle.router.specs.Counting.{zeros, countedOf}
+use Rattle.kept.specs.declared.Counters.{Counters}
+use Rattle.steps.specs.declared.Outcome.{Outcome}
+use Rattle.steps.specs.declared.Setting.{Setting}
+use Rattle.steps.specs.Deciding.{noOutcome, outcomeOf}
+use Rattle.steps.specs.Errors.{flag}
+use Rattle.kept.specs.Counting.{zeros, countedOf}
 use Rattle.router.specs.Showing.{toProcessors, passShown, passFrom, noPass}
 use Rattle.router.specs.Call.{answer}
-use Rattle.router.proofs.Bounds.{Sets, outcome-sets}
+use Rattle.steps.proofs.Bounds.{Sets, outcome-sets}
 
 module _ (taken : Taken) (source : ℕ) (rows codes : List ℕ) (t : Setting) where
   pub answer-shown : passShown (taken .refusal) (cond (eqb (taken .refusal) 0) (outcomeOf (taken .packet) source rows codes t) noOutcome) ≡ answer taken source rows codes t

@@ -10,9 +10,9 @@ use Rattle.packet.specs.Control.{kindOf, directOf}
 use Rattle.packet.specs.Bytes.{packetAt, notTaken}
 use Rattle.packet.specs.Refusal.{Refusal, firstOf, readRefusals}
 use Rattle.tables.specs.Accept.{rowsFine, codesFine}
-use Rattle.router.specs.declared.Setting.{Setting}
+use Rattle.steps.specs.declared.Setting.{Setting}
 use Rattle.router.specs.declared.Pass.{Pass}
-use Rattle.router.specs.Deciding.{outcomeOf}
+use Rattle.steps.specs.Deciding.{outcomeOf}
 use Rattle.router.specs.Showing.{passFrom, noPass}
 
 -- "W and H are 1 to 12".

@@ -1,10 +1,2 @@
 pub mod Call
-pub mod Counting
-pub mod Detour
-pub mod Errors
-pub mod Keeping
-pub mod Links
 pub mod Showing
-pub mod Deciding
-pub mod Units
-pub mod Wants

@@ -5,12 +5,12 @@ use mathlib.Core.List.{List, [], _∷_}
 use lib.Dec.{eqb, ltb}
 use Rattle.packet.specs.declared.Packet.{Packet}
 use Rattle.packet.specs.Bytes.{nothing}
-use Rattle.router.specs.declared.Outcome.{Outcome}
+use Rattle.steps.specs.declared.Outcome.{Outcome}
 use Rattle.router.specs.declared.Pass.{Pass}
-use Rattle.router.specs.Links.{has, processorsOf}
-use Rattle.router.specs.Deciding.{packetOn, legPacket}
-use Rattle.router.specs.Keeping.{empty, keptOf}
-use Rattle.router.specs.Counting.{zeros, countedOf}
+use Rattle.steps.specs.Links.{has, processorsOf}
+use Rattle.steps.specs.Deciding.{packetOn, legPacket}
+use Rattle.kept.specs.Keeping.{empty, keptOf}
+use Rattle.kept.specs.Counting.{zeros, countedOf}
 
 -- Zeros where a link sends nothing, where no second leg is sent, where there are no processors.
 abbrev pub onLink : Outcome → ℕ → Packet

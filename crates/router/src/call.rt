@@ -1,15 +1,15 @@
 // The one-router call: it takes anything, and answers or refuses.
-use super::Outcome;
+use steps::Outcome;
 use super::Pass;
-use super::Setting;
-use super::deciding::decide;
-use super::deciding::no_outcome;
-use super::errors::errors_of;
-use super::errors::stamped_of;
+use steps::Setting;
+use steps::deciding::decide;
+use steps::deciding::no_outcome;
+use steps::errors::errors_of;
+use steps::errors::stamped_of;
 use super::showing::shown;
-use super::wants::by_rows;
-use super::wants::looked_up;
-use super::wants::wanted_of;
+use steps::wants::by_rows;
+use steps::wants::looked_up;
+use steps::wants::wanted_of;
 use packet::Packet;
 use packet::Taken;
 use packet::bytes::not_taken;
@@ -23,7 +23,7 @@ ghost use mathlib.Core.Bool.{true, cond};
 ghost use lib.Dec.{eqb};
 ghost use Prim.Native.Nat.{_*_};
 ghost use Rattle.packet.specs.Refusal.{firstOf};
-ghost use Rattle.router.specs.Deciding.{Checked, noOutcome, outcomeOf};
+ghost use Rattle.steps.specs.Deciding.{Checked, noOutcome, outcomeOf};
 ghost use Rattle.router.specs.Call.{sizeFine, settingFine, sourceFine, isDirect, settingRefusals, checkedOf, passOf};
 
 // One pass of one router. Refusals, the first that applies: 7 size, 6 phase, ready set or monitor, 5 rows, 11 codes,

@@ -1,14 +1,14 @@
 // What the one-router call shows of a pass.
-use super::Counters;
-use super::Outcome;
+use kept::Counters;
+use steps::Outcome;
 use super::Pass;
-use super::counting::counted_of;
-use super::counting::no_counts;
-use super::deciding::leg_packet;
-use super::deciding::packet_on;
-use super::errors::flag_of;
-use super::keeping::empty_registers;
-use super::keeping::kept_of;
+use kept::counting::counted_of;
+use kept::counting::no_counts;
+use steps::deciding::leg_packet;
+use steps::deciding::packet_on;
+use steps::errors::flag_of;
+use kept::keeping::empty_registers;
+use kept::keeping::kept_of;
 use packet::Packet;
 ghost use mathlib.Core.Path.{_≡_};
 ghost use mathlib.Core.Bool.{cond};
@@ -16,8 +16,8 @@ ghost use lib.Dec.{eqb};
 ghost use Prim.Native.Nat.{_<_};
 ghost use Rattle.packet.specs.Bytes.{nothing};
 ghost use Rattle.router.specs.Showing.{onLeg, toProcessors, packetsOf, passShown};
-ghost use Rattle.router.specs.Counting.{zeros, countedOf};
-ghost use Rattle.router.specs.Deciding.{noOutcome};
+ghost use Rattle.kept.specs.Counting.{zeros, countedOf};
+ghost use Rattle.steps.specs.Deciding.{noOutcome};
 
 // All that a pass did, its registers and counters begun from zeros; or, of a pass that was refused, the number of the
 // refusal and zeros. What needs most room to be worked out comes first, what is mostly zeros last.

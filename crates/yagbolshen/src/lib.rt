@@ -9,7 +9,7 @@ use packet::Fields;
 use packet::FieldsRead;
 use packet::Packed;
 use router::Pass;
-use router::Setting;
+use steps::Setting;
 ghost use mathlib.Core.Path.{_≡_};
 ghost use lib.ListN.{length};
 ghost use Rattle.packet.specs.Fields.{readOf, packedOf};

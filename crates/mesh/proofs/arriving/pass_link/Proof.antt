@@ -10,7 +10,7 @@ use Rattle.mesh.proofs.arriving.pass_link.Tie as tie
 use Rattle.mesh.proofs.arriving.pass_link.Reads as reads
 use Rattle.mesh.proofs.arriving.pass_link.Lts as lts
 use Rattle.mesh.proofs.going.pass_one.Reads as pass-one-reads
-use Rattle.mesh.proofs.line.packet_at.Reads as packet-at-reads
+use Rattle.links.proofs.line.packet_at.Reads as packet-at-reads
 
 abbrev Inv-loop : tie.InvT-loop
 Inv-loop mesh₀ log₀ n chip source at rows starts codes count done₀ i₀ mesh log done i =

@@ -11,7 +11,7 @@ use Rattle.mesh.proofs.arriving.pass_links.Statement.{statement}
 use Rattle.mesh.proofs.arriving.pass_links.Tie as tie
 use Rattle.mesh.proofs.arriving.pass_links.Reads as reads
 use Rattle.mesh.proofs.arriving.pass_links.Lts as lts
-use Rattle.mesh.proofs.across.aside_place.Reads as aside-place-reads
+use Rattle.links.proofs.across.aside_place.Reads as aside-place-reads
 use Rattle.mesh.proofs.arriving.pass_link.Reads as pass-link-reads
 
 abbrev Inv-loop : tie.InvT-loop

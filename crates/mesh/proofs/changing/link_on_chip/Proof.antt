@@ -8,7 +8,7 @@ use Rattle.mesh.proofs.changing.link_on_chip.Statement.{statement}
 use Rattle.mesh.proofs.changing.link_on_chip.Tie as tie
 use Rattle.mesh.proofs.changing.link_on_chip.Reads as reads
 use Rattle.mesh.proofs.changing.link_on_chip.Lts as lts
-use Rattle.mesh.proofs.changing.state_of_line.Reads as state-of-line-reads
+use Rattle.links.proofs.line.set_state.Reads as set-state-reads
 
 -- src/changing.rt:36:19
 mul-at : tie.Need-mul-at
@@ -19,28 +19,28 @@ add-at : tie.Need-add-at
 add-at c = search needs
 
 -- src/changing.rt:37:33
-add-state-of-line : tie.Need-add-state-of-line
-add-state-of-line c = search needs
+add-set-state : tie.Need-add-set-state
+add-set-state c = search needs
 
 -- src/changing.rt:37:19
-mul-state-of-line : tie.Need-mul-state-of-line
-mul-state-of-line c = search needs
+mul-set-state : tie.Need-mul-set-state
+mul-set-state c = search needs
 
 -- src/changing.rt:37:19
-sub-state-of-line : tie.Need-sub-state-of-line
-sub-state-of-line c = search needs
+sub-set-state : tie.Need-sub-set-state
+sub-set-state c = search needs
 
 -- src/changing.rt:37:19
-part-state-of-line-start : tie.Need-part-state-of-line-start
-part-state-of-line-start c = search needs
+part-set-state-start : tie.Need-part-set-state-start
+part-set-state-start c = search needs
 
 -- src/changing.rt:37:19
-part-state-of-line-end : tie.Need-part-state-of-line-end
-part-state-of-line-end c = search needs
+part-set-state-end : tie.Need-part-set-state-end
+part-set-state-end c = search needs
 
 -- src/changing.rt:37:5
-state-of-line-requires : tie.Need-state-of-line-requires
-state-of-line-requires c κs = search needs
+set-state-requires : tie.Need-set-state-requires
+set-state-requires c κs = search needs
 
 -- src/changing.rt:32:1
 same-length : tie.Need-same-length
@@ -50,7 +50,7 @@ same-length c = search needs
 returns : tie.Need-returns
 returns c =
     let a = c .before .before .before .before .before .args in
-    rw (add-sub-cancel-left (16 + a .link * 51) 51) (ap (λ (ys : List ℕ). putBack (16 + a .link * 51) 51 ys (a .chip .now)) (rw (add-sub-cancel-left (16 + a .link * 51) 51) at (c .before .before .state-of-line .ensures)))
+    rw (add-sub-cancel-left (16 + a .link * 51) 51) (ap (λ (ys : List ℕ). putBack (16 + a .link * 51) 51 ys (a .chip .now)) (rw (add-sub-cancel-left (16 + a .link * 51) 51) at (c .before .before .set-state .ensures)))
 
 pub link-on-chip-spec : {M : Type 1} → statement M
 link-on-chip-spec =
@@ -58,11 +58,11 @@ link-on-chip-spec =
     (tie.spec
     mul-at
     add-at
-    add-state-of-line
-    mul-state-of-line
-    sub-state-of-line
-    part-state-of-line-start
-    part-state-of-line-end
-    state-of-line-requires
+    add-set-state
+    mul-set-state
+    sub-set-state
+    part-set-state-start
+    part-set-state-end
+    set-state-requires
     same-length
     returns)

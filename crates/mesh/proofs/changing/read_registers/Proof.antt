@@ -12,7 +12,7 @@ use Rattle.mesh.proofs.changing.read_registers.Lts as lts
 use Rattle.mesh.proofs.changing.empty_chip.Reads as empty-chip-reads
 use Rattle.mesh.proofs.holding.registers_at.Reads as registers-at-reads
 use Rattle.mesh.proofs.refusing.chip_refusal.Reads as chip-refusal-reads
-use Rattle.router.proofs.keeping.empty_registers.Reads as empty-registers-reads
+use Rattle.kept.proofs.keeping.empty_registers.Reads as empty-registers-reads
 
 -- src/changing.rt:56:9
 chip-refusal-requires : tie.Need-chip-refusal-requires

@@ -4,12 +4,12 @@ use native.Mathlib.Omega.{arith}
 use mathlib.Core.List.{[], _∷_}
 use lib.ListN.{getD, length-set}
 use Rattle.mesh.proofs.Stores.{ten-stores}
-use Rattle.router.specs.declared.Counters.{Counters}
+use Rattle.kept.specs.declared.Counters.{Counters}
 use Rattle.mesh.proofs.chip.count.Statement.{statement}
 use Rattle.mesh.proofs.chip.count.Tie as tie
 use Rattle.mesh.proofs.chip.count.Reads as reads
 use Rattle.mesh.proofs.chip.count.Lts as lts
-use Rattle.router.proofs.counting.counted_of.Reads as counted-of-reads
+use Rattle.kept.proofs.counting.counted_of.Reads as counted-of-reads
 
 -- src/chip.rt:67:13
 slice-read-words : tie.Need-slice-read-words

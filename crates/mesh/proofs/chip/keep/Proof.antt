@@ -12,7 +12,7 @@ use Rattle.mesh.proofs.chip.keep.Statement.{statement}
 use Rattle.mesh.proofs.chip.keep.Tie as tie
 use Rattle.mesh.proofs.chip.keep.Reads as reads
 use Rattle.mesh.proofs.chip.keep.Lts as lts
-use Rattle.router.proofs.keeping.kept_of.Reads as kept-of-reads
+use Rattle.kept.proofs.keeping.kept_of.Reads as kept-of-reads
 
 -- src/chip.rt:69:9
 returns : tie.Need-returns

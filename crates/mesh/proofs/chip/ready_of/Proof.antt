@@ -3,8 +3,8 @@ use Rattle.mesh.proofs.chip.ready_of.Statement.{statement}
 use Rattle.mesh.proofs.chip.ready_of.Tie as tie
 use Rattle.mesh.proofs.chip.ready_of.Reads as reads
 use Rattle.mesh.proofs.chip.ready_of.Lts as lts
-use Rattle.mesh.proofs.line.is_ready.Reads as is-ready-reads
-use Rattle.router.proofs.errors.flag_of.Reads as flag-of-reads
+use Rattle.links.proofs.line.is_ready.Reads as is-ready-reads
+use Rattle.steps.proofs.errors.flag_of.Reads as flag-of-reads
 
 -- src/chip.rt:21:22
 sub-is-ready : tie.Need-sub-is-ready

@@ -6,7 +6,7 @@ use mathlib.Core.List.{List}
 use Prim.Native.Nat.{ℕ}
 use Rattle.mesh.proofs.Upto.{begin, next, sends-long}
 use Rattle.mesh.specs.Chips.{sending, Upto}
-use Rattle.mesh.specs.Lines.{Room}
+use Rattle.links.specs.Lines.{Room}
 use Rattle.mesh.proofs.chip.send_all.Statement.{statement}
 use Rattle.mesh.proofs.chip.send_all.Tie as tie
 use Rattle.mesh.proofs.chip.send_all.Reads as reads

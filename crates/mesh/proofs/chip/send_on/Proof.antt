@@ -11,7 +11,7 @@ use Rattle.mesh.proofs.chip.send_on.Statement.{statement}
 use Rattle.mesh.proofs.chip.send_on.Tie as tie
 use Rattle.mesh.proofs.chip.send_on.Reads as reads
 use Rattle.mesh.proofs.chip.send_on.Lts as lts
-use Rattle.mesh.proofs.line.send.Reads as send-reads
+use Rattle.links.proofs.line.send.Reads as send-reads
 
 -- src/chip.rt:34:19
 mul-at : tie.Need-mul-at

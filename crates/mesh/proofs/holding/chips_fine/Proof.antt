@@ -7,7 +7,7 @@ use borrow.Author.Tests.{not-true, not-false}
 use lib.ListN.{drop, length-drop}
 use lib.Seq.{length-take-le}
 use Rattle.mesh.proofs.FineSteps.{chips-step, chips-end}
-use Rattle.mesh.specs.Layout.{part}
+use Rattle.links.specs.Words.{part}
 use Rattle.mesh.specs.Holding.{chipFine, chipsFine}
 use Rattle.mesh.proofs.holding.chips_fine.Statement.{statement}
 use Rattle.mesh.proofs.holding.chips_fine.Tie as tie

@@ -8,13 +8,13 @@ use borrow.Author.Needs.{needs}
 use lib.ListN.{drop}
 use Rattle.mesh.proofs.FineSteps.{places-step, places-end}
 use Rattle.mesh.specs.Holding.{packetFine, placesFine}
-use Rattle.mesh.specs.Layout.{packetIn}
+use Rattle.links.specs.Words.{packetIn}
 use Rattle.mesh.proofs.holding.places_fine.Statement.{statement}
 use Rattle.mesh.proofs.holding.places_fine.Tie as tie
 use Rattle.mesh.proofs.holding.places_fine.Reads as reads
 use Rattle.mesh.proofs.holding.places_fine.Lts as lts
 use Rattle.mesh.proofs.holding.packet_fine.Reads as packet-fine-reads
-use Rattle.mesh.proofs.line.packet_at.Reads as packet-at-reads
+use Rattle.links.proofs.line.packet_at.Reads as packet-at-reads
 
 abbrev Inv-loop : tie.InvT-loop
 Inv-loop line count i₀ i = (i ≤ count) × (placesFine count (drop 2 line) ≡ placesFine (count - i) (drop (2 + i * 3) line))

@@ -2,13 +2,13 @@ use borrow.Author.Needs.{needs}
 use mathlib.Core.Path.{_∙_, sym, ap}
 use lib.ListN.{getD, drop}
 use Rattle.mesh.specs.Calls.{bit}
-use Rattle.mesh.proofs.Places.{length-places}
+use Rattle.links.proofs.Places.{length-places}
 use Rattle.mesh.proofs.looking.look_line.Statement.{statement}
 use Rattle.mesh.proofs.looking.look_line.Tie as tie
 use Rattle.mesh.proofs.looking.look_line.Reads as reads
 use Rattle.mesh.proofs.looking.look_line.Lts as lts
-use Rattle.mesh.proofs.line.is_ready.Reads as is-ready-reads
-use Rattle.router.proofs.errors.flag_of.Reads as flag-of-reads
+use Rattle.links.proofs.line.is_ready.Reads as is-ready-reads
+use Rattle.steps.proofs.errors.flag_of.Reads as flag-of-reads
 
 -- src/looking.rt:88:21
 shared-slice-read-flag-of : tie.Need-shared-slice-read-flag-of

@@ -4,12 +4,12 @@ use native.Mathlib.Omega.{arith}
 use lib.ListN.{getD, set, length-set}
 use lib.Seq.{getD-set-other}
 use borrow.Author.Tests.{lt-ltb, le-ltb}
-use Rattle.mesh.specs.Steps.{nextPhase}
+use Rattle.links.specs.Phase.{nextPhase}
 use Rattle.mesh.proofs.moving.round_over.Statement.{statement}
 use Rattle.mesh.proofs.moving.round_over.Tie as tie
 use Rattle.mesh.proofs.moving.round_over.Reads as reads
 use Rattle.mesh.proofs.moving.round_over.Lts as lts
-use Rattle.mesh.proofs.moving.next_phase.Reads as next-phase-reads
+use Rattle.links.proofs.phase.next_phase.Reads as next-phase-reads
 
 -- src/moving.rt:77:16
 slice-read-next : tie.Need-slice-read-next

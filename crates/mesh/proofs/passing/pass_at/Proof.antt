@@ -8,14 +8,14 @@ use Rattle.mesh.proofs.Fitting.{takes}
 use Rattle.mesh.specs.Passing.{chipWords, settingIn}
 use Rattle.mesh.specs.Layout.{chipIn}
 use Rattle.mesh.specs.Mesh.{readyOf}
-use Rattle.router.specs.Deciding.{Checked, outcomeOf}
+use Rattle.steps.specs.Deciding.{Checked, outcomeOf}
 use Rattle.mesh.proofs.passing.pass_at.Statement.{statement}
 use Rattle.mesh.proofs.passing.pass_at.Tie as tie
 use Rattle.mesh.proofs.passing.pass_at.Reads as reads
 use Rattle.mesh.proofs.passing.pass_at.Lts as lts
 use Rattle.mesh.proofs.chip.after.Reads as after-reads
 use Rattle.mesh.proofs.chip.ready_of.Reads as ready-of-reads
-use Rattle.router.proofs.deciding.outcome_of.Reads as outcome-of-reads
+use Rattle.steps.proofs.deciding.outcome_of.Reads as outcome-of-reads
 
 -- src/passing.rt:17:18
 mul-at : tie.Need-mul-at

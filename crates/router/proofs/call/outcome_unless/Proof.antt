@@ -1,19 +1,19 @@
 use mathlib.Core.Path.{_≡_, refl, sym, ap, _∙_}
 use borrow.Author.Tests.{eq-eqb, ne-eqb}
-use Rattle.router.specs.Deciding.{outcomeOf}
-use Rattle.router.proofs.LookedUp.{looked-up-in}
+use Rattle.steps.specs.Deciding.{outcomeOf}
+use Rattle.steps.proofs.LookedUp.{looked-up-in}
 use borrow.Author.Needs.{needs}
 use Rattle.router.proofs.call.outcome_unless.Statement.{statement}
 use Rattle.router.proofs.call.outcome_unless.Tie as tie
 use Rattle.router.proofs.call.outcome_unless.Reads as reads
 use Rattle.router.proofs.call.outcome_unless.Lts as lts
-use Rattle.router.proofs.deciding.decide.Reads as decide-reads
-use Rattle.router.proofs.deciding.no_outcome.Reads as no-outcome-reads
-use Rattle.router.proofs.errors.errors_of.Reads as errors-of-reads
-use Rattle.router.proofs.errors.stamped_of.Reads as stamped-of-reads
-use Rattle.router.proofs.wants.by_rows.Reads as by-rows-reads
-use Rattle.router.proofs.wants.looked_up.Reads as looked-up-reads
-use Rattle.router.proofs.wants.wanted_of.Reads as wanted-of-reads
+use Rattle.steps.proofs.deciding.decide.Reads as decide-reads
+use Rattle.steps.proofs.deciding.no_outcome.Reads as no-outcome-reads
+use Rattle.steps.proofs.errors.errors_of.Reads as errors-of-reads
+use Rattle.steps.proofs.errors.stamped_of.Reads as stamped-of-reads
+use Rattle.steps.proofs.wants.by_rows.Reads as by-rows-reads
+use Rattle.steps.proofs.wants.looked_up.Reads as looked-up-reads
+use Rattle.steps.proofs.wants.wanted_of.Reads as wanted-of-reads
 
 -- src/call.rt:54:13
 errors-of-requires : tie.Need-errors-of-requires

@@ -4,9 +4,9 @@ use Rattle.router.proofs.showing.counts_shown.Statement.{statement}
 use Rattle.router.proofs.showing.counts_shown.Tie as tie
 use Rattle.router.proofs.showing.counts_shown.Reads as reads
 use Rattle.router.proofs.showing.counts_shown.Lts as lts
-use Rattle.router.proofs.counting.counted_of.Reads as counted-of-reads
-use Rattle.router.proofs.counting.no_counts.Reads as no-counts-reads
-use Rattle.router.proofs.errors.flag_of.Reads as flag-of-reads
+use Rattle.kept.proofs.counting.counted_of.Reads as counted-of-reads
+use Rattle.kept.proofs.counting.no_counts.Reads as no-counts-reads
+use Rattle.steps.proofs.errors.flag_of.Reads as flag-of-reads
 
 -- src/showing.rt:55:24
 no-counts-requires : tie.Need-no-counts-requires

@@ -5,7 +5,7 @@ use Rattle.router.proofs.showing.on_leg.Statement.{statement}
 use Rattle.router.proofs.showing.on_leg.Tie as tie
 use Rattle.router.proofs.showing.on_leg.Reads as reads
 use Rattle.router.proofs.showing.on_leg.Lts as lts
-use Rattle.router.proofs.deciding.leg_packet.Reads as leg-packet-reads
+use Rattle.steps.proofs.deciding.leg_packet.Reads as leg-packet-reads
 use Rattle.router.proofs.showing.no_packet.Reads as no-packet-reads
 
 -- src/showing.rt:102:9

@@ -5,7 +5,7 @@ use Rattle.router.proofs.showing.only.Statement.{statement}
 use Rattle.router.proofs.showing.only.Tie as tie
 use Rattle.router.proofs.showing.only.Reads as reads
 use Rattle.router.proofs.showing.only.Lts as lts
-use Rattle.router.proofs.errors.flag_of.Reads as flag-of-reads
+use Rattle.steps.proofs.errors.flag_of.Reads as flag-of-reads
 
 -- src/showing.rt:122:18
 flag-of-requires : tie.Need-flag-of-requires

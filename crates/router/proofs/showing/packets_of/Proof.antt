@@ -7,13 +7,13 @@ use lib.Bits.{bitAnd}
 use lib.Count.{trailingZeros}
 use lib.Dec.{eqb}
 use lib.ListN.{set, replicate}
-use Rattle.router.specs.Links.{has}
+use Rattle.steps.specs.Links.{has}
 use Rattle.router.proofs.LowestFirst.{shownBut, none-yet, all-shown, lowest-link, step}
 use Rattle.router.proofs.showing.packets_of.Statement.{statement}
 use Rattle.router.proofs.showing.packets_of.Tie as tie
 use Rattle.router.proofs.showing.packets_of.Reads as reads
 use Rattle.router.proofs.showing.packets_of.Lts as lts
-use Rattle.router.proofs.deciding.packet_on.Reads as packet-on-reads
+use Rattle.steps.proofs.deciding.packet_on.Reads as packet-on-reads
 use Rattle.router.proofs.showing.no_packet.Reads as no-packet-reads
 
 abbrev Inv-loop : tie.InvT-loop

@@ -3,8 +3,8 @@ use Rattle.router.proofs.showing.shown.Statement.{statement}
 use Rattle.router.proofs.showing.shown.Tie as tie
 use Rattle.router.proofs.showing.shown.Reads as reads
 use Rattle.router.proofs.showing.shown.Lts as lts
-use Rattle.router.proofs.keeping.empty_registers.Reads as empty-registers-reads
-use Rattle.router.proofs.keeping.kept_of.Reads as kept-of-reads
+use Rattle.kept.proofs.keeping.empty_registers.Reads as empty-registers-reads
+use Rattle.kept.proofs.keeping.kept_of.Reads as kept-of-reads
 use Rattle.router.proofs.showing.counts_shown.Reads as counts-shown-reads
 use Rattle.router.proofs.showing.on_leg.Reads as on-leg-reads
 use Rattle.router.proofs.showing.packets_of.Reads as packets-of-reads

@@ -1,0 +1,153 @@
+-- What holds of every pass, whatever the packet, the tables and the setting. Assumes nothing.
+use mathlib.Core.Path.{_≡_, refl, sym, ap, _∙_, subst}
+use mathlib.Core.Logic.{_⊎_, inl, inr, ⊎-elim}
+use mathlib.Core.Bool.{Bool, true, false, cond, _&&_, not, and-eq-true-iff, true≢false}
+use mathlib.Core.List.{List}
+use Prim.Native.Nat.{ℕ, suc, _+_, _*_, _/_, _%_, _^_, _≤_, _<_}
+use native.Mathlib.Nat.{mul-mod-right}
+use native.Mathlib.Omega.{arith}
+use lib.Pow.{pow-add}
+use lib.Dec.{eqb, ltb, lit<}
+use borrow.Author.Tests.{eq-eqb, ne-eqb, eqb-true, lt-ltb, le-ltb}
+use Rattle.packet.specs.declared.Packet.{Packet}
+use Rattle.packet.specs.Control.{kindOf, markOf, stampOf, carriesOf}
+use Rattle.packet.specs.Parity.{isOdd, withMark, withStamp}
+use Rattle.packet.proofs.Rewrite.{FieldSet, mark-set, stamp-set}
+use Rattle.steps.specs.declared.Outcome.{Outcome}
+use Rattle.steps.specs.declared.Setting.{Setting}
+use Rattle.steps.specs.declared.Wanted.{Wanted}
+use Rattle.steps.specs.Links.{has, linksOf, monitorBit}
+use Rattle.steps.specs.Errors.{errorsOf, stampedOf, tooOld, badLocal, wrongLength, flag}
+use Rattle.steps.specs.Wants.{wantedOf}
+use Rattle.steps.specs.Deciding.{isMc, decided, outcomeOf, markOn, packetOn, legPacket, Checked}
+use Rattle.kept.specs.Keeping.{dropCount}
+use Rattle.kept.specs.Counting.{delivered, swallowed}
+use Rattle.kept.specs.Units.{weight, weightIn, extra, ended, weightSent}
+use Rattle.kept.proofs.Account.{Consistent, account-decided}
+
+-- a link, or local
+abbrev pub Source : ℕ → Type 0
+Source s = (s < 6) ⊎ (s ≡ 7)
+
+-- ---- stamping
+
+-- what stamping leaves as it was
+pub record Stamped (p q : Packet) : Type 0 where
+  pub kind : kindOf (q .control) ≡ kindOf (p .control)
+  pub mark : markOf (q .control) ≡ markOf (p .control)
+  pub carries : carriesOf (q .control) ≡ carriesOf (p .control)
+  pub byte : q .control < 256
+  pub nine : q .nine ≡ p .nine
+  pub word : q .word ≡ p .word
+  pub payload : q .payload ≡ p .payload
+
+pub stamped : (p : Packet) (s e phase : ℕ) → p .control < 256 → phase ≤ 3 → Stamped p (stampedOf p s e phase)
+stamped p s e phase hc hp = go (eqb e 0 && eqb s 7 && ltb (kindOf (p .control)) 2)
+  where
+    go : (b : Bool) → Stamped p (cond b (withStamp p phase) p)
+    go true =
+        let f : FieldSet stampOf markOf p (withStamp p phase) phase = stamp-set p phase hc (omega arith) in
+        record { kind = f .kind; mark = f .beside; carries = f .carries; byte = f .byte; nine = f .nine; word = f .word; payload = f .payload }
+    go false = record { kind = refl; mark = refl; carries = refl; byte = hc; nine = refl; word = refl; payload = refl }
+
+-- ---- the account
+
+monitor-no-link : (m : ℕ) → linksOf (monitorBit m) ≡ 0
+monitor-no-link m = ap linksOf (pow-add 2 6 m) ∙ mul-mod-right 64 (2 ^ m)
+
+-- no error means that none of the four was found
+pub record Right (p : Packet) (s phase : ℕ) : Type 0 where
+  pub odd : isOdd p ≡ true
+  pub young : tooOld (p .control) s phase ≡ false
+  pub long : wrongLength p ≡ false
+  pub local : badLocal (p .control) s ≡ false
+
+pub right : (p : Packet) (s phase : ℕ) → errorsOf p s phase ≡ 0 → Right p s phase
+right p s phase e =
+    record {
+      odd = unset (isOdd p) (off (not (isOdd p)) 1 (omega arith) (omega arith));
+      young = off (tooOld (p .control) s phase) 2 (omega arith) (omega arith);
+      long = off (wrongLength p) 4 (omega arith) (omega arith);
+      local = off (badLocal (p .control) s) 8 (omega arith) (omega arith);
+    }
+  where
+    off : (b : Bool) (n : ℕ) → 1 ≤ n → flag b n ≡ 0 → b ≡ false
+    off true n h f = absurd (omega arith)
+    off false n h f = refl
+
+    unset : (b : Bool) → not b ≡ false → b ≡ true
+    unset true f = refl
+    unset false f = sym f
+
+module _ (p : Packet) (s : ℕ) (rows codes : List ℕ) (t : Setting) (h : Checked p s codes t) (from : Source s) where
+  consistent : Consistent (errorsOf p s (t .phase)) (stampedOf p s (errorsOf p s (t .phase)) (t .phase)) s (wantedOf (errorsOf p s (t .phase)) p s rows codes t)
+  unfolding wantedOf
+  consistent =
+      record {
+        quiet = λ some. simp (ne-eqb _ _ some) (monitor-no-link (t .monitor));
+        emergency = λ none mc two.
+            let k : kindOf (p .control) ≡ 0 = sym (q .kind) ∙ eqb-true _ _ mc in
+            let m : markOf (p .control) ≡ 2 = sym (q .mark) ∙ two in
+            nothing-wanted _ none k m;
+        arrived = λ none mc one. ⊎-elim (λ near. near) (λ local. absurd (bad local (sym (q .kind) ∙ eqb-true _ _ mc) (sym (q .mark) ∙ one) (right p s (t .phase) none .local))) from;
+      }
+    where
+      q : Stamped p (stampedOf p s (errorsOf p s (t .phase)) (t .phase))
+      q = stamped p s (errorsOf p s (t .phase)) (t .phase) (h .control) (h .phase)
+
+      nothing-wanted : (e : ℕ) → e ≡ 0 → kindOf (p .control) ≡ 0 → markOf (p .control) ≡ 2 → wantedOf e p s rows codes t .set ≡ 0
+      nothing-wanted e none k m = simp (eq-eqb _ _ none, eq-eqb _ _ k, eq-eqb _ _ m)
+
+      bad : s ≡ 7 → kindOf (p .control) ≡ 0 → markOf (p .control) ≡ 1 → badLocal (p .control) s ≡ false → ⊥
+      bad local mc one f =
+          let wrong : true ≡ false = sym (simp (local, mc, one)) ∙ f in
+          true≢false wrong
+
+  -- "weight in plus extra branches equals delivered plus ended in error plus dropped plus swallowed plus weight sent"
+  pub account : weightIn p s + extra (outcomeOf p s rows codes t)
+      ≡ delivered (outcomeOf p s rows codes t) + ended (outcomeOf p s rows codes t) s + dropCount (outcomeOf p s rows codes t) + swallowed (outcomeOf p s rows codes t)
+      + weightSent (outcomeOf p s rows codes t)
+  unfolding outcomeOf
+  account =
+      let e = errorsOf p s (t .phase) in
+      let q = stamped p s e (t .phase) (h .control) (h .phase) in
+      let same : weightIn p s ≡ weightIn (stampedOf p s e (t .phase)) s =
+      λ i. cond (ltb s 6) (cond (eqb (sym (q .kind) i) 0 && eqb (sym (q .mark) i) 1) 2 1) 1 in
+      ap (λ (n : ℕ). n + extra (outcomeOf p s rows codes t)) same
+      ∙ account-decided e (stampedOf p s e (t .phase)) s (wantedOf e p s rows codes t) (t .ready) (h .ready) consistent
+
+  -- ---- what is sent
+
+  -- the packet after stamping has odd parity where there is no error
+  pub stamped-odd : errorsOf p s (t .phase) ≡ 0 → isOdd (outcomeOf p s rows codes t .packet) ≡ true
+  unfolding outcomeOf decided
+  stamped-odd none = go (eqb (errorsOf p s (t .phase)) 0 && eqb s 7 && ltb (kindOf (p .control)) 2)
+    where
+      go : (b : Bool) → isOdd (cond b (withStamp p (t .phase)) p) ≡ true
+      go true = let f : FieldSet stampOf markOf p (withStamp p (t .phase)) (t .phase) = stamp-set p (t .phase) (h .control) (omega arith) in f .odd
+      go false = right p s (t .phase) none .odd
+
+  outcome-byte : outcomeOf p s rows codes t .packet .control < 256
+  unfolding outcomeOf decided
+  outcome-byte = stamped p s (errorsOf p s (t .phase)) (t .phase) (h .control) (h .phase) .byte
+
+  -- MC: odd parity, the mark of step 5, and all else as in the packet after stamping
+  pub sent-mc : (i : ℕ) → isMc (outcomeOf p s rows codes t .packet) ≡ true
+      → FieldSet markOf stampOf (outcomeOf p s rows codes t .packet) (packetOn (outcomeOf p s rows codes t) i) (markOn (outcomeOf p s rows codes t) i)
+  sent-mc i mc = simp mc (mark-set (outcomeOf p s rows codes t .packet) (markOn (outcomeOf p s rows codes t) i) outcome-byte (small (has (o .carried) i) (has (linksOf (o .wanted)) i)))
+    where
+      o : Outcome
+      o = outcomeOf p s rows codes t
+
+      small : (a b : Bool) → cond a (cond b 1 2) 0 < 4
+      small true true = lit< tt
+      small true false = lit< tt
+      small false b = lit< tt
+
+  -- P2P and NN: the packet after stamping itself
+  pub sent-plain : (i : ℕ) → isMc (outcomeOf p s rows codes t .packet) ≡ false → packetOn (outcomeOf p s rows codes t) i ≡ outcomeOf p s rows codes t .packet
+  sent-plain i other = simp other
+
+  -- the second leg: odd parity, mark 11, and all else as in the packet after stamping
+  pub sent-leg : FieldSet markOf stampOf (outcomeOf p s rows codes t .packet) (legPacket (outcomeOf p s rows codes t)) 3
+  sent-leg = mark-set (outcomeOf p s rows codes t .packet) 3 outcome-byte (lit< tt)

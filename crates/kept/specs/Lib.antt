@@ -1,0 +1,3 @@
+pub mod Counting
+pub mod Keeping
+pub mod Units

@@ -1,0 +1,72 @@
+// The ten counters of a chip.
+use super::Counters;
+use steps::Outcome;
+use steps::errors::flag_of;
+use super::keeping::drop_count;
+use packet::control::kind_of;
+use packet::control::mark_of;
+use std::num::wrapping_add_u32;
+ghost use mathlib.Core.Path.{_≡_};
+ghost use Prim.Native.Nat.{_≤_};
+ghost use Rattle.kept.specs.Counting.{delivered, swallows, swallowed, sentCount, countedOf, zeros};
+
+// The counters after a pass.
+pub fn counted_of(c: Counters, o: Outcome) -> Counters
+    ensures { λ r. ⌜ r ≡ countedOf c o ⌝ }
+{
+    let e = o.errors;
+    Counters {
+        count: [
+            wrapping_add_u32(c.count[0], 1),
+            wrapping_add_u32(c.count[1], e % 2),
+            wrapping_add_u32(c.count[2], e / 2 % 2),
+            wrapping_add_u32(c.count[3], e / 4 % 2),
+            wrapping_add_u32(c.count[4], e / 8 % 2),
+            wrapping_add_u32(c.count[5], sent_count(o)),
+            wrapping_add_u32(c.count[6], delivered_count(o)),
+            wrapping_add_u32(c.count[7], drop_count(o)),
+            wrapping_add_u32(c.count[8], swallowed_count(o)),
+            wrapping_add_u32(c.count[9], o.missed),
+        ],
+    }
+}
+
+pub fn no_counts() -> Counters
+    ensures { λ r. ⌜ r ≡ zeros ⌝ }
+{
+    Counters { count: [0; 10] }
+}
+
+fn sent_count(o: Outcome) -> u32
+    ensures { λ n. ⌜ n ≡ sentCount o ⌝ }
+{
+    if o.leg == 0 {
+        return u32::count_ones(o.sent);
+    }
+    u32::count_ones(o.sent) + u32::count_ones(o.leg)
+}
+
+fn delivered_count(o: Outcome) -> u32
+    ensures { λ n. ⌜ n ≡ delivered o ⌝ }
+{
+    if o.errors != 0 {
+        return 0;
+    }
+    if o.wanted < 64 {
+        return 0;
+    }
+    u32::count_ones(o.wanted / 64)
+}
+
+fn swallowed_count(o: Outcome) -> u32
+    ensures { λ n. ⌜ n ≡ swallowed o ⌝ }
+{
+    flag_of(swallows_pass(o), 1)
+}
+
+fn swallows_pass(o: Outcome) -> bool
+    ensures { λ b. ⌜ b ≡ swallows o ⌝ }
+{
+    let p = o.packet;
+    (o.errors == 0) & (o.wanted == 0) & !((kind_of(p.control) == 0) & (mark_of(p.control) == 2))
+}

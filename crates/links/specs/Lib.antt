@@ -1,0 +1,5 @@
+pub mod Across
+pub mod Line
+pub mod Lines
+pub mod Phase
+pub mod Words

@@ -1,0 +1,70 @@
+// Where a link leads: the mesh is W by H and wraps.
+ghost use mathlib.Core.Path.{_≡_};
+ghost use mathlib.Core.Bool.{true};
+ghost use Prim.Native.Nat.{ℕ, _+_, _/_, _%_, _≤_, _<_};
+ghost use Rattle.router.specs.Call.{sizeFine};
+ghost use Rattle.links.specs.Across.{stepEast, stepNorth, across, asidePlace};
+
+// The place of the count of what was set aside for the chip at x and y on the link that it arrives by.
+pub fn aside_place(width: u32, height: u32, x: u32, y: u32, source: u32) -> usize
+    requires { ⌜ (sizeFine width height ≡ true) × ((x < width) × ((y < height) × (source < 6))) ⌝ }
+    ensures { λ r. ⌜ ((chip : ℕ) → x ≡ chip % width → y ≡ chip / width → r ≡ asidePlace width height chip source) ⌝ }
+{
+    let from = across_link(width, height, x, y, source) as usize;
+    let link = ((source + 3) % 6) as usize;
+    6 + from * 322 + (16 + link * 51) + 26
+}
+
+// The chip at the other end of link i of the chip at x and y.
+fn across_link(width: u32, height: u32, x: u32, y: u32, i: u32) -> u32
+    requires { ⌜ (sizeFine width height ≡ true) × ((x < width) × (y < height)) ⌝ }
+    ensures { λ r. ⌜ ((chip : ℕ) → x ≡ chip % width → y ≡ chip / width → r ≡ across width height chip i) ⌝ }
+    ensures { λ r. ⌜ r < 144 ⌝ }
+{
+    let north = wrapped(y + step_north(height, i), height);
+    let east = wrapped(x + step_east(width, i), width);
+    north * width + east
+}
+
+// A place past the last, back at the first: what is left of a division, without one.
+fn wrapped(place: u32, size: u32) -> u32
+    requires { ⌜ place < size + size ⌝ }
+    ensures { λ r. ⌜ r ≡ place % size ⌝ }
+{
+    if place < size { place } else { place - size }
+}
+
+fn step_east(width: u32, i: u32) -> u32
+    requires { ⌜ (1 ≤ width) × (width ≤ 12) ⌝ }
+    ensures { λ r. ⌜ (r ≡ stepEast width i) × (r ≤ width) ⌝ }
+{
+    if i <= 1 {
+        return 1;
+    }
+    if i == 3 {
+        return width - 1;
+    }
+    if i == 4 {
+        return width - 1;
+    }
+    0
+}
+
+fn step_north(height: u32, i: u32) -> u32
+    requires { ⌜ (1 ≤ height) × (height ≤ 12) ⌝ }
+    ensures { λ r. ⌜ (r ≡ stepNorth height i) × (r ≤ height) ⌝ }
+{
+    if i == 1 {
+        return 1;
+    }
+    if i == 2 {
+        return 1;
+    }
+    if i == 4 {
+        return height - 1;
+    }
+    if i == 5 {
+        return height - 1;
+    }
+    0
+}

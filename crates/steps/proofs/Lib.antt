@@ -1,0 +1,4 @@
+pub mod Bounds
+pub mod BySource
+pub mod LookedUp
+pub mod Ways

@@ -1,0 +1,59 @@
+use mathlib.Core.Path.{_≡_, refl, sym, ap, _∙_}
+use Rattle.steps.specs.Deciding.{outcomeOf}
+use Rattle.steps.proofs.LookedUp.{looked-up-in}
+use borrow.Author.Needs.{needs}
+use Rattle.steps.proofs.deciding.outcome_of.Statement.{statement}
+use Rattle.steps.proofs.deciding.outcome_of.Tie as tie
+use Rattle.steps.proofs.deciding.outcome_of.Reads as reads
+use Rattle.steps.proofs.deciding.outcome_of.Lts as lts
+use Rattle.steps.proofs.deciding.decide.Reads as decide-reads
+use Rattle.steps.proofs.errors.errors_of.Reads as errors-of-reads
+use Rattle.steps.proofs.errors.stamped_of.Reads as stamped-of-reads
+use Rattle.steps.proofs.wants.by_rows.Reads as by-rows-reads
+use Rattle.steps.proofs.wants.looked_up.Reads as looked-up-reads
+use Rattle.steps.proofs.wants.wanted_of.Reads as wanted-of-reads
+
+-- src/deciding.rt:30:9
+errors-of-requires : tie.Need-errors-of-requires
+errors-of-requires c κs = search needs
+
+-- src/deciding.rt:31:9
+stamped-of-requires : tie.Need-stamped-of-requires
+stamped-of-requires c κs = search needs
+
+-- src/deciding.rt:32:9
+by-rows-requires : tie.Need-by-rows-requires
+by-rows-requires c κs = search needs
+
+-- src/deciding.rt:33:9
+looked-up-requires : tie.Need-looked-up-requires
+looked-up-requires c κs = search needs
+
+-- src/deciding.rt:34:9
+wanted-of-requires : tie.Need-wanted-of-requires
+wanted-of-requires c κs = search needs
+
+-- src/deciding.rt:35:5
+decide-requires : tie.Need-decide-requires
+decide-requires c κs = search needs
+
+-- src/deciding.rt:26:1
+returns : tie.Need-returns
+unfolding outcomeOf
+returns c =
+    let a = c .before .before .before .before .before .before .before .before .args in
+    let found = looked-up-in (c .before .before .before .before .before .errors-of .result) (a .p) (a .rows .now) _ _ (c .before .before .before .by-rows .ensures) (c .before .before .looked-up .ensures) in
+    let wanted = c .before .wanted-of .ensures (a .rows .now) found in
+    c .decide .ensures ∙ simp (wanted, c .before .before .before .before .stamped-of .ensures, c .before .before .before .before .before .errors-of .ensures .0)
+
+pub outcome-of-spec : {M : Type 1} → statement M
+outcome-of-spec =
+    tie.close
+    (tie.spec
+    errors-of-requires
+    stamped-of-requires
+    by-rows-requires
+    looked-up-requires
+    wanted-of-requires
+    decide-requires
+    returns)

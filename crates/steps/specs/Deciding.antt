@@ -1,0 +1,76 @@
+-- What a pass does with a packet: steps 1 to 7 put together.
+use Prim.Native.Nat.{ℕ, _+_, _*_, _^_, _≤_, _<_}
+use mathlib.Core.Bool.{Bool, cond, _&&_, _||_}
+use mathlib.Core.List.{List}
+use lib.Dec.{eqb}
+use lib.ListN.{length}
+use Rattle.packet.specs.declared.Packet.{Packet}
+use Rattle.packet.specs.Bytes.{nothing}
+use Rattle.packet.specs.Control.{kindOf, markOf}
+use Rattle.packet.specs.Parity.{withMark}
+use Rattle.steps.specs.declared.Setting.{Setting}
+use Rattle.steps.specs.declared.Wanted.{Wanted}
+use Rattle.steps.specs.declared.Outcome.{Outcome}
+use Rattle.steps.specs.Links.{has, linksOf, link}
+use Rattle.steps.specs.Detour.{carrySet, sendSet, dropSet, plainSendSet, plainDropSet}
+use Rattle.steps.specs.Errors.{errorsOf, stampedOf}
+use Rattle.steps.specs.Wants.{wantedOf}
+
+abbrev pub isMc : Packet → Bool
+isMc p = eqb (kindOf (p .control)) 0
+
+-- Step 4: "MC marked 01 or 10 also has a second leg on link (source-1) mod 6." A packet in error has none. Source + 5 is source - 1.
+abbrev pub hasLeg : ℕ → Packet → Bool
+hasLeg errors p = eqb errors 0 && isMc p && (eqb (markOf (p .control)) 1 || eqb (markOf (p .control)) 2)
+
+abbrev pub legSet : ℕ → Packet → ℕ → ℕ
+legSet errors p source = cond (hasLeg errors p) (2 ^ link (source + 5)) 0
+
+-- Steps 5 to 7, from the packet after stamping and its wanted set: MC with detours, P2P and NN without. Step 6: "The second leg is sent with
+-- mark 11 if its link is ready, else dropped."
+unfoldable pub decided : ℕ → Packet → ℕ → Wanted → ℕ → Outcome
+decided errors p source w ready =
+    record {
+      errors = errors;
+      packet = p;
+      wanted = w .set;
+      missed = w .missed;
+      sent = cond (isMc p) (sendSet (linksOf (w .set)) ready) (plainSendSet (linksOf (w .set)) ready);
+      carried = cond (isMc p) (carrySet (linksOf (w .set)) ready) 0;
+      dropped = cond (isMc p) (dropSet (linksOf (w .set)) ready) (plainDropSet (linksOf (w .set)) ready);
+      leg = plainSendSet (legSet errors p source) ready;
+      lost = plainDropSet (legSet errors p source) ready;
+    }
+
+unfoldable pub outcomeOf : Packet → ℕ → List ℕ → List ℕ → Setting → Outcome
+outcomeOf p source rows codes t =
+    decided (errorsOf p source (t .phase)) (stampedOf p source (errorsOf p source (t .phase)) (t .phase)) source
+    (wantedOf (errorsOf p source (t .phase)) p source rows codes t)
+    (t .ready)
+
+-- Nothing at all, as where a pass is refused.
+abbrev pub noOutcome : Outcome
+noOutcome = record { errors = 0; packet = nothing; wanted = 0; missed = 0; sent = 0; carried = 0; dropped = 0; leg = 0; lost = 0 }
+
+-- "Mark 00 if wanted and not carrying a detour, 01 if wanted and carrying one, 10 if only carrying."
+abbrev pub markOn : Outcome → ℕ → ℕ
+markOn o i = cond (has (o .carried) i) (cond (has (linksOf (o .wanted)) i) 1 2) 0
+
+-- What link i sends in step 5 or 7.
+abbrev pub packetOn : Outcome → ℕ → Packet
+packetOn o i = cond (isMc (o .packet)) (withMark (o .packet) (markOn o i)) (o .packet)
+
+-- What the second leg's link sends.
+abbrev pub legPacket : Outcome → Packet
+legPacket o = withMark (o .packet) 3
+
+-- What is checked before a pass.
+pub record Checked (p : Packet) (source : ℕ) (codes : List ℕ) (t : Setting) : Type 0 where
+  pub control : p .control < 256
+  pub from : source < 8
+  pub monitor : t .monitor < 20
+  pub phase : t .phase ≤ 3
+  pub ready : t .ready < 64
+  pub width : t .width ≤ 12
+  pub height : t .height ≤ 12
+  pub enough : t .height * t .width ≤ length codes

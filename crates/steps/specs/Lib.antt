@@ -1,0 +1,5 @@
+pub mod Deciding
+pub mod Detour
+pub mod Errors
+pub mod Links
+pub mod Wants

@@ -1,0 +1,64 @@
+-- Step 3, the wanted set: by type, then by mark and NN route.
+use Prim.Native.Nat.{ℕ, _+_, _*_, _/_, _%_, _^_}
+use mathlib.Core.Bool.{Bool, cond, _&&_, not}
+use mathlib.Core.List.{List}
+use lib.Dec.{eqb, ltb}
+use Rattle.packet.specs.declared.Packet.{Packet}
+use Rattle.packet.specs.Control.{kindOf, markOf, routeOf}
+use Rattle.tables.specs.declared.Matched.{Matched}
+use Rattle.tables.specs.declared.Matched.the-variants.{Route, Missed}
+use Rattle.tables.specs.Rows.{rowsOf, routeFor}
+use Rattle.tables.specs.Codes.{codeFor}
+use Rattle.steps.specs.declared.Setting.{Setting}
+use Rattle.steps.specs.declared.Wanted.{Wanted}
+use Rattle.steps.specs.Links.{monitorBit, link}
+
+abbrev pub wants : ℕ → Wanted
+wants set = record { set = set; missed = 0 }
+
+-- "With no match, the monitor if local, else link (source+3) mod 6 for marks 00 and 01, (source+2) mod 6 for 11." "A local miss is a local MC
+-- packet without error and without a matching row."
+abbrev pub missWanted : ℕ → ℕ → ℕ → Wanted
+missWanted mark source monitor =
+    cond (eqb source 7) (record { set = monitorBit monitor; missed = 1 })
+    (wants (2 ^ link (cond (eqb mark 3) (source + 2) (source + 3))))
+
+abbrev pub matchWanted : Matched → ℕ → ℕ → ℕ → Wanted
+matchWanted (Route route) mark source monitor = wants route
+matchWanted Missed mark source monitor = missWanted mark source monitor
+
+-- "MC, mark not 10: the matching row's route; ... MC, mark 10: nothing."
+abbrev pub markWanted : Matched → ℕ → ℕ → ℕ → Wanted
+markWanted m mark source monitor = cond (eqb mark 2) (wants 0) (matchWanted m mark source monitor)
+
+abbrev pub mcWanted : Packet → ℕ → List ℕ → ℕ → Wanted
+mcWanted p source rows monitor = markWanted (routeFor (p .word) (rowsOf rows)) (markOf (p .control)) source monitor
+
+-- A P2P code and an NN route lead alike, but for 6.
+abbrev pub numberWanted : ℕ → ℕ → ℕ → ℕ
+numberWanted number six monitor = cond (ltb number 6) (2 ^ number) (cond (eqb number 6) six (monitorBit monitor))
+
+-- "P2P: by its code": "0 to 5 a link, 6 nowhere, 7 the monitor." The destination is the low half of the word.
+abbrev pub p2pWanted : Packet → List ℕ → Setting → ℕ
+p2pWanted p codes t = numberWanted (codeFor codes (t .width) (t .height) (p .word % 65536)) 0 (t .monitor)
+
+-- "NN, local: route 7 the monitor, 6 all six links, else that link. NN from a link: the monitor."
+abbrev pub nnWanted : Packet → ℕ → ℕ → ℕ
+nnWanted p source monitor = cond (eqb source 7) (numberWanted (routeOf (p .control)) 63 monitor) (monitorBit monitor)
+
+abbrev pub kindWanted : ℕ → Packet → ℕ → List ℕ → List ℕ → Setting → Wanted
+kindWanted kind p source rows codes t =
+    cond (eqb kind 0) (mcWanted p source rows (t .monitor)) (wants (cond (eqb kind 1) (p2pWanted p codes t) (nnWanted p source (t .monitor))))
+
+-- What goes by the rows: an MC packet without error and not marked 10.
+abbrev pub byRows : ℕ → ℕ → Bool
+byRows errors control = eqb errors 0 && eqb (kindOf control) 0 && not (eqb (markOf control) 2)
+
+-- What is looked up in them: the route of such a packet, and nothing for any other.
+abbrev pub lookedUp : ℕ → Packet → List ℕ → Matched
+lookedUp errors p rows = cond (byRows errors (p .control)) (routeFor (p .word) (rowsOf rows)) Missed
+
+-- "A packet in error goes, as it came, to the monitor and nowhere else".
+unfoldable pub wantedOf : ℕ → Packet → ℕ → List ℕ → List ℕ → Setting → Wanted
+wantedOf errors p source rows codes t =
+    cond (eqb errors 0) (kindWanted (kindOf (p .control)) p source rows codes t) (wants (monitorBit (t .monitor)))
