@@ -1,28 +1,26 @@
 -- The account of one pass: weight in and extra branches are delivered, ended in error, dropped, swallowed or sent. What carries it: link by
 -- link the weights are computed for every wanted and ready set, and a wanted set's bits are its processors' and its links'. Assumes nothing.
-use mathlib.Core.Path.{_≡_, refl, sym, ap, _∙_, subst}
-use mathlib.Core.Logic.{_⊎_, inl, inr, ⊎-elim}
-use mathlib.Core.Bool.{Bool, true, false, cond, _&&_, _||_, not, and-true, and-false, and-eq-true-iff}
-use mathlib.Core.List.{List}
-use Prim.Native.Nat.{ℕ, zero, suc, _+_, _-_, _*_, _/_, _%_, _^_, _≤_, _<_}
+use mathlib.Core.Path.{_≡_, refl, sym, ap, _∙_}
+use mathlib.Core.Bool.{Bool, true, false, cond, _&&_, and-true, and-false, and-eq-true-iff}
+use Prim.Native.Nat.{ℕ, zero, suc, _+_, _-_, _/_, _%_, _^_, _≤_, _<_}
 use native.Mathlib.Nat.{mod-lt, div-add-mod'}
 use native.Mathlib.Omega.{arith}
 use lib.Count.{ones, onesIn, ones-cat, ones-step}
 use lib.Arith.{bin-ind}
 use lib.Dec.{eqb, ltb, lit<}
-use borrow.Author.Tests.{eqb-true, eqb-false, ltb-true, eq-eqb, ne-eqb, lt-ltb, le-ltb}
+use borrow.Author.Tests.{eqb-true, eqb-false, ltb-true, lt-ltb}
 use Rattle.packet.proofs.Small.{every, at, every₂, at₂}
 use Rattle.packet.specs.declared.Packet.{Packet}
-use Rattle.packet.specs.Control.{kindOf, markOf}
+use Rattle.packet.specs.Control.{markOf}
 use Rattle.packet.proofs.Folded.{ones-zero}
 use Rattle.steps.specs.declared.Outcome.{Outcome}
 use Rattle.steps.specs.declared.Wanted.{Wanted}
 use Rattle.steps.specs.Links.{has, linksOf, processorsOf, link}
-use Rattle.steps.specs.Detour.{carries, carrySet, sendSet, dropSet, plainSendSet, plainDropSet}
-use Rattle.steps.specs.Deciding.{isMc, hasLeg, legSet, decided, markOn}
+use Rattle.steps.specs.Detour.{carrySet, sendSet, dropSet, plainSendSet, plainDropSet}
+use Rattle.steps.specs.Deciding.{isMc, hasLeg, decided}
 use Rattle.kept.specs.Keeping.{dropCount}
-use Rattle.kept.specs.Counting.{delivered, swallowed, swallows}
-use Rattle.kept.specs.Units.{weight, weightIn, extra, ended, overLinks, weightSent}
+use Rattle.kept.specs.Counting.{delivered, swallowed}
+use Rattle.kept.specs.Units.{weightIn, extra, ended, overLinks, weightSent}
 
 -- ---- link by link, computed
 

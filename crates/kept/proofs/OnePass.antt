@@ -1,28 +1,27 @@
 -- What holds of every pass, whatever the packet, the tables and the setting. Assumes nothing.
-use mathlib.Core.Path.{_≡_, refl, sym, ap, _∙_, subst}
-use mathlib.Core.Logic.{_⊎_, inl, inr, ⊎-elim}
-use mathlib.Core.Bool.{Bool, true, false, cond, _&&_, not, and-eq-true-iff, true≢false}
+use mathlib.Core.Path.{_≡_, refl, sym, ap, _∙_}
+use mathlib.Core.Logic.{_⊎_, ⊎-elim}
+use mathlib.Core.Bool.{Bool, true, false, cond, _&&_, not, true≢false}
 use mathlib.Core.List.{List}
-use Prim.Native.Nat.{ℕ, suc, _+_, _*_, _/_, _%_, _^_, _≤_, _<_}
+use Prim.Native.Nat.{ℕ, _+_, _^_, _≤_, _<_}
 use native.Mathlib.Nat.{mul-mod-right}
 use native.Mathlib.Omega.{arith}
 use lib.Pow.{pow-add}
 use lib.Dec.{eqb, ltb, lit<}
-use borrow.Author.Tests.{eq-eqb, ne-eqb, eqb-true, lt-ltb, le-ltb}
+use borrow.Author.Tests.{eq-eqb, ne-eqb, eqb-true}
 use Rattle.packet.specs.declared.Packet.{Packet}
 use Rattle.packet.specs.Control.{kindOf, markOf, stampOf, carriesOf}
-use Rattle.packet.specs.Parity.{isOdd, withMark, withStamp}
+use Rattle.packet.specs.Parity.{isOdd, withStamp}
 use Rattle.packet.proofs.Rewrite.{FieldSet, mark-set, stamp-set}
 use Rattle.steps.specs.declared.Outcome.{Outcome}
 use Rattle.steps.specs.declared.Setting.{Setting}
-use Rattle.steps.specs.declared.Wanted.{Wanted}
 use Rattle.steps.specs.Links.{has, linksOf, monitorBit}
 use Rattle.steps.specs.Errors.{errorsOf, stampedOf, tooOld, badLocal, wrongLength, flag}
 use Rattle.steps.specs.Wants.{wantedOf}
 use Rattle.steps.specs.Deciding.{isMc, decided, outcomeOf, markOn, packetOn, legPacket, Checked}
 use Rattle.kept.specs.Keeping.{dropCount}
 use Rattle.kept.specs.Counting.{delivered, swallowed}
-use Rattle.kept.specs.Units.{weight, weightIn, extra, ended, weightSent}
+use Rattle.kept.specs.Units.{weightIn, extra, ended, weightSent}
 use Rattle.kept.proofs.Account.{Consistent, account-decided}
 
 -- a link, or local

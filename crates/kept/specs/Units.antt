@@ -1,13 +1,13 @@
 -- The units of a pass. "A unit is one branch."
 use Prim.Native.Nat.{ℕ, _+_, _-_}
-use mathlib.Core.Bool.{Bool, cond, _&&_}
+use mathlib.Core.Bool.{cond, _&&_}
 use lib.Count.{ones}
 use lib.Dec.{eqb, ltb}
 use Rattle.packet.specs.declared.Packet.{Packet}
 use Rattle.packet.specs.Control.{markOf}
 use Rattle.steps.specs.declared.Outcome.{Outcome}
 use Rattle.steps.specs.Links.{has}
-use Rattle.steps.specs.Deciding.{isMc, markOn, packetOn}
+use Rattle.steps.specs.Deciding.{isMc, markOn}
 
 -- "An in-flight MC packet marked 01 weighs two, every other packet one".
 abbrev pub weight : Packet → ℕ

@@ -1,13 +1,12 @@
 // The ten counters of a chip.
 use super::Counters;
-use steps::Outcome;
-use steps::errors::flag_of;
 use super::keeping::drop_count;
 use packet::control::kind_of;
 use packet::control::mark_of;
 use std::num::wrapping_add_u32;
+use steps::Outcome;
+use steps::errors::flag_of;
 ghost use mathlib.Core.Path.{_≡_};
-ghost use Prim.Native.Nat.{_≤_};
 ghost use Rattle.kept.specs.Counting.{delivered, swallows, swallowed, sentCount, countedOf, zeros};
 
 // The counters after a pass.

@@ -1,6 +1,6 @@
 // The error registers: the first dropped unit, and whether more followed.
-use steps::Outcome;
 use super::Registers;
+use steps::Outcome;
 use steps::errors::flag_of;
 ghost use mathlib.Core.Path.{_≡_};
 ghost use Prim.Native.Nat.{_<_, _≤_};

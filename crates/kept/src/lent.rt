@@ -1,7 +1,7 @@
 // The error registers in a struct that the caller lends and keeps.
-use steps::Outcome;
 use super::Registers;
 use super::keeping::kept_of;
+use steps::Outcome;
 ghost use mathlib.Core.Path.{_≡_};
 ghost use Prim.Native.Nat.{_<_};
 ghost use Rattle.kept.specs.Keeping.{keptOf};

@@ -1,7 +1,7 @@
 // Case 13, and of case 15 the half about rows: one router, all links ready.
 use packet::reading::read;
-use steps::Setting;
 use router::call::pass;
+use steps::Setting;
 
 // Lengths 0, 4, 6 and 10 are refused with 2, and C0 00 00 00 00, whose parity is even, with 3.
 pub fn case_13() -> bool {

@@ -1,17 +1,17 @@
 -- A chip, and then a mesh, whose links were all set aside. Assumes nothing.
 use mathlib.Core.Path.{_≡_, refl, sym, ap, _∙_, subst}
 use mathlib.Core.Logic.{_⊎_, inl, inr}
-use mathlib.Core.List.{List, [], _∷_, _++_, map}
-use Prim.Native.Nat.{ℕ, zero, suc, _+_, _*_, _≤_, _<_}
+use mathlib.Core.List.{List, [], _∷_}
+use Prim.Native.Nat.{ℕ, suc, _+_, _≤_, _<_}
 use native.Mathlib.Omega.{arith}
 use lib.Dec.{lit<}
-use lib.ListN.{length, getD, take, drop}
-use Rattle.mesh.specs.Steps.{emptied, emptiedChip, setAside}
-use Rattle.links.specs.Words.{part, lineIn, asideIn, chipPlace}
-use Rattle.mesh.specs.Layout.{registersIn, chipIn, chipsIn, meshOf}
+use lib.ListN.{length, getD}
+use Rattle.mesh.specs.Steps.{emptied}
+use Rattle.links.specs.Words.{lineIn, asideIn, chipPlace}
+use Rattle.mesh.specs.Layout.{registersIn}
 use Rattle.mesh.specs.Chips.{putBack, lineWords, Upto}
 use Rattle.mesh.specs.Passing.{chipWords}
-use Rattle.mesh.specs.Aside.{asideWords, asideOn, ChipAside, AsideUpto}
+use Rattle.mesh.specs.Aside.{asideOn, ChipAside, AsideUpto}
 use Rattle.mesh.specs.Held.{Few}
 use Rattle.mesh.proofs.Parts.{length-back, part-same, part-before, part-behind, take-before, drop-behind}
 use Rattle.mesh.proofs.ChipParts.{order}

@@ -1,12 +1,12 @@
 -- A link whose packets were set aside: it holds none, and what is set aside is what it held. Assumes nothing.
-use mathlib.Core.Path.{_≡_, refl, sym, ap, _∙_, subst}
+use mathlib.Core.Path.{_≡_, refl, ap, _∙_}
 use mathlib.Core.List.{List, [], _∷_, _++_}
 use Prim.Native.Nat.{ℕ, zero, suc, _+_, _*_, _≤_, _<_}
 use native.Mathlib.Omega.{arith}
 use lib.Dec.{eqb}
 use lib.ListN.{length, getD, take, drop, set, length-set, length-drop, List·getD-append}
-use lib.Seq.{paste, length-paste, length-take-le, length-paste-head, getD-take, getD-set-same, getD-set-other, drop-set-lt, drop-append-le, drop-at, take-append-le}
-use Rattle.links.specs.Line.{Flight, Line}
+use lib.Seq.{paste, length-paste, length-take-le, length-paste-head, getD-take, getD-set-same, getD-set-other, drop-set-lt, drop-append-le, drop-at}
+use Rattle.links.specs.Line.{Flight}
 use Rattle.links.specs.Words.{packetIn, placesIn, lineIn, asideIn}
 use Rattle.mesh.specs.Steps.{emptied}
 use Rattle.mesh.specs.Aside.{asideWords}

@@ -1,43 +1,37 @@
 -- A link change and a chip's registers read, on a mesh's words. Assumes nothing.
 use mathlib.Core.Path.{_≡_, refl, sym, ap, _∙_, subst}
 use mathlib.Core.Logic.{_⊎_, inl, inr}
-use mathlib.Core.Bool.{Bool, true, false, cond}
-use mathlib.Core.List.{List, [], _++_}
-use Prim.Native.Nat.{ℕ, _+_, _*_, _≤_, _<_}
+use mathlib.Core.Bool.{Bool, true, false}
+use mathlib.Core.List.{List, []}
+use Prim.Native.Nat.{ℕ, _*_, _≤_, _<_}
 use native.Mathlib.Omega.{arith}
 use lib.Dec.{eqb, lit<}
-use lib.ListN.{length, getD, take, drop, set, replicate, length-set, length-append, length-drop}
-use lib.Seq.{getD-set-same, getD-set-other, drop-set-lt, length-take-le}
-use borrow.Author.Tests.{eq-eqb, ne-eqb}
+use lib.ListN.{length, getD, set, length-set}
+use lib.Seq.{getD-set-same, getD-set-other, drop-set-lt}
 use Rattle.packet.specs.Refusal.{firstOf}
-use Rattle.kept.specs.declared.Registers.{Registers}
-use Rattle.kept.specs.Keeping.{empty}
 use Rattle.mesh.specs.declared.Added.{Added}
-use Rattle.mesh.specs.declared.RegistersRead.{RegistersRead}
-use Rattle.links.specs.Line.{Line, idle}
-use Rattle.links.specs.Words.{part, placesIn, lineIn, linePlace, chipPlace}
+use Rattle.links.specs.Words.{placesIn, lineIn, linePlace, chipPlace}
 use Rattle.links.specs.Lines.{stateOf}
-use Rattle.mesh.specs.Mesh.{Chip, Mesh, fresh}
-use Rattle.mesh.specs.Layout.{registersIn, chipIn, meshOf, wordsFor}
+use Rattle.mesh.specs.Layout.{meshOf, wordsFor}
 use Rattle.mesh.specs.Steps.{Going, withChip}
 use Rattle.mesh.specs.Holding.{holdsMesh}
 use Rattle.mesh.specs.Chips.{putBack, changedOn, lineWords}
 use Rattle.mesh.specs.Passing.{chipWords}
 use Rattle.mesh.specs.Sound.{SoundMesh, StatesFine}
 use Rattle.mesh.specs.Going.{chipsOf}
-use Rattle.mesh.specs.Calls.{chipRefusals, numberRefusals, unless, chipOf, lineOf, withUp, withLink, withEmpty, registersRead}
-use Rattle.mesh.specs.Leaving.{Leaves, linkLeft, registersLeft, stateOn}
+use Rattle.mesh.specs.Calls.{numberRefusals, unless, lineOf, withUp, withLink}
+use Rattle.mesh.specs.Leaving.{Leaves, linkLeft, stateOn}
 use Rattle.mesh.proofs.Parts.{length-back, part-same, part-before, part-behind, take-before, drop-behind}
-use Rattle.mesh.proofs.ChipParts.{withLine, order, words-other, words-same, chip-line}
+use Rattle.mesh.proofs.ChipParts.{order, words-other, words-same, chip-line}
 use Rattle.mesh.proofs.MeshParts.{mesh-chip, mesh-put}
 use Rattle.mesh.proofs.StepAt.{chip-long}
 use Rattle.mesh.proofs.Upto.{line-long}
 use Rattle.mesh.proofs.Headers.{head-same}
-use Rattle.mesh.proofs.SoundChanges.{sound-linked, sound-emptied}
+use Rattle.mesh.proofs.SoundChanges.{sound-linked}
 use Rattle.mesh.proofs.Counts.{words-enough}
 use Rattle.mesh.proofs.SoundWords.{holds-sound, holds-states, sound-holds}
 use Rattle.mesh.proofs.Leaving.{refused-leaves, accepted-leaves, accepted-refusal}
-use Rattle.mesh.proofs.Looks.{There, chip-there, number-there, line-of}
+use Rattle.mesh.proofs.Looks.{There, number-there, line-of}
 
 -- ---- one chip's words changed
 

@@ -1,16 +1,16 @@
 -- A chip's words with one part changed: its registers, its counters or one of its links. Assumes nothing.
 use mathlib.Core.Path.{_≡_, refl, sym, ap, _∙_, subst}
 use mathlib.Core.Logic.{_⊎_, inl, inr}
-use mathlib.Core.List.{List, [], _∷_, _++_}
-use Prim.Native.Nat.{ℕ, zero, suc, _+_, _*_, _≤_, _<_}
+use mathlib.Core.List.{List, [], _∷_}
+use Prim.Native.Nat.{ℕ, zero, suc, _+_, _≤_, _<_}
 use native.Mathlib.Omega.{arith}
 use native.Mathlib.Decide.{decLt}
-use lib.ListN.{length, getD, take, drop, set, length-set}
-use lib.Dec.{lit<, lit≤}
+use lib.ListN.{length, getD, set, length-set}
+use lib.Dec.{lit<}
 use lib.Seq.{getD-set-same, getD-set-other}
 use Rattle.router.proofs.LowestFirst.{six}
 use Rattle.links.specs.Line.{Line, idle}
-use Rattle.links.specs.Words.{part, lineIn, asideIn, linePlace}
+use Rattle.links.specs.Words.{part, lineIn, linePlace}
 use Rattle.mesh.specs.Mesh.{Chip}
 use Rattle.mesh.specs.Layout.{registersIn, chipIn}
 use Rattle.mesh.specs.Chips.{putBack, lineWords}

@@ -1,30 +1,27 @@
 -- A pass with the chip's own ready set fits the chip: there is room where it sends, and what it sends is right in length. Assumes nothing.
 use mathlib.Core.Path.{_≡_, refl, sym, ap, _∙_, subst}
-use mathlib.Core.Bool.{Bool, true, false, cond, _&&_, _||_, and-false, false≢true}
+use mathlib.Core.Bool.{Bool, true, false, cond, _&&_, and-false, false≢true}
 use mathlib.Core.List.{List}
-use Prim.Native.Nat.{ℕ, _/_, _%_, _^_, _<_}
+use Prim.Native.Nat.{ℕ, _%_, _^_, _<_}
 use native.Mathlib.Nat.{zero-div, zero-mod, mul-mod-right}
 use lib.Pow.{pow-add}
-use native.Mathlib.Omega.{arith}
 use lib.Dec.{eqb}
 use lib.ListN.{length}
 use borrow.Author.Tests.{eqb-true, eqb-false, ne-eqb, not-false}
 use Rattle.packet.specs.declared.Packet.{Packet}
 use Rattle.packet.specs.Control.{carriesOf}
-use Rattle.packet.proofs.Rewrite.{FieldSet}
-use Rattle.steps.specs.declared.Outcome.{Outcome}
 use Rattle.steps.specs.declared.Setting.{Setting}
 use Rattle.steps.specs.Links.{has, setOf, linksOf}
 use Rattle.steps.specs.Detour.{carries, sends}
 use Rattle.steps.specs.Errors.{errorsOf, stampedOf}
 use Rattle.steps.specs.Wants.{wantedOf}
-use Rattle.steps.specs.Deciding.{isMc, hasLeg, legSet, decided, outcomeOf, packetOn, legPacket, Checked}
-use Rattle.steps.proofs.Bounds.{Sets, outcome-sets}
+use Rattle.steps.specs.Deciding.{isMc, legSet, decided, outcomeOf, packetOn, legPacket, Checked}
+use Rattle.steps.proofs.Bounds.{outcome-sets}
 use Rattle.kept.proofs.OnePass as pass
 use Rattle.mesh.specs.Mesh.{readyOf}
 use Rattle.mesh.specs.Layout.{chipIn}
 use Rattle.links.specs.Lines.{Right}
-use Rattle.mesh.specs.Chips.{lineWords, Takes}
+use Rattle.mesh.specs.Chips.{Takes}
 use Rattle.mesh.proofs.Sets.{has-set}
 use Rattle.mesh.proofs.Ready.{sent-ready, leg-ready, ready-room}
 

@@ -3,20 +3,17 @@ use mathlib.Core.Path.{_≡_, refl, sym, ap, _∙_, subst}
 use mathlib.Core.Logic.{inr}
 use mathlib.Core.Bool.{true}
 use mathlib.Core.List.{List, [], _∷_}
-use Prim.Native.Nat.{ℕ, _+_, _*_, _≤_, _<_}
+use Prim.Native.Nat.{ℕ, _*_, _≤_, _<_}
 use native.Mathlib.Omega.{arith}
 use lib.Dec.{lit<}
-use lib.ListN.{length, getD, drop}
+use lib.ListN.{length, getD}
 use Rattle.packet.specs.declared.Taken.{Taken}
 use Rattle.packet.specs.Bytes.{packetAt, takenOf}
 use Rattle.packet.specs.Refusal.{firstOf}
-use Rattle.mesh.specs.declared.Added.{Added}
 use Rattle.mesh.specs.Layout.{meshOf, wordsFor}
 use Rattle.mesh.specs.Steps.{Tables, Going, injected}
 use Rattle.mesh.specs.Holding.{holdsMesh}
-use Rattle.mesh.specs.Chips.{lineWords}
-use Rattle.mesh.specs.Passing.{chipWords}
-use Rattle.mesh.specs.Sound.{All, Arrives, SoundMesh, StatesFine}
+use Rattle.mesh.specs.Sound.{All, SoundMesh, StatesFine}
 use Rattle.mesh.specs.Going.{chipsOf, same, arrival, Due, Passed}
 use Rattle.mesh.specs.Calls.{injectRefusals, addedOf, loggedOn}
 use Rattle.mesh.specs.Leaving.{Leaves, injectLeft}

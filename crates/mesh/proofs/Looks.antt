@@ -1,23 +1,20 @@
 -- What a look at a mesh's words finds: a chip's counter, a link. Assumes nothing.
-use mathlib.Core.Path.{_≡_, refl, sym, ap, _∙_, subst}
-use mathlib.Core.Bool.{Bool, true, false, cond, and-eq-true-iff}
+use mathlib.Core.Path.{_≡_, refl, sym, ap, _∙_}
+use mathlib.Core.Bool.{Bool, true, cond, and-eq-true-iff}
 use mathlib.Core.List.{List}
-use Prim.Native.Nat.{ℕ, _+_, _*_, _≤_, _<_}
+use Prim.Native.Nat.{ℕ, _+_, _≤_, _<_}
 use native.Mathlib.Omega.{arith}
-use lib.Dec.{eqb, ltb}
+use lib.Dec.{ltb}
 use lib.ListN.{length, getD, take, drop}
 use lib.Seq.{getD-take, getD-drop, drop-drop, take-take}
 use borrow.Author.Tests.{ltb-true, eq-eqb, ne-eqb, not-false}
 use Rattle.packet.specs.Refusal.{firstOf}
 use Rattle.packet.proofs.First.{none-applies}
-use Rattle.mesh.specs.declared.CountRead.{CountRead}
-use Rattle.mesh.specs.declared.LinkRead.{LinkRead}
-use Rattle.mesh.specs.declared.MeshRead.{MeshRead}
 use Rattle.mesh.specs.Weights.{inFlight}
-use Rattle.links.specs.Line.{Line, idle}
+use Rattle.links.specs.Line.{idle}
 use Rattle.links.specs.Words.{part, lineIn, linePlace, chipPlace}
 use Rattle.mesh.specs.Mesh.{Chip, fresh}
-use Rattle.mesh.specs.Layout.{chipIn, meshOf, wordsFor}
+use Rattle.mesh.specs.Layout.{meshOf}
 use Rattle.mesh.specs.Holding.{holdsMesh}
 use Rattle.mesh.specs.Chips.{lineWords}
 use Rattle.mesh.specs.Passing.{chipWords}

@@ -1,16 +1,16 @@
 -- A mesh's words with one chip's block changed: the mesh with that chip changed. Assumes nothing.
-use mathlib.Core.Path.{_≡_, refl, sym, ap, _∙_, subst}
+use mathlib.Core.Path.{_≡_, refl, sym, ap, _∙_}
 use mathlib.Core.Logic.{_⊎_, inl, inr}
-use mathlib.Core.List.{List, [], _∷_, _++_}
+use mathlib.Core.List.{List, _∷_}
 use Prim.Native.Nat.{ℕ, zero, suc, _+_, _-_, _*_, _≤_, _<_}
 use native.Mathlib.Nat.{sub-zero}
 use native.Mathlib.Omega.{arith}
 use lib.Dec.{lit<}
-use lib.ListN.{length, getD, take, drop, set}
-use Rattle.mesh.specs.Mesh.{Chip, Mesh, fresh}
+use lib.ListN.{length, getD, set}
+use Rattle.mesh.specs.Mesh.{fresh}
 use Rattle.mesh.specs.Steps.{withChip}
-use Rattle.links.specs.Words.{part, chipPlace}
-use Rattle.mesh.specs.Layout.{chipIn, chipsIn, meshOf, wordsFor}
+use Rattle.links.specs.Words.{chipPlace}
+use Rattle.mesh.specs.Layout.{chipIn, chipsIn, meshOf}
 use Rattle.mesh.specs.Chips.{putBack}
 use Rattle.mesh.specs.Passing.{chipWords}
 use Rattle.mesh.proofs.Parts.{part-same, part-before, part-behind, getD-before}

@@ -1,7 +1,7 @@
 -- A buffer that was opened reads as an open mesh: all links up, nothing in flight, registers and counters at zeros. Assumes nothing.
 use mathlib.Core.Path.{_≡_, refl, sym, ap, _∙_, subst}
 use mathlib.Core.Bool.{true}
-use mathlib.Core.List.{List, [], _∷_, _++_}
+use mathlib.Core.List.{List, _∷_, _++_}
 use Prim.Native.Nat.{ℕ, zero, suc, _+_, _-_, _*_, _≤_, _<_}
 use native.Mathlib.Omega.{arith}
 use lib.ListN.{length, getD, take, drop, replicate, length-append, length-replicate, length-drop}
@@ -11,7 +11,7 @@ use Rattle.packet.proofs.First.{none-applies}
 use Rattle.mesh.specs.Mesh.{fresh, opened}
 use Rattle.links.specs.Words.{part, placesIn, chipPlace}
 use Rattle.mesh.specs.Layout.{chipIn, chipsIn, meshOf, wordsFor}
-use Rattle.mesh.specs.Opening.{roundsFine, openRefusals, openedWords}
+use Rattle.mesh.specs.Opening.{openRefusals, openedWords}
 use Rattle.mesh.specs.Holding.{holdsMesh}
 use Rattle.mesh.specs.Chips.{lineWords}
 use Rattle.mesh.specs.Passing.{chipWords}

@@ -1,19 +1,16 @@
 -- A pass sends only by links that its ready set has, and a ready link has room for two. Assumes nothing.
-use mathlib.Core.Path.{_≡_, refl, sym, ap, _∙_, subst}
-use mathlib.Core.Bool.{Bool, true, false, cond, _&&_, _||_, not, and-eq-true-iff}
+use mathlib.Core.Path.{_≡_, sym, ap, _∙_}
+use mathlib.Core.Bool.{Bool, true, false, cond, _&&_, _||_, and-eq-true-iff}
 use mathlib.Core.List.{List}
-use Prim.Native.Nat.{ℕ, _+_, _≤_, _<_}
-use native.Mathlib.Omega.{arith}
-use lib.Dec.{eqb, leb}
+use Prim.Native.Nat.{ℕ, _≤_, _<_}
+use lib.Dec.{leb}
 use lib.ListN.{length, getD}
 use borrow.Author.Tests.{leb-true}
 use Rattle.packet.specs.declared.Packet.{Packet}
-use Rattle.steps.specs.declared.Outcome.{Outcome}
-use Rattle.steps.specs.declared.Setting.{Setting}
 use Rattle.steps.specs.declared.Wanted.{Wanted}
 use Rattle.steps.specs.Links.{has, setOf, linksOf}
 use Rattle.steps.specs.Detour.{carries, sends}
-use Rattle.steps.specs.Deciding.{isMc, legSet, decided, outcomeOf}
+use Rattle.steps.specs.Deciding.{isMc, legSet, decided}
 use Rattle.links.specs.Line.{isReady, idle}
 use Rattle.links.specs.Words.{lineIn}
 use Rattle.mesh.specs.Mesh.{readyOf}

@@ -1,18 +1,15 @@
 -- A chip's registers read, on a mesh's words: handed over and emptied. Assumes nothing.
-use mathlib.Core.Path.{_≡_, refl, sym, ap, _∙_, subst}
+use mathlib.Core.Path.{_≡_, sym, ap, _∙_, subst}
 use mathlib.Core.Bool.{Bool, cond}
 use mathlib.Core.List.{List, [], _∷_, _++_}
-use Prim.Native.Nat.{ℕ, _+_, _*_, _≤_, _<_}
+use Prim.Native.Nat.{ℕ, _+_, _≤_}
 use native.Mathlib.Omega.{arith}
-use lib.Dec.{eqb}
-use lib.ListN.{length, getD, take, drop, replicate, length-append, length-drop}
+use lib.ListN.{length, getD, drop, replicate, length-append, length-drop}
 use lib.Seq.{take-take, length-take-le}
 use borrow.Author.Tests.{eq-eqb, ne-eqb}
 use Rattle.packet.specs.Refusal.{firstOf}
 use Rattle.kept.specs.declared.Registers.{Registers}
 use Rattle.kept.specs.Keeping.{empty}
-use Rattle.mesh.specs.declared.Added.{Added}
-use Rattle.mesh.specs.declared.RegistersRead.{RegistersRead}
 use Rattle.mesh.specs.Mesh.{Chip}
 use Rattle.links.specs.Words.{part, lineIn, linePlace, chipPlace}
 use Rattle.mesh.specs.Layout.{registersIn, chipIn, meshOf}
@@ -29,7 +26,7 @@ use Rattle.mesh.proofs.StepAt.{chip-long}
 use Rattle.mesh.proofs.SoundChanges.{sound-emptied}
 use Rattle.mesh.proofs.SoundWords.{holds-sound}
 use Rattle.mesh.proofs.Leaving.{refused-leaves}
-use Rattle.mesh.proofs.Looks.{There, chip-there}
+use Rattle.mesh.proofs.Looks.{chip-there}
 use Rattle.mesh.proofs.Changes.{chip-leaves}
 
 -- six zeros in the place of the registers

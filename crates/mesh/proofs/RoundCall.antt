@@ -1,27 +1,25 @@
 -- A round that is accepted: what is due, and what the three steps of the code leave together. Assumes nothing.
-use mathlib.Core.Path.{_≡_, refl, sym, ap, _∙_, subst}
+use mathlib.Core.Path.{_≡_, sym, ap, _∙_, subst}
 use mathlib.Core.Bool.{true, and-eq-true-iff}
 use mathlib.Core.List.{List, [], foldl}
-use Prim.Native.Nat.{ℕ, _+_, _*_, _≤_, _<_}
+use Prim.Native.Nat.{ℕ, _*_, _≤_, _<_}
 use native.Mathlib.Omega.{arith}
-use native.Mathlib.Nat.{sub-zero}
 use lib.Dec.{lit<}
 use borrow.Author.Tests.{leb-true}
 use Rattle.packet.specs.Refusal.{firstOf}
 use Rattle.router.proofs.Inputs as inputs
 use lib.ListN.{length, getD, take, drop}
-use Rattle.mesh.specs.declared.Added.{Added}
 use Rattle.mesh.specs.Mesh.{Chip, Mesh, fresh}
-use Rattle.links.specs.Words.{part, chipPlace}
-use Rattle.mesh.specs.Layout.{chipIn, meshOf, wordsFor}
+use Rattle.links.specs.Words.{chipPlace}
+use Rattle.mesh.specs.Layout.{meshOf, wordsFor}
 use Rattle.mesh.specs.Steps.{Tables, Going, setAside, arrivals, passAt, roundOver, rounded}
-use Rattle.mesh.specs.Holding.{holdsMesh, headFine}
+use Rattle.mesh.specs.Holding.{holdsMesh}
 use Rattle.mesh.specs.Chips.{lineWords}
 use Rattle.mesh.specs.Passing.{chipWords}
 use Rattle.mesh.specs.Sound.{All, Arrives, SoundLine, SoundChip, SoundMesh, StatesFine}
 use Rattle.mesh.specs.Weights.{onLine, onChip, inFlight}
 use Rattle.mesh.specs.Aside.{AsideUpto}
-use Rattle.mesh.specs.Going.{chipsOf, same, upTo, asideAt, goingIn, Lent, Due, DueAside, Passed}
+use Rattle.mesh.specs.Going.{chipsOf, same, upTo, asideAt, goingIn, Lent, DueAside, Passed}
 use Rattle.mesh.specs.Calls.{roundRefusals, addedOf, loggedOn}
 use Rattle.mesh.specs.Leaving.{Leaves, roundLeft, overWords}
 use Rattle.mesh.proofs.Alls.{all-getD, all-weaken}

@@ -1,24 +1,24 @@
 -- A round on a mesh's words, step by step: all set aside, all of it arrived, the phase stepped on. Assumes nothing.
 use mathlib.Core.Path.{_≡_, refl, sym, ap, _∙_, subst}
 use mathlib.Core.Bool.{Bool, true, false, cond}
-use mathlib.Core.List.{List, [], _∷_, _++_, map, append-nil, append-assoc}
+use mathlib.Core.List.{List, _∷_, _++_, map, append-nil, append-assoc}
 use Prim.Native.Nat.{ℕ, zero, suc, _+_, _-_, _*_, _≤_, _<_}
 use native.Mathlib.Omega.{arith}
 use native.Mathlib.Nat.{zero-add, add-zero, add-suc, suc-add}
 use lib.Dec.{ltb, lit<}
 use lib.ListN.{length, getD, take, drop, set, length-set}
-use lib.Seq.{getD-drop, getD-set-same, getD-set-other, drop-set-lt}
+use lib.Seq.{getD-set-same, getD-set-other, drop-set-lt}
 use Rattle.links.specs.Line.{Flight, idle}
 use Rattle.links.specs.Across.{across, opposite}
 use Rattle.links.specs.Phase.{nextPhase}
-use Rattle.links.specs.Words.{part, lineIn, asideIn, placesIn, chipPlace}
-use Rattle.mesh.specs.Mesh.{Chip, Mesh, fresh}
+use Rattle.links.specs.Words.{asideIn, chipPlace}
+use Rattle.mesh.specs.Mesh.{Chip}
 use Rattle.mesh.specs.Layout.{chipIn, chipsIn, meshOf}
-use Rattle.mesh.specs.Steps.{Arrival, emptiedChip, setAside, arrivingBy, arrivingAt, arrivingFrom, arrivals, roundOver}
+use Rattle.mesh.specs.Steps.{emptiedChip, setAside, arrivingBy, arrivingAt, arrivingFrom, arrivals, roundOver}
 use Rattle.mesh.specs.Chips.{lineWords}
 use Rattle.mesh.specs.Passing.{chipWords}
-use Rattle.mesh.specs.Aside.{ChipAside, AsideUpto}
-use Rattle.mesh.specs.Going.{chipsOf, upTo, asideBy, asideAt, asideFor, AsideFew}
+use Rattle.mesh.specs.Aside.{AsideUpto}
+use Rattle.mesh.specs.Going.{chipsOf, upTo, asideBy, asideAt, AsideFew}
 use Rattle.mesh.specs.Leaving.{overWords}
 use Rattle.mesh.proofs.ChipParts.{line-at}
 use Rattle.mesh.proofs.MeshParts.{mesh-chip}

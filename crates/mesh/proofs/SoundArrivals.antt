@@ -1,19 +1,19 @@
 -- What arrives in a sound mesh may pass: at a chip that is there, by a link, a packet that is sound. Assumes nothing.
-use mathlib.Core.Path.{_≡_, sym, subst}
-use mathlib.Core.Logic.{_⊎_, inl}
-use mathlib.Core.Bool.{true, and-eq-true-iff}
+use mathlib.Core.Path.{sym, subst}
+use mathlib.Core.Logic.{inl}
+use mathlib.Core.Bool.{and-eq-true-iff}
 use Prim.Native.Nat.{ℕ, zero, suc, _+_, _*_, _/_, _%_, _≤_, _<_}
 use native.Mathlib.Nat.{mod-lt, mul-le-mul-right}
 use native.Mathlib.Omega.{arith}
 use lib.Dec.{lit<}
 use lib.ListN.{getD}
-use borrow.Author.Tests.{ltb-true, leb-true, eqb-true, not-true}
+use borrow.Author.Tests.{ltb-true, eqb-true, not-true}
 use Rattle.packet.specs.declared.Packet.{Packet}
 use Rattle.router.proofs.Inputs as inputs
 use Rattle.links.specs.Line.{idle}
 use Rattle.links.specs.Across.{across, opposite, stepEast, stepNorth}
 use Rattle.mesh.specs.Mesh.{Mesh, fresh}
-use Rattle.mesh.specs.Steps.{Arrival, arrivingBy, arrivingAt, arrivingFrom, arrivals}
+use Rattle.mesh.specs.Steps.{arrivingBy, arrivingAt, arrivingFrom, arrivals}
 use Rattle.mesh.specs.Sound.{All, Passable, Arrives, SoundPacket, SoundLine, SoundChip, SoundMesh}
 use Rattle.mesh.proofs.Alls.{all-nil, all-append, all-getD, all-map, all-weaken}
 

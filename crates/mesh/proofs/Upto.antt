@@ -2,11 +2,10 @@
 -- nothing.
 use mathlib.Core.Path.{_≡_, refl, sym, ap, _∙_, subst}
 use mathlib.Core.Logic.{_⊎_, inl, inr}
-use mathlib.Core.Bool.{true}
-use mathlib.Core.List.{List, [], _∷_, _++_}
-use Prim.Native.Nat.{ℕ, zero, suc, _+_, _*_, _≤_, _<_}
+use mathlib.Core.List.{List, [], _∷_}
+use Prim.Native.Nat.{ℕ, suc, _+_, _≤_, _<_}
 use native.Mathlib.Omega.{arith}
-use lib.ListN.{length, getD, take, drop, length-drop}
+use lib.ListN.{length, drop, length-drop}
 use lib.Seq.{length-take-le}
 use lib.Dec.{lit<}
 use Rattle.steps.specs.declared.Outcome.{Outcome}
@@ -15,8 +14,8 @@ use Rattle.kept.specs.Counting.{countedOf}
 use Rattle.links.specs.Line.{lineAfter}
 use Rattle.links.specs.Words.{part, lineIn, linePlace}
 use Rattle.links.specs.Lines.{sentWords, Room, still}
-use Rattle.mesh.specs.Steps.{linesAfter, chipAfter}
-use Rattle.mesh.specs.Layout.{registersIn, chipIn}
+use Rattle.mesh.specs.Steps.{linesAfter}
+use Rattle.mesh.specs.Layout.{registersIn}
 use Rattle.mesh.specs.Chips.{putBack, changedOn, sending, registerWords, lineWords, Takes, ChipStep, Upto}
 use Rattle.mesh.proofs.Parts.{length-back, part-same, part-before, part-behind}
 use Rattle.mesh.proofs.ChipParts.{order, words-other, words-same}

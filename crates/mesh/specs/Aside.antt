@@ -4,10 +4,9 @@ use mathlib.Core.Path.{_≡_}
 use mathlib.Core.List.{List}
 use lib.ListN.{length, getD, take, drop, set}
 use lib.Seq.{paste}
-use Rattle.links.specs.Line.{Line}
 use Rattle.links.specs.Words.{lineIn, asideIn, chipPlace}
-use Rattle.mesh.specs.Steps.{emptiedChip, setAside}
-use Rattle.mesh.specs.Layout.{chipIn, meshOf, wordsFor}
+use Rattle.mesh.specs.Steps.{emptiedChip}
+use Rattle.mesh.specs.Layout.{chipIn}
 use Rattle.mesh.specs.Chips.{lineWords}
 use Rattle.mesh.specs.Passing.{chipWords}
 

@@ -3,12 +3,12 @@ use Prim.Native.Nat.{ℕ, _≤_, _<_}
 use mathlib.Core.Path.{_≡_}
 use mathlib.Core.Bool.{true}
 use mathlib.Core.List.{List, [], _∷_, _++_}
-use lib.ListN.{length, getD, take, drop}
+use lib.ListN.{length, take, drop}
 use Rattle.steps.specs.declared.Outcome.{Outcome}
 use Rattle.kept.specs.declared.Registers.{Registers}
 use Rattle.steps.specs.Links.{has}
 use Rattle.steps.specs.Deciding.{packetOn, legPacket}
-use Rattle.links.specs.Words.{part, linePlace, lineIn}
+use Rattle.links.specs.Words.{part, linePlace}
 use Rattle.links.specs.Lines.{sentWords, Room, still, Right}
 use Rattle.mesh.specs.Layout.{chipIn}
 use Rattle.mesh.specs.Steps.{chipAfter}

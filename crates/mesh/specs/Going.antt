@@ -2,13 +2,13 @@
 use Prim.Native.Nat.{ℕ, zero, suc, _+_, _*_, _/_, _≤_, _<_}
 use mathlib.Core.Path.{_≡_}
 use mathlib.Core.Bool.{true}
-use mathlib.Core.List.{List, [], _∷_, _++_, map, foldl}
+use mathlib.Core.List.{List, [], _++_, map, foldl}
 use lib.ListN.{length, getD, take, drop}
 use Rattle.packet.specs.declared.Packet.{Packet}
 use Rattle.tables.specs.Accept.{startsFine}
 use Rattle.links.specs.Line.{Flight}
 use Rattle.links.specs.Across.{across, opposite}
-use Rattle.links.specs.Words.{linePlace, chipPlace, asideIn}
+use Rattle.links.specs.Words.{asideIn}
 use Rattle.links.specs.Lines.{still}
 use Rattle.mesh.specs.Layout.{meshOf, wordsFor}
 use Rattle.mesh.specs.Steps.{Tables, Arrival, Going, passAt}

@@ -1,8 +1,8 @@
 -- Which buffers hold a mesh: "exactly when it is long enough and each stored number is within this document's range ... and each packet in
 -- flight is of a used type, right in length and parity, not NN with T = 1."
-use Prim.Native.Nat.{ℕ, zero, suc, _+_, _*_}
+use Prim.Native.Nat.{ℕ, zero, suc, _*_}
 use mathlib.Core.Bool.{Bool, true, _&&_, _||_, not}
-use mathlib.Core.List.{List, [], _∷_}
+use mathlib.Core.List.{List}
 use lib.Dec.{eqb, ltb, leb}
 use lib.ListN.{length, getD, drop}
 use Rattle.packet.specs.declared.Packet.{Packet}

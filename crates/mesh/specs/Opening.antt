@@ -3,8 +3,8 @@ use Prim.Native.Nat.{ℕ, _+_, _*_}
 use mathlib.Core.Bool.{Bool, cond, _&&_, not}
 use mathlib.Core.List.{List, [], _∷_, _++_}
 use lib.Dec.{eqb, ltb, leb}
-use lib.ListN.{length, drop, replicate}
-use Rattle.packet.specs.Refusal.{Refusal, firstOf}
+use lib.ListN.{drop, replicate}
+use Rattle.packet.specs.Refusal.{Refusal}
 use Rattle.router.specs.Call.{sizeFine, refuse}
 use Rattle.mesh.specs.declared.opening.SizeRead.{SizeRead}
 use Rattle.mesh.specs.Layout.{wordsFor}

@@ -1,15 +1,15 @@
 -- What happens in a mesh: a pass at a chip, an injection, a round. A pass is that of the router, with the chip's own ready set, tables and phase.
 use Prim.Native.Nat.{ℕ, zero, suc, _+_, _-_, _*_}
-use mathlib.Core.Bool.{Bool, cond}
+use mathlib.Core.Bool.{cond}
 use mathlib.Core.List.{List, [], _∷_, _++_, map, foldl}
-use lib.Dec.{eqb, ltb}
-use lib.ListN.{length, getD, take, drop, set}
+use lib.Dec.{ltb}
+use lib.ListN.{getD, take, drop, set}
 use Rattle.packet.specs.declared.Packet.{Packet}
 use Rattle.steps.specs.declared.Outcome.{Outcome}
 use Rattle.steps.specs.declared.Setting.{Setting}
-use Rattle.steps.specs.Links.{has, processorsOf}
-use Rattle.steps.specs.Deciding.{outcomeOf, packetOn, legPacket}
-use Rattle.kept.specs.Keeping.{keptOf, empty}
+use Rattle.steps.specs.Links.{processorsOf}
+use Rattle.steps.specs.Deciding.{outcomeOf}
+use Rattle.kept.specs.Keeping.{keptOf}
 use Rattle.kept.specs.Counting.{countedOf}
 use Rattle.links.specs.Line.{Flight, Line, idle, lineAfter}
 use Rattle.links.specs.Across.{across, opposite}

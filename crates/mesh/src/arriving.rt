@@ -1,6 +1,6 @@
 // What was set aside arrives: chips by number, arrival links 0 to 5, oldest first.
-use links::across::aside_place;
 use super::going::pass_one;
+use links::across::aside_place;
 use links::line::packet_at;
 ghost use mathlib.Core.Path.{_≡_};
 ghost use lib.ListN.{getD};

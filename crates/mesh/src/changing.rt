@@ -8,7 +8,7 @@ use kept::keeping::empty_registers;
 use links::line::set_state;
 ghost use mathlib.Core.Path.{_≡_};
 ghost use mathlib.Core.List.{_++_};
-ghost use lib.ListN.{length, drop, replicate, set};
+ghost use lib.ListN.{length, drop, replicate};
 ghost use Prim.Native.Nat.{_<_};
 ghost use Rattle.links.specs.Words.{part};
 ghost use Rattle.mesh.specs.Layout.{meshOf};

@@ -1,15 +1,15 @@
 // One chip, as the 322 words that hold it: registers, counters, six links.
-use links::line::is_ready;
-use links::line::send;
 use kept::Counters;
-use steps::Outcome;
 use kept::Registers;
 use kept::counting::counted_of;
-use steps::errors::flag_of;
 use kept::keeping::kept_of;
+use links::line::is_ready;
+use links::line::send;
+use steps::Outcome;
+use steps::errors::flag_of;
 ghost use mathlib.Core.Path.{_≡_};
 ghost use lib.ListN.{length};
-ghost use Prim.Native.Nat.{_+_, _*_, _≤_, _<_};
+ghost use Prim.Native.Nat.{_+_, _*_, _<_};
 ghost use Rattle.kept.specs.Keeping.{keptOf};
 ghost use Rattle.kept.specs.Counting.{countedOf};
 ghost use Rattle.mesh.specs.Mesh.{readyOf};

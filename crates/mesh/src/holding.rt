@@ -1,11 +1,11 @@
 // Whether a buffer holds a mesh.
-use links::line::packet_at;
 use super::opening::rounds_fine;
 use super::opening::words_for;
+use kept::Registers;
+use links::line::packet_at;
 use packet::Packet;
 use packet::control::kind_of;
 use packet::parity::is_odd;
-use kept::Registers;
 use router::call::chips;
 use router::call::is_direct;
 use router::call::size_fine;

@@ -8,7 +8,6 @@ use tables::accept::codes_fine;
 use tables::accept::routes_fine;
 use tables::accept::starts_fine;
 ghost use mathlib.Core.Path.{_≡_};
-ghost use lib.ListN.{length};
 ghost use Prim.Native.Nat.{_≤_};
 ghost use Rattle.packet.specs.Refusal.{firstOf};
 ghost use Rattle.router.specs.Call.{packetRefusals};

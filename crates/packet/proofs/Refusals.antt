@@ -8,11 +8,10 @@ use lib.ListN.{getD}
 use lib.Dec.{eqb}
 use borrow.Author.Tests.{eqb-true}
 use Rattle.packet.specs.declared.Fields.{Fields}
-use Rattle.packet.specs.declared.Packet.{Packet}
 use Rattle.packet.specs.declared.Packed.{Packed}
 use Rattle.packet.specs.declared.Taken.{Taken}
 use Rattle.packet.specs.declared.FieldsRead.{FieldsRead}
-use Rattle.packet.specs.Bytes.{rightLength, usedType, packetAt, notTaken, takenOf, packedBytes, packedAs}
+use Rattle.packet.specs.Bytes.{rightLength, usedType, packetAt, notTaken, takenOf, packedAs}
 use Rattle.packet.specs.Fields.{fieldsOf, noFields, readFrom, readOf, inRange, packetOf, notPacked, packedOf}
 use Rattle.packet.specs.Refusal.{firstOf, readRefusals, packRefusals}
 

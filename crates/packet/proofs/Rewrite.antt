@@ -1,17 +1,15 @@
 -- A mark or stamp rewritten: parity is odd, the new field is the one asked for, and every other field is as before. Parity is shown by
 -- counting the ones of a control byte as its lowest bit and the rest; the fields by computing all control bytes. Assumes nothing.
-use mathlib.Core.Path.{_≡_, refl, sym, ap, _∙_, subst}
+use mathlib.Core.Path.{_≡_, refl, _∙_}
 use mathlib.Core.Bool.{Bool, true, _&&_, and-eq-true-iff}
 use Prim.Native.Nat.{ℕ, _+_, _*_, _/_, _%_, _<_}
-use native.Mathlib.Nat.{mod-lt}
 use native.Mathlib.Omega.{arith}
 use lib.Count.{ones, ones-step}
-use lib.Dec.{eqb, ltb, lit<}
+use lib.Dec.{eqb, ltb}
 use borrow.Author.Tests.{eq-eqb, eqb-true, ltb-true}
 use Rattle.packet.specs.declared.Packet.{Packet}
 use Rattle.packet.specs.Control.{kindOf, markOf, stampOf, carriesOf, markIn, stampIn, parityIn}
 use Rattle.packet.specs.Parity.{onesOf, isOdd, withControl, setRight, withMark, withStamp}
-use Rattle.packet.specs.Whole.{Whole}
 use Rattle.packet.proofs.Small.{every, at, every₂, at₂}
 
 ones-parity : (c b : ℕ) → ones (parityIn c b) ≡ b % 2 + ones (c / 2)

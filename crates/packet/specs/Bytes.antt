@@ -1,7 +1,7 @@
 -- A packet as bytes: "Five bytes, or nine with a payload: a control byte, a 32-bit word, a 32-bit payload, both big-endian."
 use Prim.Native.Nat.{ℕ, _+_, _*_, _/_, _%_, _<_}
 use mathlib.Core.List.{List, [], _∷_, _++_}
-use mathlib.Core.Bool.{Bool, true, false, cond, _||_}
+use mathlib.Core.Bool.{Bool, cond, _||_}
 use lib.ListN.{length, getD, take}
 use lib.Dec.{eqb, ltb}
 use Rattle.packet.specs.declared.Packet.{Packet}

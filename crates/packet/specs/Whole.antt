@@ -1,5 +1,5 @@
 -- A packet as it comes from five or nine bytes of a used type: the numbers that its struct then holds.
-use Prim.Native.Nat.{ℕ, _<_, _^_}
+use Prim.Native.Nat.{_<_, _^_}
 use mathlib.Core.Path.{_≡_}
 use Rattle.packet.specs.declared.Packet.{Packet}
 use Rattle.packet.specs.Control.{kindOf}

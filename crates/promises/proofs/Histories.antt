@@ -1,6 +1,6 @@
 -- What holds of every history: it holds of a mesh just opened, and of the state after a call that is accepted where it held before. A call that
 -- is refused changes nothing, and the mesh of every history is sound. Assumes nothing.
-use mathlib.Core.Path.{_≡_, refl, sym, _∙_, subst}
+use mathlib.Core.Path.{_≡_, refl, sym, subst}
 use mathlib.Core.Bool.{Bool, true, false, cond}
 use mathlib.Core.List.{List, [], _∷_, foldl}
 use Prim.Native.Nat.{ℕ, _*_, _<_}

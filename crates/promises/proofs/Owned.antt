@@ -1,12 +1,12 @@
 -- What a pass adds to the counters is what the history counts itself. Assumes nothing.
-use mathlib.Core.Path.{_≡_, refl, sym, ap, _∙_, subst}
-use mathlib.Core.Bool.{Bool, true, false, cond, _&&_, _||_, not, and-false, false≢true}
+use mathlib.Core.Path.{_≡_, refl, sym, ap, _∙_}
+use mathlib.Core.Bool.{Bool, true, false, cond, _&&_, not, and-false, false≢true}
 use mathlib.Core.List.{List, [], _∷_}
 use Prim.Native.Nat.{ℕ, _+_, _/_, _%_, _^_, _<_}
 use lib.Count.{ones}
 use lib.Dec.{eqb}
 use lib.ListN.{getD}
-use borrow.Author.Tests.{eqb-true, eq-eqb, ne-eqb}
+use borrow.Author.Tests.{eqb-true}
 use Rattle.packet.specs.declared.Packet.{Packet}
 use Rattle.packet.specs.Control.{kindOf, markOf}
 use Rattle.packet.specs.Parity.{isOdd}
@@ -17,7 +17,7 @@ use Rattle.steps.specs.declared.Outcome.{Outcome}
 use Rattle.steps.specs.declared.Setting.{Setting}
 use Rattle.steps.specs.declared.Wanted.{Wanted}
 use Rattle.steps.specs.Errors.{flag, tooOld, wrongLength, badLocal, errorsOf}
-use Rattle.steps.specs.Wants.{wantedOf, kindWanted, mcWanted, matchWanted}
+use Rattle.steps.specs.Wants.{wantedOf, kindWanted, matchWanted}
 use Rattle.steps.specs.Deciding.{isMc, decided, outcomeOf}
 use Rattle.kept.specs.Keeping.{dropCount}
 use Rattle.kept.specs.Counting.{countsOf, delivered, swallowed}

@@ -1,7 +1,7 @@
 -- Laws of what a history tells: events one after the other. Assumes nothing.
 use mathlib.Core.Path.{_≡_, refl, sym, ap, _∙_}
 use mathlib.Core.List.{List, [], _∷_, _++_, append-assoc}
-use Prim.Native.Nat.{ℕ, zero, _+_}
+use Prim.Native.Nat.{ℕ, _+_}
 use native.Mathlib.Nat.{zero-add, add-assoc}
 use Rattle.mesh.specs.Steps.{logOf}
 use Rattle.promises.specs.History.{Passage, Event, passed, emptied}

@@ -16,7 +16,6 @@ use Rattle.mesh.specs.declared.RegistersRead.{RegistersRead}
 use Rattle.mesh.specs.declared.CountRead.{CountRead}
 use Rattle.mesh.specs.declared.MeshRead.{MeshRead}
 use Rattle.mesh.specs.declared.LinkRead.{LinkRead}
-use Rattle.links.specs.Line.{Flight}
 use Rattle.mesh.specs.Mesh.{Chip, Mesh, fresh, opened}
 use Rattle.mesh.specs.Opening.{roundsFine}
 use Rattle.mesh.specs.Steps.{Tables, Arrival, Going, rowsAt, codesAt, settingAt, outcomeAt, setAside, arrivals, passAt}

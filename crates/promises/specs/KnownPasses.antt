@@ -9,14 +9,12 @@ use Rattle.packet.specs.declared.Packet.{Packet}
 use Rattle.packet.specs.Bytes.{packedBytes, bytesIn}
 use Rattle.tables.specs.Rows.{rowsOf, firstMatch}
 use Rattle.tables.specs.Accept.{allRoutes, allCodes}
-use Rattle.steps.specs.declared.Outcome.{Outcome}
 use Rattle.router.specs.declared.Pass.{Pass}
 use Rattle.steps.specs.Links.{has}
 use Rattle.steps.specs.Wants.{wantedOf}
 use Rattle.steps.specs.Deciding.{decided, outcomeOf}
 use Rattle.kept.specs.Keeping.{lowest}
 use Rattle.router.specs.Call.{checkedOf, passOf}
-use Rattle.router.specs.Showing.{passFrom}
 
 -- what is given: the packet's bytes, its source, rows, phase and ready set. The mesh is one chip, and the monitor is processor 0.
 pub record Given : Type 0 where

@@ -1,7 +1,7 @@
 -- A block never outlives its cause. A pass is told which links are ready, and nothing else about them: it keeps no mark of a link that was
 -- blocked before. So a link that is ready now is used now.
-use Prim.Native.Nat.{ℕ, _+_, _*_, _≤_, _<_}
-use mathlib.Core.Path.{_≡_, refl, sym, ap, _∙_}
+use Prim.Native.Nat.{ℕ, _+_, _≤_, _<_}
+use mathlib.Core.Path.{_≡_, refl, ap, _∙_}
 use mathlib.Core.Bool.{Bool, true, false}
 use mathlib.Core.List.{List}
 use native.Mathlib.Omega.{arith}
@@ -20,7 +20,7 @@ use Rattle.mesh.specs.Calls.{many, chipOf, lineOf, withUp, withLink}
 use Rattle.mesh.specs.Sound.{SoundMesh}
 use Rattle.mesh.proofs.SoundChanges.{chip-sound}
 use Rattle.mesh.proofs.Sets.{has-set}
-use Rattle.steps.proofs.Ways.{OneWay, waysOf, pass-way}
+use Rattle.steps.proofs.Ways.{OneWay, pass-way}
 
 -- of three ways that count to one, the first being taken, the others are not
 only-first : (a b c : Bool) → a ≡ true → flag a 1 + flag b 1 + flag c 1 ≡ 1 → (b ≡ false) × (c ≡ false)

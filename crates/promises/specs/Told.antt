@@ -23,7 +23,7 @@ use Rattle.mesh.specs.Mesh.{Chip, Mesh}
 use Rattle.mesh.specs.Steps.{logOf}
 use Rattle.mesh.specs.Calls.{Left}
 use Rattle.mesh.specs.Sound.{All}
-use Rattle.promises.specs.History.{Tag, Passage, Event, passed, emptied}
+use Rattle.promises.specs.History.{Passage, Event, passed, emptied}
 
 -- ---- copies
 

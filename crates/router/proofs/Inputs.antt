@@ -1,17 +1,17 @@
 -- What is known of the inputs of the one-router call once nothing is refused. Assumes nothing.
-use mathlib.Core.Path.{_≡_, refl, sym, ap, _∙_, subst}
-use mathlib.Core.Bool.{Bool, true, false, cond, not, _&&_, _||_, and-eq-true-iff}
-use mathlib.Core.List.{List, [], _∷_, _++_}
+use mathlib.Core.Path.{_≡_, refl, sym, ap, _∙_}
+use mathlib.Core.Bool.{Bool, true, false, cond, and-eq-true-iff}
+use mathlib.Core.List.{List, [], _∷_}
 use Prim.Native.Nat.{ℕ, zero, suc, _*_, _≤_, _<_}
 use native.Mathlib.Nat.{mul-le-mul, le-of-eq}
 use native.Mathlib.Omega.{arith}
-use lib.Dec.{eqb, ltb, leb}
+use lib.Dec.{eqb, leb}
 use lib.ListN.{length, getD}
 use borrow.Author.Tests.{leb-true, eqb-true, eq-eqb, ne-eqb, not-false}
 use Rattle.packet.specs.declared.Packet.{Packet}
 use Rattle.packet.specs.declared.Taken.{Taken}
 use Rattle.packet.specs.Bytes.{packetAt, notTaken, takenOf}
-use Rattle.packet.specs.Refusal.{Refusal, firstOf, readRefusals}
+use Rattle.packet.specs.Refusal.{firstOf, readRefusals}
 use Rattle.packet.proofs.Refusals.{take-refuses, take-refused, take-accepts}
 use Rattle.packet.proofs.First.{first-append, none-applies}
 use Rattle.tables.specs.Accept.{rowsFine, codesFine, allCodes}

@@ -2,9 +2,8 @@
 use Prim.Native.Nat.{ℕ, _*_}
 use mathlib.Core.Bool.{Bool, cond, _&&_, _||_, not}
 use mathlib.Core.List.{List, [], _∷_, _++_}
-use lib.Dec.{eqb, ltb, leb}
+use lib.Dec.{eqb, leb}
 use lib.ListN.{getD}
-use Rattle.packet.specs.declared.Packet.{Packet}
 use Rattle.packet.specs.declared.Taken.{Taken}
 use Rattle.packet.specs.Control.{kindOf, directOf}
 use Rattle.packet.specs.Bytes.{packetAt, notTaken}

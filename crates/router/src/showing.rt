@@ -1,15 +1,15 @@
 // What the one-router call shows of a pass.
-use kept::Counters;
-use steps::Outcome;
 use super::Pass;
+use kept::Counters;
 use kept::counting::counted_of;
 use kept::counting::no_counts;
-use steps::deciding::leg_packet;
-use steps::deciding::packet_on;
-use steps::errors::flag_of;
 use kept::keeping::empty_registers;
 use kept::keeping::kept_of;
 use packet::Packet;
+use steps::Outcome;
+use steps::deciding::leg_packet;
+use steps::deciding::packet_on;
+use steps::errors::flag_of;
 ghost use mathlib.Core.Path.{_≡_};
 ghost use mathlib.Core.Bool.{cond};
 ghost use lib.Dec.{eqb};

@@ -1,22 +1,21 @@
 -- Every wanted link is sent to, carried by a detour, or dropped, exactly one of the three; and a ready link is sent to. Computed for every
 -- wanted and ready set. Assumes nothing.
-use mathlib.Core.Path.{_≡_, refl, sym, ap, _∙_, subst}
+use mathlib.Core.Path.{_≡_, refl}
 use mathlib.Core.Bool.{Bool, true, false, cond, _&&_, _||_, not, and-eq-true-iff}
 use mathlib.Core.List.{List}
-use Prim.Native.Nat.{ℕ, _+_, _%_, _<_}
+use Prim.Native.Nat.{ℕ, _+_, _<_}
 use native.Mathlib.Nat.{mod-lt}
 use lib.Dec.{eqb, lit<}
 use borrow.Author.Tests.{eqb-true}
 use Rattle.packet.specs.declared.Packet.{Packet}
 use Rattle.packet.proofs.Small.{every, at, every₂, at₂}
-use Rattle.steps.specs.declared.Outcome.{Outcome}
 use Rattle.steps.specs.declared.Setting.{Setting}
 use Rattle.steps.specs.declared.Wanted.{Wanted}
 use Rattle.steps.specs.Links.{has, linksOf, link}
 use Rattle.steps.specs.Detour.{carrySet, sendSet, dropSet, plainSendSet, plainDropSet}
 use Rattle.steps.specs.Errors.{errorsOf, stampedOf, flag}
 use Rattle.steps.specs.Wants.{wantedOf}
-use Rattle.steps.specs.Deciding.{isMc, decided, outcomeOf, Checked}
+use Rattle.steps.specs.Deciding.{isMc, decided, outcomeOf}
 
 -- the three ways of link i, counted: link i sends, the link before it carries its detour, it is dropped for
 abbrev pub waysOf : ℕ → ℕ → ℕ → ℕ → ℕ

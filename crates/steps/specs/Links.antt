@@ -1,5 +1,5 @@
 -- Links 0 to 5 and sets of them, as numbers with a bit for each; processors stand above them in a route.
-use Prim.Native.Nat.{ℕ, _+_, _*_, _/_, _%_, _^_}
+use Prim.Native.Nat.{ℕ, _+_, _/_, _%_, _^_}
 use mathlib.Core.Bool.{Bool, cond}
 use lib.Dec.{eqb}
 

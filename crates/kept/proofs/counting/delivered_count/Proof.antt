@@ -1,7 +1,6 @@
 use Rattle.packet.proofs.Folded.{ones-zero}
 use native.Mathlib.Nat.{div-eq-of-lt}
-use mathlib.Core.Path.{_≡_, refl, sym, ap, _∙_}
-use native.Mathlib.Omega.{arith}
+use mathlib.Core.Path.{sym}
 use borrow.Author.Tests.{eq-eqb, ne-eqb}
 use Rattle.kept.proofs.counting.delivered_count.Statement.{statement}
 use Rattle.kept.proofs.counting.delivered_count.Tie as tie

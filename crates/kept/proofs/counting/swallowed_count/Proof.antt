@@ -1,5 +1,5 @@
 use borrow.Author.Needs.{needs}
-use mathlib.Core.Path.{_≡_, refl, sym, ap, _∙_}
+use mathlib.Core.Path.{_∙_}
 use Rattle.kept.proofs.counting.swallowed_count.Statement.{statement}
 use Rattle.kept.proofs.counting.swallowed_count.Tie as tie
 use Rattle.kept.proofs.counting.swallowed_count.Reads as reads

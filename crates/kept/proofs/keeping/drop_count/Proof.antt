@@ -2,7 +2,7 @@ use lib.Dec.{eqb}
 use Rattle.packet.proofs.Folded.{ones-zero}
 use mathlib.Core.Bool.{and-eq-true-iff}
 use borrow.Author.Tests.{eqb-true}
-use mathlib.Core.Path.{_≡_, refl, sym, ap, _∙_}
+use mathlib.Core.Path.{refl}
 use native.Mathlib.Omega.{arith}
 use lib.Count.{ones-le}
 use Rattle.kept.proofs.keeping.drop_count.Statement.{statement}

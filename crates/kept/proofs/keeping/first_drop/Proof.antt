@@ -1,5 +1,4 @@
 use borrow.Author.Needs.{needs}
-use mathlib.Core.Path.{_≡_, refl, sym, ap, _∙_}
 use borrow.Author.Tests.{eq-eqb, ne-eqb}
 use Rattle.kept.proofs.keeping.first_drop.Statement.{statement}
 use Rattle.kept.proofs.keeping.first_drop.Tie as tie

@@ -1,5 +1,5 @@
 use borrow.Author.Needs.{needs}
-use mathlib.Core.Path.{_≡_, refl, sym, ap, _∙_}
+use mathlib.Core.Path.{sym, _∙_}
 use borrow.Author.Tests.{eq-eqb, ne-eqb}
 use Rattle.kept.proofs.keeping.kept_of.Statement.{statement}
 use Rattle.kept.proofs.keeping.kept_of.Tie as tie

@@ -1,4 +1,4 @@
-use mathlib.Core.Path.{_≡_, refl, sym, ap, _∙_}
+use mathlib.Core.Path.{refl}
 use borrow.Author.Tests.{eqb-true}
 use lib.Bits.{bitOr}
 use lib.Count.{trailingZeros}

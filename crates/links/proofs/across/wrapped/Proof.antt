@@ -1,5 +1,5 @@
 use Prim.Native.Nat.{_≤_}
-use mathlib.Core.Path.{_≡_, refl, sym, ap, _∙_}
+use mathlib.Core.Path.{sym, _∙_}
 use native.Mathlib.Omega.{arith}
 use native.Mathlib.Nat.{mod-eq-of-lt, mod-eq-sub-mod}
 use Rattle.links.proofs.across.wrapped.Statement.{statement}

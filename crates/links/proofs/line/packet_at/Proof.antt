@@ -1,5 +1,5 @@
 use borrow.Author.Needs.{needs}
-use mathlib.Core.Path.{_≡_, refl, sym, ap, _∙_}
+use mathlib.Core.Path.{sym}
 use Rattle.links.proofs.Places.{packet-at}
 use Rattle.links.proofs.line.packet_at.Statement.{statement}
 use Rattle.links.proofs.line.packet_at.Tie as tie

@@ -1,6 +1,5 @@
 use borrow.Author.Needs.{needs}
-use mathlib.Core.Path.{_≡_, refl, sym, ap, _∙_}
-use native.Mathlib.Omega.{arith}
+use mathlib.Core.Path.{_∙_}
 use Rattle.links.proofs.Places.{long-between, room-first, room-second}
 use Rattle.links.proofs.line.send.Statement.{statement}
 use Rattle.links.proofs.line.send.Tie as tie

@@ -1,5 +1,5 @@
 use borrow.Author.Needs.{needs}
-use mathlib.Core.Path.{_≡_, refl, sym, ap, _∙_}
+use mathlib.Core.Path.{sym, _∙_}
 use Rattle.links.proofs.line.send_leg.Statement.{statement}
 use Rattle.links.proofs.line.send_leg.Tie as tie
 use Rattle.links.proofs.line.send_leg.Reads as reads

@@ -1,11 +1,8 @@
-use mathlib.Core.Path.{_≡_, refl, sym, ap, _∙_, subst}
+use mathlib.Core.Path.{_≡_, sym, subst}
 use native.Mathlib.Omega.{arith}
 use native.Mathlib.Nat.{add-sub-cancel-left}
 use native.Mathlib.Numerals.{add-one}
-use Prim.Native.Nat.{ℕ, _+_, _*_, _-_, _≤_, _<_}
-use mathlib.Core.List.{List}
-use lib.ListN.{length, getD}
-use Rattle.mesh.specs.Passing.{chipWords}
+use Prim.Native.Nat.{_+_, _*_, _-_, _≤_, _<_}
 use Rattle.mesh.specs.Aside.{AsideUpto}
 use Rattle.mesh.specs.Held.{Few}
 use Rattle.mesh.proofs.AsideChips.{aside-begin, aside-next}

@@ -1,5 +1,5 @@
 use borrow.Author.Needs.{needs}
-use mathlib.Core.Path.{_≡_, refl, sym, ap, _∙_, subst}
+use mathlib.Core.Path.{_≡_, ap}
 use lib.ListN.{length}
 use Rattle.mesh.proofs.Upto.{takes-on, finish}
 use Rattle.mesh.proofs.chip.after.Statement.{statement}

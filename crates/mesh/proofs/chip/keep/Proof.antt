@@ -4,7 +4,7 @@ use lib.Dec.{eqb}
 use Rattle.packet.proofs.Folded.{ones-zero}
 use Rattle.mesh.specs.Chips.{registerWords}
 use Rattle.mesh.proofs.Stores.{six-words, six-stores}
-use mathlib.Core.Path.{_≡_, refl, sym, ap, _∙_}
+use mathlib.Core.Path.{ap, _∙_}
 use native.Mathlib.Omega.{arith}
 use lib.ListN.{length-set}
 use borrow.Author.Needs.{needs}

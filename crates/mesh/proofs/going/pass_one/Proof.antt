@@ -1,11 +1,7 @@
 use borrow.Author.Needs.{needs}
-use mathlib.Core.Path.{_≡_, refl, sym, ap, _∙_, subst}
 use native.Mathlib.Omega.{arith}
 use native.Mathlib.Nat.{add-sub-cancel-left}
-use Prim.Native.Nat.{ℕ, _+_, _*_, _-_, _≤_, _<_}
-use lib.ListN.{length, getD}
-use Rattle.mesh.specs.Going.{tablesOf, arrival, chipsOf}
-use Rattle.mesh.specs.Steps.{rowsAt, codesAt}
+use Prim.Native.Nat.{_-_}
 use Rattle.mesh.proofs.FineSteps.{head-size}
 use Rattle.mesh.proofs.Goings as goings
 use Rattle.mesh.proofs.going.pass_one.Statement.{statement}

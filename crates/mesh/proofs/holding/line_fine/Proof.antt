@@ -1,5 +1,5 @@
 use borrow.Author.Needs.{needs}
-use mathlib.Core.Path.{_≡_, refl, sym, ap, _∙_, subst}
+use mathlib.Core.Path.{_∙_}
 use borrow.Author.Tests.{le-leb, lt-leb}
 use Rattle.mesh.proofs.holding.line_fine.Statement.{statement}
 use Rattle.mesh.proofs.holding.line_fine.Tie as tie

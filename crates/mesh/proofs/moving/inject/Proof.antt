@@ -1,5 +1,5 @@
 use borrow.Author.Needs.{needs}
-use mathlib.Core.Path.{_≡_, _∙_, sym}
+use mathlib.Core.Path.{_∙_, sym}
 use Rattle.mesh.specs.Going.{tablesOf}
 use Rattle.mesh.proofs.InjectCall.{inject-refused, taken-packet, inject-due, inject-leaves}
 use Rattle.mesh.proofs.moving.inject.Statement.{statement}

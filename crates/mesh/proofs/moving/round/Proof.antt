@@ -1,5 +1,5 @@
 use borrow.Author.Needs.{needs}
-use mathlib.Core.Path.{_≡_, _∙_, sym}
+use mathlib.Core.Path.{_∙_, sym}
 use native.Mathlib.Omega.{arith}
 use Rattle.mesh.specs.Going.{tablesOf}
 use Rattle.mesh.proofs.Counts.{holds-size, words-enough, few-held}

@@ -1,5 +1,5 @@
 use borrow.Author.Needs.{needs}
-use mathlib.Core.Path.{_≡_, refl, sym, ap, _∙_, subst}
+use mathlib.Core.Path.{sym, _∙_}
 use Rattle.mesh.proofs.opening.size.Statement.{statement}
 use Rattle.mesh.proofs.opening.size.Tie as tie
 use Rattle.mesh.proofs.opening.size.Reads as reads

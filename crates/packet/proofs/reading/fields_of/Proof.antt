@@ -1,7 +1,6 @@
 use borrow.Author.Needs.{needs}
 use borrow.Author.Tests.{eq-eqb, ne-eqb}
 use mathlib.Core.Path.{_∙_, sym}
-use Prim.Native.Nat.{_/_}
 use Rattle.packet.proofs.reading.fields_of.Statement.{statement}
 use Rattle.packet.proofs.reading.fields_of.Tie as tie
 use Rattle.packet.proofs.reading.fields_of.Reads as reads

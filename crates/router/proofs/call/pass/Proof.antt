@@ -1,5 +1,5 @@
 use borrow.Author.Needs.{needs}
-use mathlib.Core.Path.{_≡_, refl, sym, ap, _∙_}
+use mathlib.Core.Path.{sym, ap, _∙_}
 use Prim.Native.Nat.{_<_}
 use Rattle.router.proofs.Inputs.{checked, passed}
 use Rattle.router.proofs.Shown.{answer-shown, unless-none, unless-sets}

@@ -1,5 +1,4 @@
 use Rattle.router.proofs.Shown.{kept-only}
-use mathlib.Core.Path.{_≡_, refl, sym, ap, _∙_}
 use borrow.Author.Needs.{needs}
 use Rattle.router.proofs.showing.only.Statement.{statement}
 use Rattle.router.proofs.showing.only.Tie as tie

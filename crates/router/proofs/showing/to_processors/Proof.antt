@@ -1,5 +1,5 @@
 use Rattle.router.proofs.Shown.{at-processors}
-use mathlib.Core.Path.{_≡_, refl, sym, ap, _∙_}
+use mathlib.Core.Path.{_∙_}
 use borrow.Author.Needs.{needs}
 use Rattle.router.proofs.showing.to_processors.Statement.{statement}
 use Rattle.router.proofs.showing.to_processors.Tie as tie

@@ -1,5 +1,5 @@
 use borrow.Author.Needs.{needs}
-use mathlib.Core.Path.{_≡_, refl, sym, ap, _∙_}
+use mathlib.Core.Path.{refl, sym, _∙_}
 use borrow.Author.Tests.{ltb-true}
 use Prim.Native.Nat.{_+_, _%_, _^_}
 use native.Mathlib.Nat.{mod-lt}

@@ -1,5 +1,5 @@
 use borrow.Author.Needs.{needs}
-use mathlib.Core.Path.{_≡_, refl, sym, ap, _∙_}
+use mathlib.Core.Path.{sym, _∙_}
 use Rattle.steps.proofs.deciding.mark_on.Statement.{statement}
 use Rattle.steps.proofs.deciding.mark_on.Tie as tie
 use Rattle.steps.proofs.deciding.mark_on.Reads as reads

@@ -1,4 +1,4 @@
-use mathlib.Core.Path.{_≡_, refl, sym, ap, _∙_}
+use mathlib.Core.Path.{_∙_}
 use Rattle.steps.specs.Deciding.{outcomeOf}
 use Rattle.steps.proofs.LookedUp.{looked-up-in}
 use borrow.Author.Needs.{needs}

@@ -1,5 +1,5 @@
 use borrow.Author.Needs.{needs}
-use mathlib.Core.Path.{_≡_, refl, sym, ap, _∙_}
+use mathlib.Core.Path.{_∙_}
 use Rattle.steps.proofs.errors.stamped_of.Statement.{statement}
 use Rattle.steps.proofs.errors.stamped_of.Tie as tie
 use Rattle.steps.proofs.errors.stamped_of.Reads as reads

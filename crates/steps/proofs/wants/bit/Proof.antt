@@ -1,5 +1,5 @@
 use borrow.Author.Needs.{needs}
-use mathlib.Core.Path.{_≡_, refl, sym, ap, _∙_}
+use mathlib.Core.Path.{refl}
 use borrow.Author.Tests.{eqb-true}
 use Prim.Native.Nat.{_*_, _%_, _^_}
 use lib.Dec.{eqb}

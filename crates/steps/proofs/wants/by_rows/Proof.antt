@@ -1,4 +1,3 @@
-use mathlib.Core.Path.{_≡_, refl, sym, ap, _∙_}
 use borrow.Author.Needs.{needs}
 use Rattle.steps.proofs.wants.by_rows.Statement.{statement}
 use Rattle.steps.proofs.wants.by_rows.Tie as tie

@@ -1,4 +1,4 @@
-use mathlib.Core.Path.{_≡_, refl, sym, ap, _∙_}
+use mathlib.Core.Path.{_∙_}
 use borrow.Author.Needs.{needs}
 use Rattle.steps.proofs.wants.looked_up.Statement.{statement}
 use Rattle.steps.proofs.wants.looked_up.Tie as tie

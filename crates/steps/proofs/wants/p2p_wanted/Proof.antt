@@ -1,5 +1,5 @@
 use borrow.Author.Needs.{needs}
-use mathlib.Core.Path.{_≡_, refl, sym, ap, _∙_}
+use mathlib.Core.Path.{_∙_}
 use Rattle.steps.proofs.wants.p2p_wanted.Statement.{statement}
 use Rattle.steps.proofs.wants.p2p_wanted.Tie as tie
 use Rattle.steps.proofs.wants.p2p_wanted.Reads as reads

@@ -1,7 +1,7 @@
 use Prim.Native.Nat.{ℕ}
 use Rattle.steps.specs.Wants.{markWanted, wantedOf}
 use Rattle.steps.proofs.LookedUp.{mc-looked-up}
-use mathlib.Core.Path.{_≡_, refl, sym, ap, _∙_}
+use mathlib.Core.Path.{sym, ap, _∙_}
 use borrow.Author.Tests.{eq-eqb, ne-eqb}
 use borrow.Author.Needs.{needs}
 use Rattle.steps.proofs.wants.wanted_of.Statement.{statement}

@@ -1,10 +1,8 @@
 -- `search::first_from` meets its contract. The loop's invariant: from row i on the search finds what it finds from row `from` on.
 -- The measure is what is left of the rows. Assumes nothing.
-use mathlib.Core.Path.{_≡_, refl, sym, ap, _∙_}
+use mathlib.Core.Path.{_≡_, refl, sym, _∙_}
 use Prim.Native.Nat.{_+_, _*_, _/_, _-_, _<_, _≤_}
 use native.Mathlib.Omega.{arith}
-use borrow.Author.Needs.{needs}
-use borrow.Author.Tests.{lt-ltb, le-ltb}
 use lib.ListN.{length}
 use Rattle.tables.specs.Rows.{foundFrom}
 use Rattle.tables.proofs.RowByRow.{from-here, search-on, from-end}

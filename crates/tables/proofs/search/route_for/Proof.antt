@@ -1,5 +1,5 @@
 use borrow.Author.Needs.{needs}
-use mathlib.Core.Path.{_≡_, sym, ap, _∙_}
+use mathlib.Core.Path.{sym, ap, _∙_}
 use Rattle.tables.proofs.RowByRow.{match-row}
 use Rattle.tables.specs.Rows.{routeOf}
 use Rattle.tables.specs.declared.Matched.the-variants.{Route}
