@@ -17,7 +17,7 @@ use Rattle.mesh.specs.Weights.{inFlight}
 use Rattle.mesh.specs.Sound.{Passable}
 use Rattle.mesh.proofs.SoundSteps.{CodesFor}
 use Rattle.mesh.proofs.Accepts.{inject-goes, round-goes}
-use Rattle.promises.specs.History.{Call, inject, round, setLink, readRegisters, readCounter, lookMesh, lookLink, Tag, State, Event, emptied, leftBy, turned, tagNow, passages, accepted}
+use Rattle.promises.specs.History.{Call, inject, round, setLink, readRegisters, readCounter, lookMesh, lookLink, Tag, State, Event, emptied, leftBy, turned, tagOf, tagNow, passages, accepted}
 
 -- ---- the tests that have passed
 
@@ -61,7 +61,7 @@ module _ {A : Type 0} where
 module _ (s : State) where
   -- what an injection hands in
   abbrev pub arrivalNow : ℕ → List ℕ → Arrival Tag
-  arrivalNow chip bytes = record { chip = chip; source = 7; flight = record { packet = packetAt bytes; tag = tagNow s } }
+  arrivalNow chip bytes = record { chip = chip; source = 7; flight = record { packet = packetAt bytes; tag = tagOf s (packetAt bytes) } }
 
   abbrev pub afterInjection : ℕ → List ℕ → Tables → State
   afterInjection chip bytes t =
@@ -92,7 +92,7 @@ module _ (s : State) where
 
   -- what a call leaves
   abbrev here : Call → Left Tag
-  here c = leftBy turned (tagNow s) (s .mesh) c
+  here c = leftBy turned (tagNow s c) (s .mesh) c
 
   -- a state, field by field
   abbrev plainly : Mesh Tag → List Event → List ℕ → ℕ → ℕ → State

@@ -6,7 +6,7 @@ use Prim.Native.Nat.{ℕ, _+_, _-_, _/_, _%_, _≤_, _<_}
 use native.Mathlib.Nat.{le-of-eq}
 use native.Mathlib.Omega.{arith}
 use Rattle.packet.specs.declared.Packet.{Packet}
-use Rattle.packet.specs.Control.{stampOf}
+use Rattle.packet.specs.Control.{kindOf, stampOf}
 use Rattle.steps.specs.declared.Setting.{Setting}
 use Rattle.steps.specs.Errors.{errorsOf}
 use Rattle.steps.specs.Deciding.{outcomeOf, Checked}
@@ -26,12 +26,18 @@ pub record Aged (f n : ℕ) (x : Flight Tag) : Type 0 where
   pub stamp : stampOf (x .packet .control) ≡ code (x .tag .before / f)
   pub due : n ≤ x .tag .before + span f (x .tag .before)
 
-abbrev pub Ages : ℕ → ℕ → Flight Tag → Type 0
-Ages f n x = Stamped (x .packet) → Aged f n x
+-- each copy has the type that was injected, and of an MC or P2P packet its age
+pub record Ages (f n : ℕ) (x : Flight Tag) : Type 0 where
+  pub kind : kindOf (x .packet .control) ≡ kindOf (x .tag .packet .control)
+  pub aged : Stamped (x .packet) → Aged f n x
+
+-- so of a copy of such a packet
+pub aged-copy : {f n : ℕ} {x : Flight Tag} → Ages f n x → Stamped (x .tag .packet) → Aged f n x
+aged-copy ages low = ages .aged (omega (arith, ages .kind))
 
 -- the links that it has crossed
-pub aged-crossing : (f n : ℕ) (x : Flight Tag) → Aged f n x → x .tag .crossed ≤ span f (x .tag .before) + 1
-aged-crossing f n x h = omega (arith, h .crossed, h .due)
+pub aged-crossing : (f n : ℕ) (x : Flight Tag) → Ages f n x → Stamped (x .tag .packet) → x .tag .crossed ≤ span f (x .tag .before) + 1
+aged-crossing f n x ages low = let h = aged-copy ages low in omega (arith, h .crossed, h .due)
 
 module _ (f n : ℕ) (some : 0 < f) (p : Packet) (s : ℕ) (rows codes : List ℕ) (t : Setting) (h : Checked p s codes t) (from : pass.Source s) (phase : t .phase ≡ code (n / f)) (tag : Tag) where
   -- what is sent has the type of what arrived
@@ -42,10 +48,10 @@ module _ (f n : ℕ) (some : 0 < f) (p : Packet) (s : ℕ) (rows codes : List �
   pub aged-sent : s < 6 → Ages f n (record { packet = p; tag = tag }) → Sends (Ages f (n + 1)) (outcomeOf p s rows codes t) (turned tag)
   aged-sent near ages = sends-same p s rows codes t h from (Ages f (n + 1)) (turned tag) each
     where
-      each : (q : Packet) → errorsOf p s (t .phase) ≡ 0 → SameStamp (outcomeOf p s rows codes t .packet) q → Ages f (n + 1) (record { packet = q; tag = turned tag })
-      each q none same low =
+      older : (q : Packet) → errorsOf p s (t .phase) ≡ 0 → SameStamp (outcomeOf p s rows codes t .packet) q → Stamped q → Aged f (n + 1) (record { packet = q; tag = turned tag })
+      older q none same low =
           let before : Stamped p = low-before q same low in
-          let x = ages before in
+          let x = ages .aged before in
           let fresh : ¬ (n ≡ tag .before + span f (tag .before)) = λ e.
           young p s rows codes t h from near none before (x .stamp ∙ old-at-end f some (tag .before) n e ∙ ap (λ (k : ℕ). 3 - k) (sym phase)) in
           record {
@@ -55,24 +61,31 @@ module _ (f n : ℕ) (some : 0 < f) (p : Packet) (s : ℕ) (rows codes : List �
             due = omega (arith, x .due, fresh);
           }
 
+      each : (q : Packet) → errorsOf p s (t .phase) ≡ 0 → SameStamp (outcomeOf p s rows codes t .packet) q → Ages f (n + 1) (record { packet = q; tag = turned tag })
+      each q none same = record { kind = same .kind ∙ kind-kept p s rows codes t h from ∙ ages .kind; aged = older q none same }
+
   -- where it is injected
-  pub aged-injected : s ≡ 7 → tag .before ≡ n → tag .crossed ≡ 0 → Sends (Ages f n) (outcomeOf p s rows codes t) (turned tag)
-  aged-injected local now none-yet = sends-same p s rows codes t h from (Ages f n) (turned tag) each
+  pub aged-injected : s ≡ 7 → kindOf (p .control) ≡ kindOf (tag .packet .control) → tag .before ≡ n → tag .crossed ≡ 0 → Sends (Ages f n) (outcomeOf p s rows codes t) (turned tag)
+  aged-injected local type now none-yet = sends-same p s rows codes t h from (Ages f n) (turned tag) each
     where
       each : (q : Packet) → errorsOf p s (t .phase) ≡ 0 → SameStamp (outcomeOf p s rows codes t .packet) q → Ages f n (record { packet = q; tag = turned tag })
-      each q none same low =
+      each q none same =
           record {
-            begun = le-of-eq now;
-            crossed = omega arith;
-            stamp = same .stamp ∙ stamp-local p s rows codes t h from local none (low-before q same low) ∙ phase ∙ ap (λ (b : ℕ). code (b / f)) (sym now);
-            due = omega arith;
+            kind = same .kind ∙ kind-kept p s rows codes t h from ∙ type;
+            aged = λ low.
+                record {
+                  begun = le-of-eq now;
+                  crossed = omega arith;
+                  stamp = same .stamp ∙ stamp-local p s rows codes t h from local none (low-before q same low) ∙ phase ∙ ap (λ (b : ℕ). code (b / f)) (sym now);
+                  due = omega arith;
+                };
           }
 
   -- age is found at the end of the span
   pub old-late : (s < 6 → Ages f n (record { packet = p; tag = tag })) → outcomeOf p s rows codes t .errors / 2 % 2 ≡ 1 → tag .before + span f (tag .before) ≤ n
   old-late ages e =
       let found = old p s rows codes t h from e in
-      let x = ages (found .0) (found .1) in
+      let x = ages (found .0) .aged (found .1) in
       let late : ¬ (n < tag .before + span f (tag .before)) = λ l.
       young-before f some (tag .before) n (x .begun) l (sym (x .stamp) ∙ found .2 ∙ ap (λ (k : ℕ). 3 - k) phase) in
       omega (arith, late)

@@ -13,7 +13,7 @@ use Rattle.mesh.specs.Steps.{Tables, Arrival, Going, codesAt, settingAt, setAsi
 use Rattle.mesh.specs.Sound.{All, Arrives, SoundMesh}
 use Rattle.mesh.proofs.SoundArrivals.{sound-arrivals}
 use Rattle.mesh.proofs.SoundSteps.{CodesFor, checked, sound-aside, pass-head, passed-head}
-use Rattle.promises.specs.History.{Tag, Passage, State, turned, tagNow, passages, history}
+use Rattle.promises.specs.History.{Tag, Passage, State, turned, tagOf, passages, history}
 use Rattle.promises.specs.Told.{Stamped, EachFlight, EachPass}
 use Rattle.promises.specs.Demand3.{Always, span, LinksCrossed, GoneInTime, NotBeforeItsTime}
 use Rattle.promises.proofs.Told.{each-append}
@@ -22,11 +22,11 @@ use Rattle.promises.proofs.Histories.{Kept, always-kept}
 use Rattle.promises.proofs.Runs.{passage}
 use Rattle.promises.proofs.Flights.{Arriving, HandsOn, InPhase, each-weaken, each-opened, each-aside, each-arrival, each-linked, each-emptied, each-after-pass, each-after-passes, each-passage}
 use Rattle.promises.proofs.Clock.{Clock, clock-opened, clock-chips, clock-same, clock-over, rounds-some}
-use Rattle.promises.proofs.Aged.{Ages, aged-crossing, aged-sent, aged-injected, old-late}
+use Rattle.promises.proofs.Aged.{Ages, aged-copy, aged-crossing, aged-sent, aged-injected, old-late}
 
 -- what a pass's record says of links and of age
 abbrev Crossing : ℕ → Passage → Type 0
-Crossing f p = Stamped (p .arrival .flight .packet) → p .arrival .flight .tag .crossed ≤ span f (p .arrival .flight .tag .before) + 1
+Crossing f p = Stamped (p .arrival .flight .tag .packet) → p .arrival .flight .tag .crossed ≤ span f (p .arrival .flight .tag .before) + 1
 
 abbrev Timely : ℕ → Passage → Type 0
 Timely f p = p .outcome .errors / 2 % 2 ≡ 1 → p .arrival .flight .tag .before + span f (p .arrival .flight .tag .before) ≤ p .rounds
@@ -50,9 +50,9 @@ module _ (f : ℕ) (s : State) (t : Tables) (sound : SoundMesh (s .mesh)) (codes
   injected-keeps chip bytes h =
       record {
         clock = clock-same (pass-head t turned g a) (ageing .clock);
-        flights = each-after-pass t turned (Ages f (s .rounds)) g a sound arrives (aged-injected f (s .rounds) some _ _ _ _ _ able (inr refl) (ageing .clock .phase) (tagNow s) refl refl refl) (ageing .flights);
+        flights = each-after-pass t turned (Ages f (s .rounds)) g a sound arrives (aged-injected f (s .rounds) some _ _ _ _ _ able (inr refl) (ageing .clock .phase) (tagOf s (packetAt bytes)) refl refl refl refl) (ageing .flights);
         crossings = each-append (Crossing f) (s .events) _ (ageing .crossings) ((λ low. omega arith), tt);
-        times = each-append (Timely f) (s .events) _ (ageing .times) (old-late f (s .rounds) some _ _ _ _ _ able (inr refl) (ageing .clock .phase) (tagNow s) (λ near. absurd (omega arith)), tt);
+        times = each-append (Timely f) (s .events) _ (ageing .times) (old-late f (s .rounds) some _ _ _ _ _ able (inr refl) (ageing .clock .phase) (tagOf s (packetAt bytes)) (λ near. absurd (omega arith)), tt);
       }
     where
       g : Going Tag
@@ -92,7 +92,7 @@ module _ (f : ℕ) (s : State) (t : Tables) (sound : SoundMesh (s .mesh)) (codes
           aged-sent f (s .rounds) some _ _ _ _ _ (checked t m a sound′ codes′ arrives) (arrives .from) (now ∙ ageing .clock .phase) (a .flight .tag) (come .0) (come .1)
 
       crosses : InPhase t (s .mesh .phase) (Arriving (Ages f (s .rounds))) (λ m a. Crossing f (passage t (s .rounds) m a))
-      crosses m now sound′ codes′ a arrives come low = aged-crossing f (s .rounds) (a .flight) (come .1 low)
+      crosses m now sound′ codes′ a arrives come = aged-crossing f (s .rounds) (a .flight) (come .1)
 
       stops : InPhase t (s .mesh .phase) (Arriving (Ages f (s .rounds))) (λ m a. Timely f (passage t (s .rounds) m a))
       stops m now sound′ codes′ a arrives come =
@@ -128,12 +128,12 @@ pub links-crossed : LinksCrossed
 links-crossed w h f monitor o cs =
     let s = history w h f monitor cs in
     let a = ages-always w h f monitor o cs in
-    (each-weaken (Ages f (s .rounds)) _ (λ x ages low. aged-crossing f (s .rounds) x (ages low)) (s .mesh) (a .flights), a .crossings)
+    (each-weaken (Ages f (s .rounds)) _ (λ x ages. aged-crossing f (s .rounds) x ages) (s .mesh) (a .flights), a .crossings)
 
 pub gone-in-time : GoneInTime
 gone-in-time w h f monitor o cs =
     let s = history w h f monitor cs in
-    each-weaken (Ages f (s .rounds)) _ (λ x ages low. omega (arith, ages low .due)) (s .mesh) (ages-always w h f monitor o cs .flights)
+    each-weaken (Ages f (s .rounds)) _ (λ x ages low. omega (arith, aged-copy ages low .due)) (s .mesh) (ages-always w h f monitor o cs .flights)
 
 pub not-before-its-time : NotBeforeItsTime
 not-before-its-time w h f monitor o cs = ages-always w h f monitor o cs .times

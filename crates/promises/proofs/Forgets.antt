@@ -107,16 +107,16 @@ unfolding after
 program s c before after′ holds e leaves = go (eqb (r .refusal) 0) refl
   where
     r : calls.Left Tag
-    r = leftBy turned (tagNow s) (s .mesh) c
+    r = leftBy turned (tagNow s c) (s .mesh) c
 
-    forgotten : leftBy same tt (meshOf before) c ≡ plainLeft (leftBy turned (tagNow s) (s .mesh) c)
-    forgotten = ap (λ (m : Mesh (Unit {0})). leftBy same tt m c) e ∙ sym (forgets-left turned (tagNow s) (s .mesh) c)
+    forgotten : leftBy same tt (meshOf before) c ≡ plainLeft (leftBy turned (tagNow s c) (s .mesh) c)
+    forgotten = ap (λ (m : Mesh (Unit {0})). leftBy same tt m c) e ∙ sym (forgets-left turned (tagNow s c) (s .mesh) c)
 
-    refusal : leftBy same tt (meshOf before) c .refusal ≡ leftBy turned (tagNow s) (s .mesh) c .refusal
+    refusal : leftBy same tt (meshOf before) c .refusal ≡ leftBy turned (tagNow s c) (s .mesh) c .refusal
     refusal = ap (λ (x : calls.Left (Unit {0})). x .refusal) forgotten
 
-    go : (b : Bool) → eqb (leftBy turned (tagNow s) (s .mesh) c .refusal) 0 ≡ b
-        → (holdsMesh after′ ≡ true) × (meshOf after′ ≡ plain (cond b (accepted s (leftBy turned (tagNow s) (s .mesh) c) c) s .mesh))
+    go : (b : Bool) → eqb (leftBy turned (tagNow s c) (s .mesh) c .refusal) 0 ≡ b
+        → (holdsMesh after′ ≡ true) × (meshOf after′ ≡ plain (cond b (accepted s (leftBy turned (tagNow s c) (s .mesh) c) c) s .mesh))
     go true z =
         let none = refusal ∙ eqb-true _ _ z in
         (leaves .holds none, leaves .mesh none ∙ ap (λ (x : calls.Left (Unit {0})). x .mesh) forgotten)

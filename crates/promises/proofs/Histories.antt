@@ -22,7 +22,7 @@ use Rattle.promises.proofs.Accepts as accepts
 
 -- What a call answers in a state.
 abbrev pub answered : State → Call → Left Tag
-answered s c = leftBy turned (tagNow s) (s .mesh) c
+answered s c = leftBy turned (tagNow s c) (s .mesh) c
 
 module _ (P : ℕ → State → Type 0) where
   after-keeps : (f : ℕ) (s : State) (c : Call) → P f s → (answered s c .refusal ≡ 0 → P f (accepted s (answered s c) c)) → P f (after s c)
@@ -74,7 +74,7 @@ module _ (P : ℕ → State → Type 0) where
   always-sound opens step w h f monitor o cs =
       always (λ f s. SoundMesh (s .mesh) × P f s)
       (λ w h f monitor o. (sound-opened w h f monitor (o .size) (o .phases) (o .monitored), opens w h f monitor o))
-      (λ f s c e p. (sound-left (p .0) turned (tagNow s) c e, step f s c (p .0) e (p .1)))
+      (λ f s c e p. (sound-left (p .0) turned (tagNow s c) c e, step f s c (p .0) e (p .1)))
       w
       h
       f
@@ -85,7 +85,7 @@ module _ (P : ℕ → State → Type 0) where
 
 -- the mesh of every history is sound
 pub sound-always : Always (λ f s. SoundMesh (s .mesh))
-sound-always = always-sound (λ f s. SoundMesh (s .mesh)) (λ w h f monitor o. sound-opened w h f monitor (o .size) (o .phases) (o .monitored)) (λ f s c sound e p. sound-left sound turned (tagNow s) c e)
+sound-always = always-sound (λ f s. SoundMesh (s .mesh)) (λ w h f monitor o. sound-opened w h f monitor (o .size) (o .phases) (o .monitored)) (λ f s c sound e p. sound-left sound turned (tagNow s c) c e)
 
 -- ---- by the kind of the call
 

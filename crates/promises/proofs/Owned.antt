@@ -12,7 +12,7 @@ use Rattle.packet.specs.Control.{kindOf, markOf}
 use Rattle.packet.specs.Parity.{isOdd}
 use Rattle.tables.specs.declared.Found.{Found}
 use Rattle.tables.specs.declared.Found.the-variants.{At, Nothing}
-use Rattle.tables.specs.Rows.{rowsOf, firstMatch, routeOf}
+use Rattle.tables.specs.Rows.{rowsOf, firstMatch, routeOf, routeFor}
 use Rattle.steps.specs.declared.Outcome.{Outcome}
 use Rattle.steps.specs.declared.Setting.{Setting}
 use Rattle.steps.specs.declared.Wanted.{Wanted}
@@ -93,7 +93,7 @@ module _ (q : Packet) (s : ℕ) (rows codes : List ℕ) (t : Setting) where
       by-mark none mc true mark = simp (not-local none mc mark)
       by-mark none mc false mark = missed-row (firstMatch (q .word) (rowsOf rows)) (markOf (q .control))
 
-      by-kind : errors ≡ 0 → (b : Bool) → isMc q ≡ b → kindWanted (kindOf (q .control)) q s rows codes t .missed ≡ flag (eqb s 7 && isMc q && true && noRow (firstMatch (q .word) (rowsOf rows))) 1
+      by-kind : errors ≡ 0 → (b : Bool) → isMc q ≡ b → kindWanted (kindOf (q .control)) q s (routeFor (q .word) (rowsOf rows)) codes t .missed ≡ flag (eqb s 7 && isMc q && true && noRow (firstMatch (q .word) (rowsOf rows))) 1
       by-kind none true mc = simp mc (by-mark none mc (eqb (markOf (q .control)) 2) refl)
       by-kind none false other = simp (other, and-false)
 

@@ -24,8 +24,8 @@ use Rattle.promises.specs.Told.{Stamped, EachFlight, EachPass, sumOf, co
 abbrev pub span : ℕ → ℕ → ℕ
 span f r = 2 * f - r % f
 
--- "Forgetting the tags gives, call by call, exactly the meshes, answers and logs of the calls' contracts": of any tags, so that what follows is
--- about the program. A call on a buffer that holds the state's mesh leaves a buffer that holds the next state's.
+-- The tags are this history's alone: without them it has, call by call, the meshes, answers and logs that the calls' contracts name, so that what
+-- follows is about the program. A call on a buffer that holds the state's mesh leaves a buffer that holds the next state's.
 abbrev pub Forgetting : Type 1
 Forgetting = (A : Type 0) (turn : A → A) (tag : A) (m : Mesh A) (c : Call)
     → (plainLeft (leftBy turn tag m c) ≡ leftBy same tt (plain m) c) × (answerOf turn tag m c ≡ answerOf same tt (plain m) c)
@@ -43,22 +43,22 @@ WholeRun = (w h f monitor : ℕ) (before behind : List ℕ) (cs : List Call) →
 abbrev pub Always : (ℕ → State → Type 0) → Type 0
 Always P = (w h f monitor : ℕ) → Opens w h f monitor → (cs : List Call) → P f (history w h f monitor cs)
 
--- 1. "An MC or P2P packet injected after r rounds crosses at most 2F-(r mod F)+1 links": every copy, in flight or where it passed.
+-- 1. An MC or P2P packet injected after r rounds crosses at most 2F-(r mod F)+1 links: every copy, in flight or where it passed.
 abbrev pub LinksCrossed : Type 0
 LinksCrossed = Always (λ f s.
-    EachFlight (λ x. Stamped (x .packet) → x .tag .crossed ≤ span f (x .tag .before) + 1) (s .mesh)
-    × EachPass (λ p. Stamped (p .arrival .flight .packet) → p .arrival .flight .tag .crossed ≤ span f (p .arrival .flight .tag .before) + 1) (s .events))
+    EachFlight (λ x. Stamped (x .tag .packet) → x .tag .crossed ≤ span f (x .tag .before) + 1) (s .mesh)
+    × EachPass (λ p. Stamped (p .arrival .flight .tag .packet) → p .arrival .flight .tag .crossed ≤ span f (p .arrival .flight .tag .before) + 1) (s .events))
 
--- 2. "... is gone after that many rounds": what is in flight was injected fewer rounds ago.
+-- 2. It is gone after that many rounds: what is in flight was injected fewer rounds ago.
 abbrev pub GoneInTime : Type 0
-GoneInTime = Always (λ f s. EachFlight (λ x. Stamped (x .packet) → s .rounds < x .tag .before + (span f (x .tag .before) + 1)) (s .mesh))
+GoneInTime = Always (λ f s. EachFlight (λ x. Stamped (x .tag .packet) → s .rounds < x .tag .before + (span f (x .tag .before) + 1)) (s .mesh))
 
--- 3. "... is not stopped for age in the first 2F-(r mod F)": a pass that finds it too old is in a later further round.
+-- 3. It is not stopped for age in the first 2F-(r mod F): a pass that finds it too old is in a later further round.
 abbrev pub NotBeforeItsTime : Type 0
 NotBeforeItsTime = Always (λ f s.
     EachPass (λ p. p .outcome .errors / 2 % 2 ≡ 1 → p .arrival .flight .tag .before + span f (p .arrival .flight .tag .before) ≤ p .rounds) (s .events))
 
--- 4. "The account of units closes throughout": units injected plus extra branches equal units delivered, ended in error, dropped, swallowed and in
+-- 4. The account of units closes throughout: units injected plus extra branches equal units delivered, ended in error, dropped, swallowed and in
 -- flight.
 abbrev pub Account : Type 0
 Account = Always (λ f s.
@@ -68,22 +68,22 @@ Account = Always (λ f s.
     + sumOf (λ p. swallowed (p .outcome)) (s .events)
     + onMesh (λ x. weight (x .packet)) (s .mesh))
 
--- 5. "Each of the ten counters of each chip equals the history's own count modulo 4,294,967,296."
+-- 5. The counters of each chip: "the counters equal theirs modulo their width", theirs being the sums over the history of passes.
 abbrev pub Counts : Type 0
 Counts = Always (λ f s. (chip k : ℕ) → chip < s .mesh .height * s .mesh .width → k < 10
     → getD (getD (s .mesh .chips) chip fresh .counters .count) k 0 ≡ sumOf (countAt chip k) (s .events) % 2 ^ 32)
 
--- 6. "What a read hands over is the first dropped unit of that chip since the read before, and the flag says whether more followed."
+-- 6. The error registers of each chip: "the first dropped unit since they were last read ... and a flag that more followed".
 abbrev pub Registers : Type 0
 Registers = Always (λ f s. (chip : ℕ) → chip < s .mesh .height * s .mesh .width
     → getD (s .mesh .chips) chip fresh .registers ≡ firstOfUnits (dropsSince chip (s .events)))
 
--- 7. "The records of all accepted calls joined are, in order, the passes of the history that reached a processor."
+-- 7. The log: the records of all accepted calls, joined, are in order those of the passes that handed a packet to a processor.
 abbrev pub Log : Type 0
 Log = Always (λ f s. s .log ≡ recordsOf (s .events))
 
--- 8. "The ready set of every pass in a history is decided by the link states and counts at that moment; a link that was down or full and is so no
--- longer is ready."
+-- 8. No block outlives its cause: the ready set of every pass is that of the links as they stand at that pass, so that a link that was down or full,
+-- and no longer is, is ready.
 abbrev pub NoStaleBlock : Type 0
 NoStaleBlock = Always (λ f s. EachPass (λ p.
     (p .outcome ≡ outcomeOf (p .arrival .flight .packet) (p .arrival .source) (p .rows) (p .codes) (p .setting))

@@ -1,13 +1,14 @@
 -- A history: a mesh that was just opened, and any list of calls, each with all that a caller may hand in. It is the mesh of the calls' contracts,
--- at tags that say of each packet in flight which injection it came from, how many rounds had been accepted before that, and how many links it
--- has crossed.
+-- at tags that say of each packet in flight which injection it came from, the packet as it was then, how many rounds had been accepted before
+-- that, and how many links it has crossed.
 use Prim.Native.Nat.{ℕ, _+_, _*_, _≤_}
 use mathlib.Core.Path.{_≡_}
 use mathlib.Core.Bool.{Bool, true, cond}
 use mathlib.Core.List.{List, [], _∷_, _++_, foldl}
 use lib.Dec.{eqb}
 use lib.ListN.{getD}
-use Rattle.packet.specs.Bytes.{packetAt}
+use Rattle.packet.specs.declared.Packet.{Packet}
+use Rattle.packet.specs.Bytes.{packetAt, nothing}
 use Rattle.steps.specs.declared.Outcome.{Outcome}
 use Rattle.steps.specs.declared.Setting.{Setting}
 use Rattle.router.specs.Call.{sizeFine}
@@ -26,8 +27,9 @@ use Rattle.mesh.specs.Calls as calls
 
 -- ---- calls
 
--- "A call is any of injection, round, link change, register read, counter read, or looking at mesh or link, with all its inputs". A log is what it
--- is long.
+-- Each call that is lent a mesh, with all its inputs; of a log only its length counts. The calls that are lent none (the needed length, reading,
+-- packing, one pass alone) and an opening that is refused leave every buffer as it came, so that they may stand anywhere between these; an opening that
+-- is accepted begins another history.
 pub data Call : Type 0 where
   inject : (chip : ℕ) (bytes : List ℕ) (t : Tables) (room : ℕ) → Call
   round : (t : Tables) (room : ℕ) → Call
@@ -67,19 +69,20 @@ module _ {A : Type 0} where
 
 -- ---- what a history remembers
 
--- "Each injection has its own identity, so that equal bytes stay apart; each copy in flight knows its injection, the rounds accepted before it,
--- and the links crossed".
+-- "Links crossed are counted in that same history: each sending is one crossing, and each copy there is tied to the injection it came from, so that
+-- equal bytes stay apart."
 pub record Tag : Type 0 where
   pub injection : ℕ
+  pub packet : Packet
   pub before : ℕ
   pub crossed : ℕ
 
--- "... one more at each sending."
+-- A sending turns the tag: one link more.
 abbrev pub turned : Tag → Tag
-turned t = record { injection = t .injection; before = t .before; crossed = t .crossed + 1 }
+turned t = record { injection = t .injection; packet = t .packet; before = t .before; crossed = t .crossed + 1 }
 
--- "Each pass leaves a record": what arrived where, the rounds accepted before, the chip as the pass found it, its tables and setting, and all
--- that the pass did (errors, the wanted set with its branches, what was sent, dropped, delivered, swallowed).
+-- What is remembered of a pass: what arrived where, the rounds accepted before, the chip as the pass found it, its tables and setting, and all that
+-- the pass did (errors, the wanted set with its branches, what was sent, dropped, delivered, swallowed).
 pub record Passage : Type 0 where
   pub arrival : Arrival Tag
   pub rounds : ℕ
@@ -150,22 +153,35 @@ isRound lookMesh = 0
 isRound (lookLink chip link) = 0
 
 -- The tag of a packet that is injected now.
-abbrev pub tagNow : State → Tag
-tagNow s = record { injection = s .injections; before = s .rounds; crossed = 0 }
+abbrev pub tagOf : State → Packet → Tag
+tagOf s p = record { injection = s .injections; packet = p; before = s .rounds; crossed = 0 }
 
--- "A call that refuses changes nothing; only accepted rounds count."
+-- What a call injects; only an injection does.
+abbrev pub handedIn : Call → Packet
+handedIn (inject chip bytes t room) = packetAt bytes
+handedIn (round t room) = nothing
+handedIn (setLink chip link up) = nothing
+handedIn (readRegisters chip) = nothing
+handedIn (readCounter chip counter) = nothing
+handedIn lookMesh = nothing
+handedIn (lookLink chip link) = nothing
+
+abbrev pub tagNow : State → Call → Tag
+tagNow s c = tagOf s (handedIn c)
+
+-- What an accepted call makes of the state. A refused one changes nothing and counts for nothing.
 abbrev pub accepted : State → calls.Left Tag → Call → State
 accepted s r c =
     record {
       mesh = r .mesh;
       injections = s .injections + isInjection c;
       rounds = s .rounds + isRound c;
-      events = s .events ++ eventsOf s (tagNow s) c;
+      events = s .events ++ eventsOf s (tagNow s c) c;
       log = s .log ++ r .log;
     }
 
 unfoldable pub after : State → Call → State
-after s c = let r = leftBy turned (tagNow s) (s .mesh) c in cond (eqb (r .refusal) 0) (accepted s r c) s
+after s c = let r = leftBy turned (tagNow s c) (s .mesh) c in cond (eqb (r .refusal) 0) (accepted s r c) s
 
 -- ---- the whole
 

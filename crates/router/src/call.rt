@@ -15,7 +15,7 @@ use steps::errors::errors_of;
 use steps::errors::stamped_of;
 use steps::wants::by_rows;
 use steps::wants::looked_up;
-use steps::wants::wanted_of;
+use steps::wants::wanted_given;
 use tables::accept::codes_fine;
 use tables::accept::rows_fine;
 ghost use mathlib.Core.Path.{_≡_};
@@ -55,7 +55,7 @@ fn outcome_unless(
         let stamped = stamped_of(p, source, errors, t.phase);
         let goes = by_rows(errors, p.control);
         let found = looked_up(goes, p.word, rows);
-        let wanted = wanted_of(errors, p, source, found, codes, t);
+        let wanted = wanted_given(errors, p, source, found, codes, t);
         decide(errors, stamped, source, wanted, t.ready)
     } else {
         no_outcome()

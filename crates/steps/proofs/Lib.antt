@@ -1,4 +1,4 @@
 pub mod Bounds
+pub mod ByRows
 pub mod BySource
-pub mod LookedUp
 pub mod Ways

@@ -31,9 +31,6 @@ matchWanted Missed mark source monitor = missWanted mark source monitor
 abbrev pub markWanted : Matched → ℕ → ℕ → ℕ → Wanted
 markWanted m mark source monitor = cond (eqb mark 2) (wants 0) (matchWanted m mark source monitor)
 
-abbrev pub mcWanted : Packet → ℕ → List ℕ → ℕ → Wanted
-mcWanted p source rows monitor = markWanted (routeFor (p .word) (rowsOf rows)) (markOf (p .control)) source monitor
-
 -- A P2P code and an NN route lead alike, but for 6.
 abbrev pub numberWanted : ℕ → ℕ → ℕ → ℕ
 numberWanted number six monitor = cond (ltb number 6) (2 ^ number) (cond (eqb number 6) six (monitorBit monitor))
@@ -46,19 +43,20 @@ p2pWanted p codes t = numberWanted (codeFor codes (t .width) (t .height) (p .wor
 abbrev pub nnWanted : Packet → ℕ → ℕ → ℕ
 nnWanted p source monitor = cond (eqb source 7) (numberWanted (routeOf (p .control)) 63 monitor) (monitorBit monitor)
 
-abbrev pub kindWanted : ℕ → Packet → ℕ → List ℕ → List ℕ → Setting → Wanted
-kindWanted kind p source rows codes t =
-    cond (eqb kind 0) (mcWanted p source rows (t .monitor)) (wants (cond (eqb kind 1) (p2pWanted p codes t) (nnWanted p source (t .monitor))))
-
--- What goes by the rows: an MC packet without error and not marked 10.
-abbrev pub byRows : ℕ → ℕ → Bool
-byRows errors control = eqb errors 0 && eqb (kindOf control) 0 && not (eqb (markOf control) 2)
-
--- What is looked up in them: the route of such a packet, and nothing for any other.
-abbrev pub lookedUp : ℕ → Packet → List ℕ → Matched
-lookedUp errors p rows = cond (byRows errors (p .control)) (routeFor (p .word) (rowsOf rows)) Missed
+-- By type, given what the rows say to the packet's key.
+abbrev pub kindWanted : ℕ → Packet → ℕ → Matched → List ℕ → Setting → Wanted
+kindWanted kind p source found codes t =
+    cond (eqb kind 0) (markWanted found (markOf (p .control)) source (t .monitor))
+    (wants (cond (eqb kind 1) (p2pWanted p codes t) (nnWanted p source (t .monitor))))
 
 -- "A packet in error goes, as it came, to the monitor and nowhere else".
+abbrev pub wantedGiven : ℕ → Packet → ℕ → Matched → List ℕ → Setting → Wanted
+wantedGiven errors p source found codes t =
+    cond (eqb errors 0) (kindWanted (kindOf (p .control)) p source found codes t) (wants (monitorBit (t .monitor)))
+
 unfoldable pub wantedOf : ℕ → Packet → ℕ → List ℕ → List ℕ → Setting → Wanted
-wantedOf errors p source rows codes t =
-    cond (eqb errors 0) (kindWanted (kindOf (p .control)) p source rows codes t) (wants (monitorBit (t .monitor)))
+wantedOf errors p source rows codes t = wantedGiven errors p source (routeFor (p .word) (rowsOf rows)) codes t
+
+-- Whom the rows concern: an MC packet without error and not marked 10.
+abbrev pub byRows : ℕ → ℕ → Bool
+byRows errors control = eqb errors 0 && eqb (kindOf control) 0 && not (eqb (markOf control) 2)

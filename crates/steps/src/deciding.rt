@@ -12,7 +12,7 @@ use super::errors::stamped_of;
 use super::wants::bit;
 use super::wants::by_rows;
 use super::wants::looked_up;
-use super::wants::wanted_of;
+use super::wants::wanted_given;
 use packet::Packet;
 use packet::control::kind_of;
 use packet::control::mark_of;
@@ -31,7 +31,7 @@ pub fn outcome_of(p: Packet, source: u32, rows: &[u32], codes: &[u8], t: Setting
     let stamped = stamped_of(p, source, errors, t.phase);
     let goes = by_rows(errors, p.control);
     let found = looked_up(goes, p.word, rows);
-    let wanted = wanted_of(errors, p, source, found, codes, t);
+    let wanted = wanted_given(errors, p, source, found, codes, t);
     decide(errors, stamped, source, wanted, t.ready)
 }
 

@@ -10,13 +10,12 @@ use tables::codes::code_for;
 use tables::search::route_for;
 ghost use mathlib.Core.Path.{_≡_};
 ghost use lib.ListN.{length};
-ghost use mathlib.Core.List.{List};
-ghost use Prim.Native.Nat.{ℕ, _*_, _^_, _≤_, _<_};
+ghost use Prim.Native.Nat.{_*_, _^_, _≤_, _<_};
 ghost use Rattle.steps.specs.Links.{monitorBit};
 ghost use mathlib.Core.Bool.{cond};
 ghost use Rattle.tables.specs.declared.Matched.the-variants.{Missed};
 ghost use Rattle.tables.specs.Rows.{rowsOf, routeFor};
-ghost use Rattle.steps.specs.Wants.{wants, missWanted, matchWanted, markWanted, numberWanted, p2pWanted, nnWanted, byRows, lookedUp, wantedOf};
+ghost use Rattle.steps.specs.Wants.{wants, missWanted, matchWanted, markWanted, numberWanted, p2pWanted, nnWanted, wantedGiven, byRows};
 
 // Whether a packet goes by the rows.
 pub fn by_rows(errors: u32, control: u32) -> bool
@@ -37,7 +36,8 @@ pub fn looked_up(goes: bool, key: u32, rows: &[u32]) -> Matched
     }
 }
 
-pub fn wanted_of(
+// The wanted set, given what the rows say to the packet.
+pub fn wanted_given(
     errors: u32,
     p: Packet,
     source: u32,
@@ -46,7 +46,7 @@ pub fn wanted_of(
     t: Setting,
 ) -> Wanted
     requires { ⌜ (source < 8) × ((t .monitor < 20) × ((t .width ≤ 12) × ((t .height ≤ 12) × (t .height * t .width ≤ length (now codes))))) ⌝ }
-    ensures { λ r. ⌜ ((rows : List ℕ) → found ≡ lookedUp errors p rows → r ≡ wantedOf errors p source rows (now (codes .entry)) t) ⌝ }
+    ensures { λ r. ⌜ r ≡ wantedGiven errors p source found (now (codes .entry)) t ⌝ }
 {
     if errors == 0 {
         let kind = kind_of(p.control);

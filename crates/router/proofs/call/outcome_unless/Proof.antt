@@ -1,7 +1,7 @@
 use mathlib.Core.Path.{_∙_}
 use borrow.Author.Tests.{eq-eqb, ne-eqb}
 use Rattle.steps.specs.Deciding.{outcomeOf}
-use Rattle.steps.proofs.LookedUp.{looked-up-in}
+use Rattle.steps.proofs.ByRows.{wanted-by-rows}
 use borrow.Author.Needs.{needs}
 use Rattle.router.proofs.call.outcome_unless.Statement.{statement}
 use Rattle.router.proofs.call.outcome_unless.Tie as tie
@@ -13,7 +13,7 @@ use Rattle.steps.proofs.errors.errors_of.Reads as errors-of-reads
 use Rattle.steps.proofs.errors.stamped_of.Reads as stamped-of-reads
 use Rattle.steps.proofs.wants.by_rows.Reads as by-rows-reads
 use Rattle.steps.proofs.wants.looked_up.Reads as looked-up-reads
-use Rattle.steps.proofs.wants.wanted_of.Reads as wanted-of-reads
+use Rattle.steps.proofs.wants.wanted_given.Reads as wanted-given-reads
 
 -- src/call.rt:54:13
 errors-of-requires : tie.Need-errors-of-requires
@@ -32,8 +32,8 @@ looked-up-requires : tie.Need-looked-up-requires
 looked-up-requires c κs = search needs
 
 -- src/call.rt:58:13
-wanted-of-requires : tie.Need-wanted-of-requires
-wanted-of-requires c κs = let h = c .before .before .before .before .before .before .before .pre (c .before .before .before .before .if1 .taken) in (h .from, (h .monitor, (h .width, (h .height, h .enough))))
+wanted-given-requires : tie.Need-wanted-given-requires
+wanted-given-requires c κs = let h = c .before .before .before .before .before .before .before .pre (c .before .before .before .before .if1 .taken) in (h .from, (h .monitor, (h .width, (h .height, h .enough))))
 
 -- src/call.rt:59:9
 decide-requires : tie.Need-decide-requires
@@ -48,8 +48,10 @@ returns : tie.Need-returns
 unfolding outcomeOf
 returns c =
     let a = c .before .before .before .before .before .before .before .before .before .args in
-    let found = looked-up-in (c .before .before .before .before .before .errors-of .result) (a .p) (a .rows .now) _ _ (c .before .before .before .by-rows .ensures) (c .before .before .looked-up .ensures) in
-    let wanted = c .before .wanted-of .ensures (a .rows .now) found in
+    let errors = c .before .before .before .before .before .errors-of .result in
+    let wanted =
+    c .before .wanted-given .ensures
+    ∙ wanted-by-rows errors (a .p) (a .source) (a .rows .now) (a .codes .now) (a .t) _ _ (c .before .before .before .by-rows .ensures) (c .before .before .looked-up .ensures) in
     c .decide .ensures
     ∙ simp (wanted, c .before .before .before .before .stamped-of .ensures, c .before .before .before .before .before .errors-of .ensures .0, eq-eqb _ _ (c .before .before .before .before .before .before .if1 .taken))
 
@@ -65,7 +67,7 @@ outcome-unless-spec =
     stamped-of-requires
     by-rows-requires
     looked-up-requires
-    wanted-of-requires
+    wanted-given-requires
     decide-requires
     no-outcome-requires
     returns

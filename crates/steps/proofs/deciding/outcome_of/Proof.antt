@@ -1,6 +1,6 @@
 use mathlib.Core.Path.{_∙_}
 use Rattle.steps.specs.Deciding.{outcomeOf}
-use Rattle.steps.proofs.LookedUp.{looked-up-in}
+use Rattle.steps.proofs.ByRows.{wanted-by-rows}
 use borrow.Author.Needs.{needs}
 use Rattle.steps.proofs.deciding.outcome_of.Statement.{statement}
 use Rattle.steps.proofs.deciding.outcome_of.Tie as tie
@@ -11,7 +11,7 @@ use Rattle.steps.proofs.errors.errors_of.Reads as errors-of-reads
 use Rattle.steps.proofs.errors.stamped_of.Reads as stamped-of-reads
 use Rattle.steps.proofs.wants.by_rows.Reads as by-rows-reads
 use Rattle.steps.proofs.wants.looked_up.Reads as looked-up-reads
-use Rattle.steps.proofs.wants.wanted_of.Reads as wanted-of-reads
+use Rattle.steps.proofs.wants.wanted_given.Reads as wanted-given-reads
 
 -- src/deciding.rt:30:9
 errors-of-requires : tie.Need-errors-of-requires
@@ -30,8 +30,8 @@ looked-up-requires : tie.Need-looked-up-requires
 looked-up-requires c κs = search needs
 
 -- src/deciding.rt:34:9
-wanted-of-requires : tie.Need-wanted-of-requires
-wanted-of-requires c κs = search needs
+wanted-given-requires : tie.Need-wanted-given-requires
+wanted-given-requires c κs = search needs
 
 -- src/deciding.rt:35:5
 decide-requires : tie.Need-decide-requires
@@ -42,8 +42,10 @@ returns : tie.Need-returns
 unfolding outcomeOf
 returns c =
     let a = c .before .before .before .before .before .before .before .before .args in
-    let found = looked-up-in (c .before .before .before .before .before .errors-of .result) (a .p) (a .rows .now) _ _ (c .before .before .before .by-rows .ensures) (c .before .before .looked-up .ensures) in
-    let wanted = c .before .wanted-of .ensures (a .rows .now) found in
+    let errors = c .before .before .before .before .before .errors-of .result in
+    let wanted =
+    c .before .wanted-given .ensures
+    ∙ wanted-by-rows errors (a .p) (a .source) (a .rows .now) (a .codes .now) (a .t) _ _ (c .before .before .before .by-rows .ensures) (c .before .before .looked-up .ensures) in
     c .decide .ensures ∙ simp (wanted, c .before .before .before .before .stamped-of .ensures, c .before .before .before .before .before .errors-of .ensures .0)
 
 pub outcome-of-spec : {M : Type 1} → statement M
@@ -54,6 +56,6 @@ outcome-of-spec =
     stamped-of-requires
     by-rows-requires
     looked-up-requires
-    wanted-of-requires
+    wanted-given-requires
     decide-requires
     returns)

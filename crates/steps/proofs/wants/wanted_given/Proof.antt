@@ -1,13 +1,12 @@
 use Prim.Native.Nat.{ℕ}
-use Rattle.steps.specs.Wants.{markWanted, wantedOf}
-use Rattle.steps.proofs.LookedUp.{mc-looked-up}
+use Rattle.steps.specs.Wants.{markWanted}
 use mathlib.Core.Path.{sym, ap, _∙_}
 use borrow.Author.Tests.{eq-eqb, ne-eqb}
 use borrow.Author.Needs.{needs}
-use Rattle.steps.proofs.wants.wanted_of.Statement.{statement}
-use Rattle.steps.proofs.wants.wanted_of.Tie as tie
-use Rattle.steps.proofs.wants.wanted_of.Reads as reads
-use Rattle.steps.proofs.wants.wanted_of.Lts as lts
+use Rattle.steps.proofs.wants.wanted_given.Statement.{statement}
+use Rattle.steps.proofs.wants.wanted_given.Tie as tie
+use Rattle.steps.proofs.wants.wanted_given.Reads as reads
+use Rattle.steps.proofs.wants.wanted_given.Lts as lts
 use Rattle.packet.proofs.control.kind_of.Reads as kind-of-reads
 use Rattle.packet.proofs.control.mark_of.Reads as mark-of-reads
 use Rattle.steps.proofs.wants.alone.Reads as alone-reads
@@ -54,38 +53,31 @@ alone-requires-3 c κs = search needs
 
 -- src/wants.rt:30:1
 returns : tie.Need-returns
-unfolding wantedOf
 returns c =
-    λ rows e.
     let a = c .before .before .before .before .before .before .args in
     let none = c .before .before .before .before .if1 .taken in
     let mc = sym (c .before .before .before .kind-of .ensures) ∙ c .before .before .match .keys1 in
     c .mc-wanted .ensures
     ∙ ap (λ (n : ℕ). markWanted (a .found) n (a .source) (a .t .monitor)) (c .before .mark-of .ensures)
-    ∙ mc-looked-up (a .errors) (a .p) (a .source) (a .t .monitor) rows (a .found) none mc e
     ∙ simp (eq-eqb _ _ none, eq-eqb _ _ mc)
 
 -- src/wants.rt:30:1
 returns-2 : tie.Need-returns-2
-unfolding wantedOf
-returns-2 c = λ rows e. c .alone .ensures ∙ simp (c .before .p2p-wanted .ensures, eq-eqb _ _ (c .before .before .before .before .if1 .taken), sym (c .before .before .before .kind-of .ensures) ∙ c .before .before .match .keys2)
+returns-2 c = c .alone .ensures ∙ simp (c .before .p2p-wanted .ensures, eq-eqb _ _ (c .before .before .before .before .if1 .taken), sym (c .before .before .before .kind-of .ensures) ∙ c .before .before .match .keys2)
 
 -- src/wants.rt:30:1
 returns-3 : tie.Need-returns-3
-unfolding wantedOf
 returns-3 c =
-    λ rows e.
     let k = c .before .before .before .kind-of .ensures in
     let n = c .before .before .match .rest in
     c .alone2 .ensures ∙ simp (c .before .nn-wanted .ensures, eq-eqb _ _ (c .before .before .before .before .if1 .taken), ne-eqb _ _ (rw k at (n .0 .1)), ne-eqb _ _ (rw k at (n .1)))
 
 -- src/wants.rt:30:1
 returns-4 : tie.Need-returns-4
-unfolding wantedOf
-returns-4 c = λ rows e. c .alone3 .ensures ∙ simp (c .before .monitor-bit .ensures, ne-eqb _ _ (c .before .before .if1 .left))
+returns-4 c = c .alone3 .ensures ∙ simp (c .before .monitor-bit .ensures, ne-eqb _ _ (c .before .before .if1 .left))
 
-pub wanted-of-spec : {M : Type 1} → statement M
-wanted-of-spec =
+pub wanted-given-spec : {M : Type 1} → statement M
+wanted-given-spec =
     tie.close
     (tie.spec
     kind-of-requires
