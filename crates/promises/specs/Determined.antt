@@ -1,18 +1,28 @@
 -- What the calls answer and leave is determined by their inputs: two answers that meet one contract are equal.
-use Prim.Native.Nat.{ℕ, _≤_, _<_}
+use Prim.Native.Nat.{ℕ, _+_, _*_, _≤_, _<_}
 use native.Mathlib.Omega.{arith}
-use lib.ListN.{length}
-use mathlib.Core.Path.{_≡_, sym, _∙_}
+use lib.ListN.{length, getD, drop}
+use mathlib.Core.Path.{_≡_, sym, ap, _∙_}
+use mathlib.Core.Bool.{Bool}
 use mathlib.Core.List.{List}
+use Rattle.packet.specs.Refusal.{firstOf}
 use Rattle.packet.proofs.Determined.{determined}
 use Rattle.router.specs.declared.Pass.{Pass}
 use Rattle.steps.specs.declared.Setting.{Setting}
 use Rattle.router.specs.Call.{passOf}
 use Rattle.links.specs.Line.{idle}
-use Rattle.mesh.specs.Layout.{meshOf}
+use Rattle.mesh.specs.declared.Added.{Added}
+use Rattle.mesh.specs.declared.RegistersRead.{RegistersRead}
+use Rattle.mesh.specs.declared.CountRead.{CountRead}
+use Rattle.mesh.specs.declared.MeshRead.{MeshRead}
+use Rattle.mesh.specs.declared.LinkRead.{LinkRead}
+use Rattle.mesh.specs.declared.opening.SizeRead.{SizeRead}
+use Rattle.mesh.specs.Layout.{meshOf, wordsFor}
+use Rattle.mesh.specs.Opening.{sizeOf, openRefusals, opening}
+use Rattle.mesh.specs.Holding.{holdsMesh}
 use Rattle.mesh.specs.Sound.{SoundLine}
-use Rattle.mesh.specs.Calls.{Left, many, chipOf, lineOf}
-use Rattle.mesh.specs.Leaving.{Leaves}
+use Rattle.mesh.specs.Calls.{Left, addedOf, loggedOn, many, chipOf, lineOf, registersRead, countRead, meshRead, linkRead}
+use Rattle.mesh.specs.Leaving.{Leaves, linkLeft}
 use Rattle.mesh.proofs.Alls.{all-getD}
 use Rattle.mesh.proofs.SoundChanges.{chip-sound}
 use Rattle.mesh.proofs.SoundWords.{holds-sound}
@@ -21,13 +31,65 @@ pub pass-determined : (bytes : List ℕ) (source : ℕ) (rows codes : List ℕ) 
     → a ≡ passOf bytes source rows codes t → b ≡ passOf bytes source rows codes t → a ≡ b
 pass-determined bytes source rows codes t = determined
 
--- The answers and the logs of the calls on a mesh are equations, as the pass's answer is. Of the buffer: two that one call may leave are equal
--- where it is refused, and read as the same mesh where it is accepted.
-pub left-determined : (before a b : List ℕ) (r : Left (Unit {0})) → Leaves before a r → Leaves before b r
-    → ((r .refusal ≡ 0 → ⊥) → a ≡ b) × (r .refusal ≡ 0 → meshOf a ≡ meshOf b)
-left-determined before a b r x y = (λ some. x .refused some ∙ sym (y .refused some), λ none. x .mesh none ∙ sym (y .mesh none))
+pub size-determined : (width height : ℕ) (a b : SizeRead) → a ≡ sizeOf width height → b ≡ sizeOf width height → a ≡ b
+size-determined width height = determined
 
--- "No link ever holds more than 8": not in any buffer that an accepted call leaves.
+-- "Its needed length, which W and H alone decide and which is at most 16,384 bytes a chip and 4,096 more": a word has four bytes.
+pub needed-length-bounded : (width height : ℕ) → wordsFor width height * 4 ≤ height * width * 16384 + 4096
+needed-length-bounded width height = omega arith
+
+-- Opening: its answer, and every word of the buffer.
+pub open-determined : (before : List ℕ) (width height rounds monitor r s : ℕ) (a b : List ℕ)
+    → r ≡ firstOf (openRefusals (length before) width height rounds monitor) → a ≡ opening r before width height rounds monitor
+    → s ≡ firstOf (openRefusals (length before) width height rounds monitor) → b ≡ opening s before width height rounds monitor
+    → (r ≡ s) × (a ≡ b)
+open-determined before width height rounds monitor r s a b e x f y =
+    let same = determined r s e f in
+    (same, x ∙ ap (λ (n : ℕ). opening n before width height rounds monitor) same ∙ sym y)
+
+-- Two buffers that one call may leave: the same words where it is refused, the same mesh where it is accepted, and always the same words past the
+-- needed length. What stands in places that a mesh does not use is left open.
+pub record SameLeft (before a b : List ℕ) (r : Left (Unit {0})) : Type 0 where
+  pub refused : (r .refusal ≡ 0 → ⊥) → a ≡ b
+  pub mesh : r .refusal ≡ 0 → meshOf a ≡ meshOf b
+  pub past : drop (wordsFor (getD before 0 0) (getD before 1 0)) a ≡ drop (wordsFor (getD before 0 0) (getD before 1 0)) b
+
+pub left-determined : (before a b : List ℕ) (r : Left (Unit {0})) → Leaves before a r → Leaves before b r → SameLeft before a b r
+left-determined before a b r x y =
+    record { refused = λ some. x .refused some ∙ sym (y .refused some); mesh = λ none. x .mesh none ∙ sym (y .mesh none); past = x .past ∙ sym (y .past) }
+
+-- What an injection or a round may give by its contract, where r is what it leaves by the definition: an answer, a buffer, a log.
+pub record Moves (before log : List ℕ) (r : Left (Unit {0})) (answer : Added) (after written : List ℕ) : Type 0 where
+  pub answered : answer ≡ addedOf r
+  pub buffer : Leaves before after r
+  pub logged : written ≡ loggedOn (r .log) log
+
+pub moves-determined : (before log : List ℕ) (r : Left (Unit {0})) (x y : Added) (a b l k : List ℕ) → Moves before log r x a l → Moves before log r y b k
+    → (x ≡ y) × (SameLeft before a b r × (l ≡ k))
+moves-determined before log r x y a b l k m n =
+    (determined x y (m .answered) (n .answered), (left-determined before a b r (m .buffer) (n .buffer), determined l k (m .logged) (n .logged)))
+
+-- A link change answers a number, a read of registers what it hands over; of the buffers that they leave, `left-determined`.
+pub set-link-determined : (before : List ℕ) (chip link : ℕ) (up : Bool) (r s : ℕ) → r ≡ linkLeft before chip link up .refusal → s ≡ linkLeft before chip link up .refusal → r ≡ s
+set-link-determined before chip link up = determined
+
+pub read-registers-determined : (before : List ℕ) (chip : ℕ) (a b : RegistersRead)
+    → a ≡ registersRead (holdsMesh before) (meshOf before) chip → b ≡ registersRead (holdsMesh before) (meshOf before) chip → a ≡ b
+read-registers-determined before chip = determined
+
+-- The calls that only look are lent the buffer to read, and cannot change it.
+pub read-counter-determined : (mesh : List ℕ) (chip counter : ℕ) (a b : CountRead)
+    → a ≡ countRead (holdsMesh mesh) (meshOf mesh) chip counter → b ≡ countRead (holdsMesh mesh) (meshOf mesh) chip counter → a ≡ b
+read-counter-determined mesh chip counter = determined
+
+pub look-mesh-determined : (mesh : List ℕ) (a b : MeshRead) → a ≡ meshRead (holdsMesh mesh) (meshOf mesh) → b ≡ meshRead (holdsMesh mesh) (meshOf mesh) → a ≡ b
+look-mesh-determined mesh = determined
+
+pub look-link-determined : (mesh : List ℕ) (chip link : ℕ) (a b : LinkRead)
+    → a ≡ linkRead (holdsMesh mesh) (meshOf mesh) chip link → b ≡ linkRead (holdsMesh mesh) (meshOf mesh) chip link → a ≡ b
+look-link-determined mesh chip link = determined
+
+-- "Every directed link holds at most 8 packets", in every buffer that an accepted call leaves.
 pub no-link-above-8 : (before after : List ℕ) (r : Left (Unit {0})) → Leaves before after r → r .refusal ≡ 0
     → (chip link : ℕ) → chip < many (meshOf after) → link < 6 → length (lineOf (meshOf after) chip link .held) ≤ 8
 no-link-above-8 before after r x none chip link hc hl =

@@ -1,10 +1,11 @@
 -- A block never outlives its cause. A pass is told which links are ready, and nothing else about them: it keeps no mark of a link that was
 -- blocked before. So a link that is ready now is used now.
-use Prim.Native.Nat.{ℕ, _+_, _≤_, _<_}
+use Prim.Native.Nat.{ℕ, _+_, _*_, _≤_, _<_}
 use mathlib.Core.Path.{_≡_, refl, ap, _∙_}
-use mathlib.Core.Bool.{Bool, true, false}
+use mathlib.Core.Bool.{Bool, true, false, cond}
 use mathlib.Core.List.{List}
 use native.Mathlib.Omega.{arith}
+use lib.Dec.{lit<}
 use lib.ListN.{length, getD, set}
 use lib.Seq.{getD-set-same}
 use borrow.Author.Tests.{le-leb}
@@ -16,6 +17,7 @@ use Rattle.steps.specs.Errors.{flag}
 use Rattle.steps.specs.Deciding.{outcomeOf}
 use Rattle.links.specs.Line.{idle, isReady}
 use Rattle.mesh.specs.Mesh.{Chip, Mesh, fresh, readyOf}
+use Rattle.mesh.specs.Steps.{Tables, rowsAt, codesAt, outcomeAt}
 use Rattle.mesh.specs.Calls.{many, chipOf, lineOf, withUp, withLink}
 use Rattle.mesh.specs.Sound.{SoundMesh}
 use Rattle.mesh.proofs.SoundChanges.{chip-sound}
@@ -44,12 +46,30 @@ ready-link-is-used p source rows codes t i hr hi wanted ready =
     let rest = only-first (has (o .sent) i) (has (o .carried) (link (i + 5))) (has (o .dropped) i) straight (w .one) in
     record { sent = straight; no-detour = rest .0; not-dropped = rest .1 }
 
--- A pass has no memory: two passes that are given the same packet, source, tables and setting do the same, whatever came before either.
-pub no-memory : (p : Packet) (source : ℕ) (rows codes : List ℕ) (before after : Setting) → before ≡ after
-    → outcomeOf p source rows codes before ≡ outcomeOf p source rows codes after
-no-memory p source rows codes before after e = ap (outcomeOf p source rows codes) e
+-- Two meshes, whatever has come to pass in either, of one size, monitor and phase, with the same links of a chip ready now.
+pub record Alike {A B : Type 0} (m : Mesh A) (n : Mesh B) (chip : ℕ) : Type 0 where
+  pub width : m .width ≡ n .width
+  pub height : m .height ≡ n .height
+  pub monitor : m .monitor ≡ n .monitor
+  pub phase : m .phase ≡ n .phase
+  pub ready : (i : ℕ) → i < 6 → isReady (lineOf m chip i) ≡ isReady (lineOf n chip i)
 
--- "After set_link .. up, a link that holds at most 6 is ready at the very next pass, whatever happened before."
+-- The past does not count: a packet passes there alike. Which links were blocked before, what else is in flight, what registers and counters hold, and the
+-- other chips make no difference.
+pub past-does-not-count : {A B : Type 0} (t : Tables) (m : Mesh A) (n : Mesh B) (chip source : ℕ) (p : Packet) → Alike m n chip
+    → outcomeAt t m chip source p ≡ outcomeAt t n chip source p
+past-does-not-count t m n chip source p a =
+    λ i. outcomeOf p source (rowsAt t chip) (codesAt t (a .height i * a .width i) chip) (record {
+      width = a .width i;
+      height = a .height i;
+      monitor = a .monitor i;
+      phase = a .phase i;
+      ready = cond (a .ready 0 (lit< tt) i) 1 0 + cond (a .ready 1 (lit< tt) i) 2 0 + cond (a .ready 2 (lit< tt) i) 4 0 + cond (a .ready 3 (lit< tt) i) 8 0
+          + cond (a .ready 4 (lit< tt) i) 16 0
+          + cond (a .ready 5 (lit< tt) i) 32 0;
+    })
+
+-- A link that is taken up and holds at most 6 packets is ready at the very next pass, whatever happened before.
 pub up-is-ready : {A : Type 0} (m : Mesh A) → SoundMesh m → (chip link : ℕ) → chip < many m → link < 6 → length (lineOf m chip link .held) ≤ 6
     → has (readyOf (chipOf (withLink m chip link true) chip)) link ≡ true
 up-is-ready m sound chip link hc hl few =
