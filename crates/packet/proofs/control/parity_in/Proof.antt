@@ -9,7 +9,7 @@ use Rattle.packet.proofs.control.parity_in.Lts as lts
 
 -- src/control.rt:66:1
 returns : tie.Need-returns
-returns c = rw (mod-eq-of-lt (lt-of-le-of-lt (div-mul-le-self (c .args .control) 2) (c .fits .control .fits)), and-mask (c .args .bit) 1) (or-shifted (c .args .control / 2) 1 (c .args .bit % 2) (mod-lt (c .args .bit) (lit< tt)))
+returns c = simp (mod-eq-of-lt (lt-of-le-of-lt (div-mul-le-self (c .args .control) 2) (c .fits .control .fits)), and-mask (c .args .bit) 1) (or-shifted (c .args .control / 2) 1 (c .args .bit % 2) (mod-lt (c .args .bit) (lit< tt)))
 
 pub parity-in-spec : {M : Type 1} → statement M
 parity-in-spec = tie.close (tie.spec returns)
