@@ -2,7 +2,8 @@
  *
  * Every function takes any input and answers, or refuses with a number: `refusal` is 0 for an accepted call, and a
  * refused one answers zeros in every other field and leaves lent memory as it came. A slice is a pointer and a count; an
- * empty one may be NULL. Nothing is kept between calls.
+ * empty one may be NULL. Memory that is lent to be written, mesh and log, overlaps no other memory lent to the same call.
+ * Nothing is kept between calls. A phase is a code, and phases follow each other as 0, 1, 3, 2.
  *
  *  1  source 6 or above 7                   7  width or height not 1 to 12, or rounds in a phase not 1 to 65,535
  *  2  packet length not 5 or 9              8  mesh buffer too short on opening, or later not holding a mesh

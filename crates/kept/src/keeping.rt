@@ -40,9 +40,6 @@ pub fn drop_count(o: Outcome) -> u32
     if (o.dropped == 0) & (o.lost == 0) {
         return 0;
     }
-    if o.lost == 0 {
-        return u32::count_ones(o.dropped);
-    }
     u32::count_ones(o.dropped) + u32::count_ones(o.lost)
 }
 

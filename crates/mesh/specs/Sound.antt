@@ -1,4 +1,4 @@
--- What holds of every mesh that a buffer may hold, said of the mesh and not of its words: the ranges of document 01, at most 8 packets a link,
+-- What holds of every mesh that a buffer may hold, said of the mesh and not of its words: the ranges of the rules, at most 8 packets a link,
 -- each packet in flight of a used type, right in length and parity, not NN with T = 1.
 use Prim.Native.Nat.{ℕ, _*_, _≤_, _<_}
 use mathlib.Core.Path.{_≡_}

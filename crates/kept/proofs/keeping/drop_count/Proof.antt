@@ -1,35 +1,26 @@
-use Prim.Native.Nat.{ℕ, _+_, _<_, _≤_, _^_}
 use lib.Dec.{eqb}
 use Rattle.packet.proofs.Folded.{ones-zero}
 use mathlib.Core.Bool.{and-eq-true-iff}
 use borrow.Author.Tests.{eqb-true}
-use mathlib.Core.Path.{_≡_, refl}
+use mathlib.Core.Path.{refl}
 use native.Mathlib.Omega.{arith}
-use lib.Count.{ones, ones-le}
+use lib.Count.{ones-le}
 use Rattle.kept.proofs.keeping.drop_count.Statement.{statement}
 use Rattle.kept.proofs.keeping.drop_count.Tie as tie
 use Rattle.kept.proofs.keeping.drop_count.Reads as reads
 use Rattle.kept.proofs.keeping.drop_count.Lts as lts
 
--- two numbers of 32 bits have at most 64 ones
-few : (a b : ℕ) → a < 2 ^ 32 → b < 2 ^ 32 → ones a + ones b ≤ 64
-few a b ha hb = omega (arith, ones-le 32 a ha, ones-le 32 b hb)
-
 -- src/keeping.rt:41:9
 returns : tie.Need-returns
 returns c = let o = c .before .before .before .args .o in let none = and-eq-true-iff (eqb (o .dropped) 0) (eqb (o .lost) 0) .0 (c .if1 .taken) in (simp (eqb-true (o .dropped) 0 (none .0), eqb-true (o .lost) 0 (none .1), ones-zero), omega arith)
 
--- src/keeping.rt:44:9
-returns-2 : tie.Need-returns-2
-returns-2 c = let o = c .before .before .before .before .before .before .args .o in let none : o .lost ≡ 0 = c .before .if2 .taken in (simp (none, ones-zero) (omega arith), omega (arith, few (o .dropped) (o .lost) (omega arith) (omega arith)))
-
--- src/keeping.rt:46:5
+-- src/keeping.rt:43:5
 add-result : tie.Need-add-result
-add-result c = let o = c .before .before .before .before .before .before .before .args .o in omega (arith, few (o .dropped) (o .lost) (omega arith) (omega arith))
+add-result c = let o = c .before .before .before .before .before .args .o in omega (arith, ones-le 32 (o .dropped) (omega arith), ones-le 32 (o .lost) (omega arith))
 
 -- src/keeping.rt:37:1
-returns-3 : tie.Need-returns-3
-returns-3 c = let o = c .before .before .before .before .before .before .before .args .o in (refl, few (o .dropped) (o .lost) (omega arith) (omega arith))
+returns-2 : tie.Need-returns-2
+returns-2 c = let o = c .before .before .before .before .before .args .o in (refl, omega (arith, ones-le 32 (o .dropped) (omega arith), ones-le 32 (o .lost) (omega arith)))
 
 pub drop-count-spec : {M : Type 1} → statement M
-drop-count-spec = tie.close (tie.spec returns returns-2 add-result returns-3)
+drop-count-spec = tie.close (tie.spec returns add-result returns-2)
