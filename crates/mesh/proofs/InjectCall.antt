@@ -73,9 +73,6 @@ module _ (t : Tables) (l log : List ℕ) (chip : ℕ) (bytes : List ℕ) (none :
         states-left
         (subst (λ (k : ℕ). wordsFor (getD l₁ 0 0) (getD l₁ 1 0) ≤ k) (sym (p .long)) (subst (λ (k : ℕ). k ≤ length l) (λ i. wordsFor (sym (number 0 (lit< tt)) i) (sym (number 1 (lit< tt)) i)) (words-enough l (go .holds))))
 
-    pub count-one : n ≤ 1
-    count-one = p .few
-
     pub inject-leaves : (record { refusal = 0; added = n } ≡ addedOf (injectLeft l t (length log) chip bytes))
         × (Leaves l l₁ (injectLeft l t (length log) chip bytes) × (log₁ ≡ loggedOn (injectLeft l t (length log) chip bytes .log) log))
     unfolding meshOf

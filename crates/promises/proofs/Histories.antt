@@ -83,10 +83,6 @@ module _ (P : ℕ → State → Type 0) where
       cs
       .1
 
--- the mesh of every history is sound
-pub sound-always : Always (λ f s. SoundMesh (s .mesh))
-sound-always = always-sound (λ f s. SoundMesh (s .mesh)) (λ w h f monitor o. sound-opened w h f monitor (o .size) (o .phases) (o .monitored)) (λ f s c sound e p. sound-left sound turned (tagNow s c) c e)
-
 -- ---- by the kind of the call
 
 -- What is to be shown of each kind of call that changes something; each is accepted.

@@ -52,7 +52,7 @@ and-or = bin-ind (λ (a : ℕ). (b m : ℕ) → bitAnd (bitOr a b) m ≡ bitOr (
 -- ---- codes in bytes
 
 -- none of the bits that tell of a code above 7
-abbrev clear : ℕ → Bool
+abbrev pub clear : ℕ → Bool
 clear r = eqb (bitAnd r aboveSeven) 0
 
 zero-below : (a : ℕ) → eqb a 0 ≡ ltb a 1
@@ -60,7 +60,7 @@ zero-below zero = refl
 zero-below (suc a) = eqb·suc-zero a ∙ sym (le-ltb (suc a) 1 (omega arith))
 
 -- numbers joined have none of them where neither has one
-pub clear-or : (a b : ℕ) (all rest : Bool) → all ≡ (eqb (bitAnd a aboveSeven) 0 && (eqb (bitAnd b aboveSeven) 0 && rest)) → all ≡ (eqb (bitAnd (bitOr a b) aboveSeven) 0 && rest)
+pub clear-or : (a b : ℕ) (all rest : Bool) → all ≡ (clear a && (clear b && rest)) → all ≡ (clear (bitOr a b) && rest)
 clear-or a b all rest e = e ∙ sym (and-assoc (clear a) (clear b) rest) ∙ ap (λ (f : Bool). f && rest) (sym both)
   where
     both : clear (bitOr a b) ≡ (clear a && clear b)

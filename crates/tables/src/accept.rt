@@ -2,11 +2,12 @@
 use super::search::route_at;
 ghost use mathlib.Core.Path.{_≡_};
 ghost use mathlib.Core.Bool.{_&&_};
-ghost use lib.Dec.{ltb};
+ghost use lib.Dec.{eqb, ltb};
+ghost use lib.Bits.{bitAnd};
 ghost use lib.ListN.{length, drop};
-ghost use Prim.Native.Nat.{_+_, _*_, _≤_, _<_};
+ghost use Prim.Native.Nat.{_+_, _*_, _/_, _≤_, _<_};
 ghost use Rattle.tables.specs.Rows.{rowsOf};
-ghost use Rattle.tables.specs.Accept.{allRoutes, routesFine, rowsFine, codesFine, startsFine, SideBySide};
+ghost use Rattle.tables.specs.Accept.{allRoutes, routesFine, rowsFine, allCodes, codesFine, aboveSeven, startsFine, SideBySide};
 
 // The most rows that a chip's table has.
 pub const MOST_ROWS: usize = 1024;
@@ -36,8 +37,7 @@ pub fn routes_fine(rows: &[u32]) -> bool
     if rows.len() % 3 != 0 {
         return false;
     }
-    let count = rows.len() / 3;
-    let eights = count / 8;
+    let eights = rows.len() / 3 / 8;
     let mut joined = 0;
     let mut other = 0;
     let mut i = 0;
@@ -46,13 +46,7 @@ pub fn routes_fine(rows: &[u32]) -> bool
         other = other | four_routes(rows, i * 8 + 4);
         i += 1;
     }
-    joined = joined | other;
-    i = eights * 8;
-    while i < count {
-        joined = joined | route_at(rows, i);
-        i += 1;
-    }
-    joined < ROUTES
+    last_routes(rows, joined | other) < ROUTES
 }
 
 // The routes of four rows joined: they are fine where it is below the lowest bit that may not be set.
@@ -61,6 +55,20 @@ fn four_routes(rows: &[u32], i: usize) -> u32
     ensures { λ r. ⌜ allRoutes (rowsOf (drop (i * 3) (now (rows .entry)))) ≡ (ltb r 67108864 && allRoutes (rowsOf (drop ((i + 4) * 3) (now (rows .entry))))) ⌝ }
 {
     route_at(rows, i) | route_at(rows, i + 1) | route_at(rows, i + 2) | route_at(rows, i + 3)
+}
+
+// What is joined so far, with the routes of the rows past the last whole eight.
+fn last_routes(rows: &[u32], so_far: u32) -> u32
+    ensures { λ r. ⌜ (ltb «so_far» 67108864 && allRoutes (rowsOf (drop (length (now (rows .entry)) / 3 / 8 * 8 * 3) (now (rows .entry))))) ≡ ltb r 67108864 ⌝ }
+{
+    let count = rows.len() / 3;
+    let mut joined = so_far;
+    let mut i = count / 8 * 8;
+    while i < count {
+        joined = joined | route_at(rows, i);
+        i += 1;
+    }
+    joined
 }
 
 // P2P codes: as many as asked for, none above 7. Eight of them a turn, as one number, then what is left of them.
@@ -77,12 +85,21 @@ pub fn codes_fine(codes: &[u8], count: usize) -> bool
         joined = joined | eight_codes(codes, i * 8);
         i += 1;
     }
-    i = eights * 8;
+    last_codes(codes, joined) & ABOVE_SEVEN == 0
+}
+
+// What is joined so far, with the codes past the last whole eight. Where these start is no parameter: the compiler would not see that at most
+// seven are left, and would unroll the loop.
+fn last_codes(codes: &[u8], so_far: u64) -> u64
+    ensures { λ r. ⌜ (eqb (bitAnd «so_far» aboveSeven) 0 && allCodes (drop (length (now (codes .entry)) / 8 * 8) (now (codes .entry)))) ≡ eqb (bitAnd r aboveSeven) 0 ⌝ }
+{
+    let mut joined = so_far;
+    let mut i = codes.len() / 8 * 8;
     while i < codes.len() {
         joined = joined | code_at(codes, i);
         i += 1;
     }
-    joined & ABOVE_SEVEN == 0
+    joined
 }
 
 // Codes side by side in one number, a byte each, the first one lowest.

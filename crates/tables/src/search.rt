@@ -51,17 +51,19 @@ pub fn first_match(rows: &[u32], key: u32) -> Found
 // The number of the first row that matches, from a row on, row by row; the number of rows where none does.
 fn first_from(rows: &[u32], key: u32, from: usize) -> usize
     requires { ⌜ from ≤ length (now rows) / 3 ⌝ }
-    ensures { λ r. ⌜ foundAt (length (now (rows .entry)) / 3) r ≡ foundFrom key (now (rows .entry)) from ⌝ }
+    ensures { λ r. ⌜ (foundAt (length (now (rows .entry)) / 3) r ≡ foundFrom key (now (rows .entry)) from) × (r ≤ length (now (rows .entry)) / 3) ⌝ }
 {
     let count = rows.len() / 3;
     let mut i = from;
-    while i < count {
+    loop {
+        if i >= count {
+            break count;
+        }
         if matches_at(rows, i, key) {
-            return i;
+            break i;
         }
         i += 1;
     }
-    count
 }
 
 // The same search through a table lent as a slice of rows.

@@ -8,9 +8,6 @@ use Rattle.tables.specs.Rows.{foundFrom}
 use Rattle.tables.proofs.RowByRow.{from-here, search-on, from-end}
 use Rattle.tables.proofs.search.first_from.Statement.{statement}
 use Rattle.tables.proofs.search.first_from.Tie as tie
-use Rattle.tables.proofs.search.first_from.Reads as reads
-use Rattle.tables.proofs.search.first_from.Lts as lts
-use Rattle.tables.proofs.search.matches_at.Reads as matches-at-reads
 
 abbrev Inv-loop : tie.InvT-loop
 Inv-loop rows key from count i₀ i = (count ≡ length rows / 3) × ((i ≤ count) × (foundFrom key rows from ≡ foundFrom key rows i))
@@ -24,14 +21,6 @@ loop-holds c = (refl, (omega arith, refl))
 matches-at-requires : tie.Need-matches-at-requires Inv-loop μ-loop
 matches-at-requires c κs = omega arith
 
-returns : tie.Need-returns Inv-loop μ-loop
-returns c =
-    let at = c .before .before .before in
-    let rows = at .before .before .args .rows .now in
-    let i = at .loop .i in
-    let fits : i * 3 + 2 < length rows = omega arith in
-    from-here rows i _ fits (sym (c .before .matches-at .ensures) ∙ c .if1 .taken) ∙ sym (at .loop .inv .1 .1)
-
 add-i : tie.Need-add-i Inv-loop μ-loop
 add-i c = omega arith
 
@@ -44,13 +33,21 @@ loop-again c =
     let rows = at .before .before .args .rows .now in
     let i = at .loop .i in
     let fits : i * 3 + 2 < length rows = omega arith in
-    (refl, (omega arith, at .loop .inv .1 .1 ∙ search-on rows i _ fits (sym (c .before .matches-at .ensures) ∙ c .if1 .left)))
+    (refl, (omega arith, at .loop .inv .1 .1 ∙ search-on rows i _ fits (sym (c .before .matches-at .ensures) ∙ c .if2 .left)))
+
+returns : tie.Need-returns Inv-loop μ-loop
+returns c =
+    let at = c .before in
+    let rows = at .before .before .args .rows .now in
+    (from-end rows (at .loop .i) _ _ (omega arith) (omega arith) ∙ sym (at .loop .inv .1 .1), omega arith)
 
 returns-2 : tie.Need-returns-2 Inv-loop μ-loop
 returns-2 c =
-    let at = c .before in
+    let at = c .before .before .before in
     let rows = at .before .before .args .rows .now in
-    from-end rows (at .loop .i) _ _ (omega arith) (omega arith) ∙ sym (at .loop .inv .1 .1)
+    let i = at .loop .i in
+    let fits : i * 3 + 2 < length rows = omega arith in
+    (from-here rows i _ fits (sym (c .before .matches-at .ensures) ∙ c .if2 .taken) ∙ sym (at .loop .inv .1 .1), omega arith)
 
 pub first-from-spec : {M : Type 1} → statement M
 first-from-spec =
@@ -60,8 +57,8 @@ first-from-spec =
     μ-loop
     loop-holds
     matches-at-requires
-    returns
     add-i
     loop-less
     loop-again
+    returns
     returns-2)

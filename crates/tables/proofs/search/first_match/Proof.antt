@@ -91,7 +91,7 @@ yields c =
     let i = at .loop .i in
     let number = foundAt (length rows / 3) in
     let whole = sym (at .loop .inv .1 .1) in
-    ⊎-elim (λ w. ap number (w .2) ∙ w .1 .ensures ∙ whole)
+    ⊎-elim (λ w. ap number (w .2) ∙ w .1 .ensures .0 ∙ whole)
     (⊎-elim (λ w. ap number (w .3) ∙ from-here rows i key (omega (arith, w .0 .left)) (sym (w .1 .ensures) ∙ w .2 .taken) ∙ whole)
     (⊎-elim
     (λ w.
