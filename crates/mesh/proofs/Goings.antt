@@ -11,7 +11,6 @@ use lib.Seq.{drop-drop, length-take-le}
 use borrow.Author.Tests.{eqb-true}
 use Rattle.steps.specs.declared.Outcome.{Outcome}
 use Rattle.steps.specs.Deciding.{outcomeOf}
-use Rattle.router.proofs.Inputs as inputs
 use Rattle.tables.specs.Accept.{climbs}
 use Rattle.tables.proofs.Starts.{start-below, start-end}
 use Rattle.mesh.specs.Mesh.{Chip, fresh}

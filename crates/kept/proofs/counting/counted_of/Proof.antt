@@ -1,111 +1,79 @@
 use borrow.Author.Needs.{needs}
 use Rattle.kept.proofs.counting.counted_of.Statement.{statement}
 use Rattle.kept.proofs.counting.counted_of.Tie as tie
-use Rattle.kept.proofs.counting.counted_of.Reads as reads
-use Rattle.kept.proofs.counting.counted_of.Lts as lts
-use Rattle.kept.proofs.counting.delivered_count.Reads as delivered-count-reads
-use Rattle.kept.proofs.counting.sent_count.Reads as sent-count-reads
-use Rattle.kept.proofs.counting.swallowed_count.Reads as swallowed-count-reads
-use Rattle.kept.proofs.keeping.drop_count.Reads as drop-count-reads
-use Rattle.std.proofs.num.wrapping_add_u32.Reads as wrapping-add-u32-reads
 
--- src/counting.rt:18:30
 element-copy-out-wrapping-add-u32 : tie.Need-element-copy-out-wrapping-add-u32
 element-copy-out-wrapping-add-u32 c = search needs
 
--- src/counting.rt:18:13
 wrapping-add-u32-requires : tie.Need-wrapping-add-u32-requires
 wrapping-add-u32-requires c κs = search needs
 
--- src/counting.rt:19:30
 element-copy-out-wrapping-add-u32-2 : tie.Need-element-copy-out-wrapping-add-u32-2
 element-copy-out-wrapping-add-u32-2 c = search needs
 
--- src/counting.rt:19:13
 wrapping-add-u32-requires-2 : tie.Need-wrapping-add-u32-requires-2
 wrapping-add-u32-requires-2 c κs = search needs
 
--- src/counting.rt:20:30
 element-copy-out-wrapping-add-u32-3 : tie.Need-element-copy-out-wrapping-add-u32-3
 element-copy-out-wrapping-add-u32-3 c = search needs
 
--- src/counting.rt:20:13
 wrapping-add-u32-requires-3 : tie.Need-wrapping-add-u32-requires-3
 wrapping-add-u32-requires-3 c κs = search needs
 
--- src/counting.rt:21:30
 element-copy-out-wrapping-add-u32-4 : tie.Need-element-copy-out-wrapping-add-u32-4
 element-copy-out-wrapping-add-u32-4 c = search needs
 
--- src/counting.rt:21:13
 wrapping-add-u32-requires-4 : tie.Need-wrapping-add-u32-requires-4
 wrapping-add-u32-requires-4 c κs = search needs
 
--- src/counting.rt:22:30
 element-copy-out-wrapping-add-u32-5 : tie.Need-element-copy-out-wrapping-add-u32-5
 element-copy-out-wrapping-add-u32-5 c = search needs
 
--- src/counting.rt:22:13
 wrapping-add-u32-requires-5 : tie.Need-wrapping-add-u32-requires-5
 wrapping-add-u32-requires-5 c κs = search needs
 
--- src/counting.rt:23:30
 element-copy-out-wrapping-add-u32-6 : tie.Need-element-copy-out-wrapping-add-u32-6
 element-copy-out-wrapping-add-u32-6 c = search needs
 
--- src/counting.rt:23:42
 sent-count-requires : tie.Need-sent-count-requires
 sent-count-requires c κs = search needs
 
--- src/counting.rt:23:13
 wrapping-add-u32-requires-6 : tie.Need-wrapping-add-u32-requires-6
 wrapping-add-u32-requires-6 c κs = search needs
 
--- src/counting.rt:24:30
 element-copy-out-wrapping-add-u32-7 : tie.Need-element-copy-out-wrapping-add-u32-7
 element-copy-out-wrapping-add-u32-7 c = search needs
 
--- src/counting.rt:24:42
 delivered-count-requires : tie.Need-delivered-count-requires
 delivered-count-requires c κs = search needs
 
--- src/counting.rt:24:13
 wrapping-add-u32-requires-7 : tie.Need-wrapping-add-u32-requires-7
 wrapping-add-u32-requires-7 c κs = search needs
 
--- src/counting.rt:25:30
 element-copy-out-wrapping-add-u32-8 : tie.Need-element-copy-out-wrapping-add-u32-8
 element-copy-out-wrapping-add-u32-8 c = search needs
 
--- src/counting.rt:25:42
 drop-count-requires : tie.Need-drop-count-requires
 drop-count-requires c κs = search needs
 
--- src/counting.rt:25:13
 wrapping-add-u32-requires-8 : tie.Need-wrapping-add-u32-requires-8
 wrapping-add-u32-requires-8 c κs = search needs
 
--- src/counting.rt:26:30
 element-copy-out-wrapping-add-u32-9 : tie.Need-element-copy-out-wrapping-add-u32-9
 element-copy-out-wrapping-add-u32-9 c = search needs
 
--- src/counting.rt:26:42
 swallowed-count-requires : tie.Need-swallowed-count-requires
 swallowed-count-requires c κs = search needs
 
--- src/counting.rt:26:13
 wrapping-add-u32-requires-9 : tie.Need-wrapping-add-u32-requires-9
 wrapping-add-u32-requires-9 c κs = search needs
 
--- src/counting.rt:27:30
 element-copy-out-wrapping-add-u32-10 : tie.Need-element-copy-out-wrapping-add-u32-10
 element-copy-out-wrapping-add-u32-10 c = search needs
 
--- src/counting.rt:27:13
 wrapping-add-u32-requires-10 : tie.Need-wrapping-add-u32-requires-10
 wrapping-add-u32-requires-10 c κs = search needs
 
--- src/counting.rt:12:1
 returns : tie.Need-returns
 returns c = simp (c .wrapping-add-u3210 .ensures, c .before .before .wrapping-add-u329 .ensures, c .before .before .before .swallowed-count .ensures, c .before .before .before .before .before .wrapping-add-u328 .ensures, c .before .before .before .before .before .before .before .before .wrapping-add-u327 .ensures, c .before .before .before .before .before .before .before .before .before .delivered-count .ensures, c .before .before .before .before .before .before .before .before .before .before .before .wrapping-add-u326 .ensures, c .before .before .before .before .before .before .before .before .before .before .before .before .sent-count .ensures, c .before .before .before .before .before .before .before .before .before .before .before .before .before .before .wrapping-add-u325 .ensures, c .before .before .before .before .before .before .before .before .before .before .before .before .before .before .before .before .wrapping-add-u324 .ensures, c .before .before .before .before .before .before .before .before .before .before .before .before .before .before .before .before .before .before .wrapping-add-u323 .ensures, c .before .before .before .before .before .before .before .before .before .before .before .before .before .before .before .before .before .before .before .before .wrapping-add-u322 .ensures, c .before .before .before .before .before .before .before .before .before .before .before .before .before .before .before .before .before .before .before .before .before .before .wrapping-add-u32 .ensures, c .before .before .before .before .before .before .drop-count .ensures .0)
 

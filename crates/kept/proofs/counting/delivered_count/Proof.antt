@@ -4,18 +4,13 @@ use mathlib.Core.Path.{sym}
 use borrow.Author.Tests.{eq-eqb, ne-eqb}
 use Rattle.kept.proofs.counting.delivered_count.Statement.{statement}
 use Rattle.kept.proofs.counting.delivered_count.Tie as tie
-use Rattle.kept.proofs.counting.delivered_count.Reads as reads
-use Rattle.kept.proofs.counting.delivered_count.Lts as lts
 
--- src/counting.rt:53:9
 returns : tie.Need-returns
 returns c = simp (ne-eqb _ _ (c .if1 .taken))
 
--- src/counting.rt:56:9
 returns-2 : tie.Need-returns-2
 returns-2 c = simp (eq-eqb _ _ (c .before .before .if1 .left)) (simp (div-eq-of-lt (c .if2 .taken)) (sym ones-zero))
 
--- src/counting.rt:49:1
 returns-3 : tie.Need-returns-3
 returns-3 c = simp (eq-eqb _ _ (c .before .before .before .if1 .left))
 

@@ -7,18 +7,13 @@ use native.Mathlib.Omega.{arith}
 use lib.Count.{ones-le}
 use Rattle.kept.proofs.keeping.drop_count.Statement.{statement}
 use Rattle.kept.proofs.keeping.drop_count.Tie as tie
-use Rattle.kept.proofs.keeping.drop_count.Reads as reads
-use Rattle.kept.proofs.keeping.drop_count.Lts as lts
 
--- src/keeping.rt:41:9
 returns : tie.Need-returns
 returns c = let o = c .before .before .before .args .o in let none = and-eq-true-iff (eqb (o .dropped) 0) (eqb (o .lost) 0) .0 (c .if1 .taken) in (simp (eqb-true (o .dropped) 0 (none .0), eqb-true (o .lost) 0 (none .1), ones-zero), omega arith)
 
--- src/keeping.rt:43:5
 add-result : tie.Need-add-result
 add-result c = let o = c .before .before .before .before .before .args .o in omega (arith, ones-le 32 (o .dropped) (omega arith), ones-le 32 (o .lost) (omega arith))
 
--- src/keeping.rt:37:1
 returns-2 : tie.Need-returns-2
 returns-2 c = let o = c .before .before .before .before .before .args .o in (refl, omega (arith, ones-le 32 (o .dropped) (omega arith), ones-le 32 (o .lost) (omega arith)))
 

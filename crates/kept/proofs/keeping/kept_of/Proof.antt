@@ -3,38 +3,25 @@ use mathlib.Core.Path.{sym, _∙_}
 use borrow.Author.Tests.{eq-eqb, ne-eqb}
 use Rattle.kept.proofs.keeping.kept_of.Statement.{statement}
 use Rattle.kept.proofs.keeping.kept_of.Tie as tie
-use Rattle.kept.proofs.keeping.kept_of.Reads as reads
-use Rattle.kept.proofs.keeping.kept_of.Lts as lts
-use Rattle.kept.proofs.keeping.drop_count.Reads as drop-count-reads
-use Rattle.kept.proofs.keeping.first_drop.Reads as first-drop-reads
-use Rattle.kept.proofs.keeping.is_empty.Reads as is-empty-reads
-use Rattle.kept.proofs.keeping.with_more.Reads as with-more-reads
 
--- src/keeping.rt:12:8
 drop-count-requires : tie.Need-drop-count-requires
 drop-count-requires c κs = search needs
 
--- src/keeping.rt:13:9
 returns : tie.Need-returns
 returns c = simp (eq-eqb _ _ (sym (c .before .drop-count .ensures .0) ∙ c .if1 .taken))
 
--- src/keeping.rt:15:8
 is-empty-requires : tie.Need-is-empty-requires
 is-empty-requires c κs = search needs
 
--- src/keeping.rt:15:22
 first-drop-requires : tie.Need-first-drop-requires
 first-drop-requires c κs = search needs
 
--- src/keeping.rt:15:45
 with-more-requires : tie.Need-with-more-requires
 with-more-requires c κs = search needs
 
--- src/keeping.rt:8:1
 returns-2 : tie.Need-returns-2
 returns-2 c = c .first-drop .ensures ∙ simp (ne-eqb _ _ (rw (c .before .before .before .before .drop-count .ensures .0) at (c .before .before .before .if1 .left)), sym (c .before .before .is-empty .ensures) ∙ c .before .if2 .taken)
 
--- src/keeping.rt:8:1
 returns-3 : tie.Need-returns-3
 returns-3 c = c .with-more .ensures ∙ simp (ne-eqb _ _ (rw (c .before .before .before .before .drop-count .ensures .0) at (c .before .before .before .if1 .left)), sym (c .before .before .is-empty .ensures) ∙ c .before .if2 .left)
 

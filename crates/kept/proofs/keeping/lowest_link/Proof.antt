@@ -7,10 +7,7 @@ use Rattle.kept.specs.Keeping.{lowest}
 use Rattle.packet.proofs.Small.{every, at}
 use Rattle.kept.proofs.keeping.lowest_link.Statement.{statement}
 use Rattle.kept.proofs.keeping.lowest_link.Tie as tie
-use Rattle.kept.proofs.keeping.lowest_link.Reads as reads
-use Rattle.kept.proofs.keeping.lowest_link.Lts as lts
 
--- src/keeping.rt:75:1
 returns : tie.Need-returns
 unfolding every trailingZeros
 returns c = eqb-true _ _ (at 64 (λ n. eqb (trailingZeros 32 (bitOr n 32)) (lowest n)) refl (c .args .set) (c .pre))

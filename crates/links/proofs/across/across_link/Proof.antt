@@ -4,11 +4,6 @@ use Prim.Native.Nat.{_<_}
 use Rattle.router.proofs.Inputs as inputs
 use Rattle.links.proofs.across.across_link.Statement.{statement}
 use Rattle.links.proofs.across.across_link.Tie as tie
-use Rattle.links.proofs.across.across_link.Reads as reads
-use Rattle.links.proofs.across.across_link.Lts as lts
-use Rattle.links.proofs.across.step_east.Reads as step-east-reads
-use Rattle.links.proofs.across.step_north.Reads as step-north-reads
-use Rattle.links.proofs.across.wrapped.Reads as wrapped-reads
 
 -- the sums wrap at most once
 north : tie.Need-wrapped-requires
@@ -28,39 +23,30 @@ right c =
       omega (arith, mul-le-mul-right (a .width) y, inputs.chips-small (a .width) (a .height) (c .before .before .before .before .pre .0)),
     )
 
--- src/across.rt:25:29
 step-north-requires : tie.Need-step-north-requires
 step-north-requires c κs = let s = inputs.size (c .args .width) (c .args .height) (c .pre .0) in (s .height-low, s .height-high)
 
--- src/across.rt:25:25
 add-wrapped : tie.Need-add-wrapped
 add-wrapped c = omega (arith, north c _, inputs.size (c .before .args .width) (c .before .args .height) (c .before .pre .0))
 
--- src/across.rt:25:9
 wrapped-requires : tie.Need-wrapped-requires
 wrapped-requires c κs = north c κs
 
--- src/across.rt:26:28
 step-east-requires : tie.Need-step-east-requires
 step-east-requires c κs = let s = inputs.size (c .before .before .args .width) (c .before .before .args .height) (c .before .before .pre .0) in (s .width-low, s .width-high)
 
--- src/across.rt:26:24
 add-wrapped-2 : tie.Need-add-wrapped-2
 add-wrapped-2 c = omega (arith, east c _, inputs.size (c .before .before .before .args .width) (c .before .before .before .args .height) (c .before .before .before .pre .0))
 
--- src/across.rt:26:9
 wrapped-requires-2 : tie.Need-wrapped-requires-2
 wrapped-requires-2 c κs = east c κs
 
--- src/across.rt:27:5
 mul-result : tie.Need-mul-result
 mul-result c = omega (arith, right c .1)
 
--- src/across.rt:27:5
 add-result : tie.Need-add-result
 add-result c = omega (arith, right c .1)
 
--- src/across.rt:20:1
 returns : tie.Need-returns
 returns c = right c
 

@@ -3,34 +3,25 @@ use native.Mathlib.Omega.{arith}
 use borrow.Author.Tests.{eq-eqb, ne-eqb}
 use Rattle.links.proofs.across.step_north.Statement.{statement}
 use Rattle.links.proofs.across.step_north.Tie as tie
-use Rattle.links.proofs.across.step_north.Reads as reads
-use Rattle.links.proofs.across.step_north.Lts as lts
 
--- src/across.rt:48:9
 returns : tie.Need-returns
 returns c = (simp (eq-eqb _ _ (c .if1 .taken)), omega (arith, c .before .pre))
 
--- src/across.rt:51:9
 returns-2 : tie.Need-returns-2
 returns-2 c = (simp (ne-eqb _ _ (c .before .if1 .left), eq-eqb _ _ (c .if2 .taken)), omega (arith, c .before .before .pre))
 
--- src/across.rt:54:16
 sub-result : tie.Need-sub-result
 sub-result c = search needs
 
--- src/across.rt:54:9
 returns-3 : tie.Need-returns-3
 returns-3 c = (simp (ne-eqb _ _ (c .before .before .if1 .left), ne-eqb _ _ (c .before .if2 .left), eq-eqb _ _ (c .if3 .taken)), omega (arith, c .before .before .before .pre))
 
--- src/across.rt:57:16
 sub-result-2 : tie.Need-sub-result-2
 sub-result-2 c = search needs
 
--- src/across.rt:57:9
 returns-4 : tie.Need-returns-4
 returns-4 c = (simp (ne-eqb _ _ (c .before .before .before .if1 .left), ne-eqb _ _ (c .before .before .if2 .left), ne-eqb _ _ (c .before .if3 .left), eq-eqb _ _ (c .if4 .taken)), omega (arith, c .before .before .before .before .pre))
 
--- src/across.rt:43:1
 returns-5 : tie.Need-returns-5
 returns-5 c = (simp (ne-eqb _ _ (c .before .before .before .if1 .left), ne-eqb _ _ (c .before .before .if2 .left), ne-eqb _ _ (c .before .if3 .left), ne-eqb _ _ (c .if4 .left)), omega (arith, c .before .before .before .before .pre))
 

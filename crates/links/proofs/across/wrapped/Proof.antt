@@ -4,14 +4,10 @@ use native.Mathlib.Omega.{arith}
 use native.Mathlib.Nat.{mod-eq-of-lt, mod-eq-sub-mod}
 use Rattle.links.proofs.across.wrapped.Statement.{statement}
 use Rattle.links.proofs.across.wrapped.Tie as tie
-use Rattle.links.proofs.across.wrapped.Reads as reads
-use Rattle.links.proofs.across.wrapped.Lts as lts
 
--- src/across.rt:30:1
 returns : tie.Need-returns
 returns c = sym (mod-eq-of-lt (c .if1 .taken))
 
--- src/across.rt:30:1
 returns-2 : tie.Need-returns-2
 returns-2 c =
     let over : c .before .args .size ≤ c .before .args .place = c .if1 .left in

@@ -3,70 +3,52 @@ use native.Mathlib.Omega.{arith}
 use lib.ListN.{length-set}
 use Rattle.links.proofs.line.push.Statement.{statement}
 use Rattle.links.proofs.line.push.Tie as tie
-use Rattle.links.proofs.line.push.Reads as reads
-use Rattle.links.proofs.line.push.Lts as lts
 
--- src/line.rt:26:16
 slice-read-held : tie.Need-slice-read-held
 slice-read-held c = search needs
 
--- src/line.rt:27:19
 cast-at : tie.Need-cast-at
 cast-at c = search needs
 
--- src/line.rt:27:18
 mul-at : tie.Need-mul-at
 mul-at c = search needs
 
--- src/line.rt:27:14
 add-at : tie.Need-add-at
 add-at c = search needs
 
--- src/line.rt:28:5
 mul-line : tie.Need-mul-line
 mul-line c = search needs
 
--- src/line.rt:28:5
 slice-write-line : tie.Need-slice-write-line
 slice-write-line c = search needs
 
--- src/line.rt:29:10
 add-line : tie.Need-add-line
 add-line c = search needs
 
--- src/line.rt:29:5
 mul-line-2 : tie.Need-mul-line-2
 mul-line-2 c = search needs
 
--- src/line.rt:29:5
 slice-write-line-2 : tie.Need-slice-write-line-2
 slice-write-line-2 c = simp length-set (omega arith)
 
--- src/line.rt:30:10
 add-line-2 : tie.Need-add-line-2
 add-line-2 c = search needs
 
--- src/line.rt:30:5
 mul-line-3 : tie.Need-mul-line-3
 mul-line-3 c = search needs
 
--- src/line.rt:30:5
 slice-write-line-3 : tie.Need-slice-write-line-3
 slice-write-line-3 c = simp length-set (omega arith)
 
--- src/line.rt:31:15
 add-line-3 : tie.Need-add-line-3
 add-line-3 c = search needs
 
--- src/line.rt:31:5
 slice-write-line-4 : tie.Need-slice-write-line-4
 slice-write-line-4 c = search needs
 
--- src/line.rt:22:1
 same-length : tie.Need-same-length
 same-length c = search needs
 
--- src/line.rt:22:1
 returns : tie.Need-returns
 returns c = search needs
 

@@ -3,19 +3,13 @@ use mathlib.Core.Path.{_∙_}
 use Rattle.links.proofs.Places.{long-between, room-first, room-second}
 use Rattle.links.proofs.line.send.Statement.{statement}
 use Rattle.links.proofs.line.send.Tie as tie
-use Rattle.links.proofs.line.send.Reads as reads
-use Rattle.links.proofs.line.send.Lts as lts
-use Rattle.links.proofs.line.send_leg.Reads as send-leg-reads
-use Rattle.links.proofs.line.send_packet.Reads as send-packet-reads
 
--- src/line.rt:43:5
 send-packet-requires : tie.Need-send-packet-requires
 send-packet-requires c κs =
     let a = c .before .before .args in
     let pre = c .before .before .pre in
     (pre .0, (pre .1 .0, room-first (a .line .now) (a .o) (a .i) (pre .0) (pre .1 .1)))
 
--- src/line.rt:44:5
 send-leg-requires : tie.Need-send-leg-requires
 send-leg-requires c κs =
     let a = c .before .before .before .before .before .before .args in
@@ -23,11 +17,9 @@ send-leg-requires c κs =
     rw (c .before .before .before .send-packet .ensures)
     (long-between (a .line .now) (a .o) (a .i) (pre .0) (pre .1 .1), (pre .1 .0, room-second (a .line .now) (a .o) (a .i) (pre .0) (pre .1 .1)))
 
--- src/line.rt:39:1
 same-length : tie.Need-same-length
 same-length c = search needs
 
--- src/line.rt:39:1
 returns : tie.Need-returns
 returns c = c .before .before .send-leg .ensures ∙ simp (c .before .before .before .before .before .before .send-packet .ensures)
 

@@ -2,33 +2,22 @@ use borrow.Author.Needs.{needs}
 use mathlib.Core.Path.{sym, _∙_}
 use Rattle.links.proofs.line.send_leg.Statement.{statement}
 use Rattle.links.proofs.line.send_leg.Tie as tie
-use Rattle.links.proofs.line.send_leg.Reads as reads
-use Rattle.links.proofs.line.send_leg.Lts as lts
-use Rattle.links.proofs.line.push.Reads as push-reads
-use Rattle.steps.proofs.deciding.has_link.Reads as has-link-reads
-use Rattle.steps.proofs.deciding.leg_packet.Reads as leg-packet-reads
 
--- src/line.rt:60:8
 has-link-requires : tie.Need-has-link-requires
 has-link-requires c κs = search needs
 
--- src/line.rt:61:20
 leg-packet-requires : tie.Need-leg-packet-requires
 leg-packet-requires c κs = search needs
 
--- src/line.rt:61:9
 push-requires : tie.Need-push-requires
 push-requires c κs = (c .before .before .before .before .before .pre .0, c .before .before .before .before .before .pre .1 .1 (sym (c .before .before .before .has-link .ensures) ∙ c .before .before .if1 .taken))
 
--- src/line.rt:56:1
 same-length : tie.Need-same-length
 same-length c = search needs
 
--- src/line.rt:56:1
 returns : tie.Need-returns
 returns c = c .before .before .push .ensures ∙ simp (c .before .before .before .leg-packet .ensures, sym (c .before .before .before .before .before .before .has-link .ensures) ∙ c .before .before .before .before .before .if1 .taken)
 
--- src/line.rt:56:1
 returns-2 : tie.Need-returns-2
 returns-2 c = simp (sym (c .before .has-link .ensures) ∙ c .if1 .left)
 

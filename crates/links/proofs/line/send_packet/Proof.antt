@@ -2,33 +2,22 @@ use borrow.Author.Needs.{needs}
 use mathlib.Core.Path.{sym, _∙_}
 use Rattle.links.proofs.line.send_packet.Statement.{statement}
 use Rattle.links.proofs.line.send_packet.Tie as tie
-use Rattle.links.proofs.line.send_packet.Reads as reads
-use Rattle.links.proofs.line.send_packet.Lts as lts
-use Rattle.links.proofs.line.push.Reads as push-reads
-use Rattle.steps.proofs.deciding.has_link.Reads as has-link-reads
-use Rattle.steps.proofs.deciding.packet_on.Reads as packet-on-reads
 
--- src/line.rt:51:8
 has-link-requires : tie.Need-has-link-requires
 has-link-requires c κs = search needs
 
--- src/line.rt:52:20
 packet-on-requires : tie.Need-packet-on-requires
 packet-on-requires c κs = search needs
 
--- src/line.rt:52:9
 push-requires : tie.Need-push-requires
 push-requires c κs = (c .before .before .before .before .before .pre .0, c .before .before .before .before .before .pre .1 .1 (sym (c .before .before .before .has-link .ensures) ∙ c .before .before .if1 .taken))
 
--- src/line.rt:47:1
 same-length : tie.Need-same-length
 same-length c = search needs
 
--- src/line.rt:47:1
 returns : tie.Need-returns
 returns c = c .before .before .push .ensures ∙ simp (c .before .before .before .packet-on .ensures, sym (c .before .before .before .before .before .before .has-link .ensures) ∙ c .before .before .before .before .before .if1 .taken)
 
--- src/line.rt:47:1
 returns-2 : tie.Need-returns-2
 returns-2 c = simp (sym (c .before .has-link .ensures) ∙ c .if1 .left)
 

@@ -1,30 +1,22 @@
 use borrow.Author.Needs.{needs}
 use Rattle.links.proofs.line.set_state.Statement.{statement}
 use Rattle.links.proofs.line.set_state.Tie as tie
-use Rattle.links.proofs.line.set_state.Reads as reads
-use Rattle.links.proofs.line.set_state.Lts as lts
 
--- src/changing.rt:45:9
 slice-write-line : tie.Need-slice-write-line
 slice-write-line c = search needs
 
--- src/changing.rt:47:9
 slice-write-line-2 : tie.Need-slice-write-line-2
 slice-write-line-2 c = search needs
 
--- src/changing.rt:40:1
 same-length : tie.Need-same-length
 same-length c = search needs
 
--- src/changing.rt:40:1
 returns : tie.Need-returns
 returns c = simp (c .if1 .taken)
 
--- src/changing.rt:40:1
 same-length-2 : tie.Need-same-length-2
 same-length-2 c = search needs
 
--- src/changing.rt:40:1
 returns-2 : tie.Need-returns-2
 returns-2 c = simp (c .if1 .left)
 

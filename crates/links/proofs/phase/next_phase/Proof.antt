@@ -1,22 +1,16 @@
 use borrow.Author.Tests.{ne-eqb}
 use Rattle.links.proofs.phase.next_phase.Statement.{statement}
 use Rattle.links.proofs.phase.next_phase.Tie as tie
-use Rattle.links.proofs.phase.next_phase.Reads as reads
-use Rattle.links.proofs.phase.next_phase.Lts as lts
 
--- src/moving.rt:87:1
 returns : tie.Need-returns
 returns c = simp (c .match .keys1)
 
--- src/moving.rt:87:1
 returns-2 : tie.Need-returns-2
 returns-2 c = simp (c .match .keys2)
 
--- src/moving.rt:87:1
 returns-3 : tie.Need-returns-3
 returns-3 c = simp (c .match .keys3)
 
--- src/moving.rt:87:1
 returns-4 : tie.Need-returns-4
 returns-4 c = let n = c .match .rest in simp (ne-eqb _ _ (n .0 .0 .1), ne-eqb _ _ (n .0 .1), ne-eqb _ _ (n .1))
 

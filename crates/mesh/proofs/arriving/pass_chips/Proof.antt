@@ -7,9 +7,6 @@ use Rattle.mesh.specs.Going.{tablesOf, upTo, asideAt, Passed}
 use Rattle.mesh.proofs.Arrivals as arrivals
 use Rattle.mesh.proofs.arriving.pass_chips.Statement.{statement}
 use Rattle.mesh.proofs.arriving.pass_chips.Tie as tie
-use Rattle.mesh.proofs.arriving.pass_chips.Reads as reads
-use Rattle.mesh.proofs.arriving.pass_chips.Lts as lts
-use Rattle.mesh.proofs.arriving.pass_links.Reads as pass-links-reads
 
 abbrev Inv-loop : tie.InvT-loop
 Inv-loop mesh₀ log₀ count rows starts codes n₀ chip₀ mesh log n chip = (chip ≤ count) × Passed (tablesOf rows starts codes) (upTo (asideAt mesh₀) chip) mesh₀ log₀ 0 mesh log n
@@ -17,11 +14,9 @@ Inv-loop mesh₀ log₀ count rows starts codes n₀ chip₀ mesh log n chip = (
 abbrev μ-loop : tie.MeasureT-loop
 μ-loop mesh₀ log₀ count rows starts codes n₀ chip₀ mesh log n chip = count - chip
 
--- src/arriving.rt:22:5
 loop-holds : tie.Need-loop-holds Inv-loop μ-loop
 loop-holds c = (omega arith, arrivals.passed-begin _ _ _ _ _)
 
--- src/arriving.rt:23:9
 pass-links-requires : tie.Need-pass-links-requires Inv-loop μ-loop
 pass-links-requires c κs =
     let at = c .before .before .before .loop in
@@ -31,30 +26,24 @@ pass-links-requires c κs =
       arrivals.chips-due _ _ _ _ _ _ _ (at .chip) (c .before .before .before .before .before .before .before .before .before .args .count) hi (pre .1) (at .inv .1),
     )
 
--- src/arriving.rt:24:9
 add-chip : tie.Need-add-chip Inv-loop μ-loop
 add-chip c = omega arith
 
--- src/arriving.rt:22:5
 loop-less : tie.Need-loop-less Inv-loop μ-loop
 loop-less c = omega arith
 
--- src/arriving.rt:22:5
 loop-again : tie.Need-loop-again Inv-loop μ-loop
 loop-again c =
     let at = c .before .before .before .before .before .before .before .before .loop in
     let hi : at .chip < c .before .before .before .before .before .before .before .before .before .before .before .before .before .before .args .count = c .before .before .before .before .before .before .before .loop-test .taken in
     (omega arith, rw add-one (arrivals.chips-step _ _ _ _ _ _ _ (at .chip) (c .before .before .before .before .before .before .before .before .before .before .before .before .before .before .args .count) hi (c .before .before .before .before .before .before .before .before .before .before .before .before .before .before .pre .1) (at .inv .1) _ _ _ (c .before .before .before .before .pass-links .ensures)))
 
--- src/arriving.rt:9:1
 same-length : tie.Need-same-length Inv-loop μ-loop
 same-length c = c .before .loop .inv .1 .long
 
--- src/arriving.rt:9:1
 same-length-2 : tie.Need-same-length-2 Inv-loop μ-loop
 same-length-2 c = c .before .loop .inv .1 .room
 
--- src/arriving.rt:9:1
 returns : tie.Need-returns Inv-loop μ-loop
 returns c = let e : c .before .loop .chip ≡ c .before .before .before .before .before .before .before .args .count = omega arith in rw e at (c .before .loop .inv .1)
 

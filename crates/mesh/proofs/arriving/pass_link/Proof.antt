@@ -7,10 +7,6 @@ use Rattle.mesh.specs.Going.{tablesOf, upTo, Passed}
 use Rattle.mesh.proofs.Arrivals as arrivals
 use Rattle.mesh.proofs.arriving.pass_link.Statement.{statement}
 use Rattle.mesh.proofs.arriving.pass_link.Tie as tie
-use Rattle.mesh.proofs.arriving.pass_link.Reads as reads
-use Rattle.mesh.proofs.arriving.pass_link.Lts as lts
-use Rattle.mesh.proofs.going.pass_one.Reads as pass-one-reads
-use Rattle.links.proofs.line.packet_at.Reads as packet-at-reads
 
 abbrev Inv-loop : tie.InvT-loop
 Inv-loop mesh₀ log₀ n chip source at rows starts codes count done₀ i₀ mesh log done i =
@@ -19,68 +15,53 @@ Inv-loop mesh₀ log₀ n chip source at rows starts codes count done₀ i₀ me
 abbrev μ-loop : tie.MeasureT-loop
 μ-loop mesh₀ log₀ n chip source at rows starts codes count done₀ i₀ mesh log done i = count - i
 
--- src/arriving.rt:73:17
 mul-count : tie.Need-mul-count Inv-loop μ-loop
 mul-count c = omega (arith, arrivals.place-few _ (c .before .before .before .before .before .args .mesh .now) (c .before .before .before .before .before .args .chip) (c .before .before .before .before .before .args .source) (c .before .before .before .before .before .args .log .now) (c .before .before .before .before .before .args .n) (c .before .before .before .before .before .pre .0 .1) (c .before .before .before .before .before .pre .1) _ (c .before .before .before .before .before .pre .0 .0))
 
--- src/arriving.rt:73:17
 slice-read-count : tie.Need-slice-read-count Inv-loop μ-loop
 slice-read-count c = omega (arith, arrivals.place-few _ (c .before .before .before .before .before .before .args .mesh .now) (c .before .before .before .before .before .before .args .chip) (c .before .before .before .before .before .before .args .source) (c .before .before .before .before .before .before .args .log .now) (c .before .before .before .before .before .before .args .n) (c .before .before .before .before .before .before .pre .0 .1) (c .before .before .before .before .before .before .pre .1) _ (c .before .before .before .before .before .before .pre .0 .0))
 
--- src/arriving.rt:73:17
 cast-count : tie.Need-cast-count Inv-loop μ-loop
 cast-count c = omega (arith, arrivals.place-few _ (c .before .before .before .before .before .before .args .mesh .now) (c .before .before .before .before .before .before .args .chip) (c .before .before .before .before .before .before .args .source) (c .before .before .before .before .before .before .args .log .now) (c .before .before .before .before .before .before .args .n) (c .before .before .before .before .before .before .pre .0 .1) (c .before .before .before .before .before .before .pre .1) _ (c .before .before .before .before .before .before .pre .0 .0))
 
--- src/arriving.rt:76:5
 loop-holds : tie.Need-loop-holds Inv-loop μ-loop
 loop-holds c = (omega arith, arrivals.passed-begin _ _ _ _ _)
 
--- src/arriving.rt:77:33
 add-packet-at : tie.Need-add-packet-at Inv-loop μ-loop
 add-packet-at c = omega (arith, arrivals.place-few _ (c .before .before .before .before .before .before .before .before .before .args .mesh .now) (c .before .before .before .before .before .before .before .before .before .args .chip) (c .before .before .before .before .before .before .before .before .before .args .source) (c .before .before .before .before .before .before .before .before .before .args .log .now) (c .before .before .before .before .before .before .before .before .before .args .n) (c .before .before .before .before .before .before .before .before .before .pre .0 .1) (c .before .before .before .before .before .before .before .before .before .pre .1) _ (c .before .before .before .before .before .before .before .before .before .pre .0 .0))
 
--- src/arriving.rt:77:42
 mul-packet-at : tie.Need-mul-packet-at Inv-loop μ-loop
 mul-packet-at c = omega (arith, arrivals.place-few _ (c .before .before .before .before .before .before .before .before .before .args .mesh .now) (c .before .before .before .before .before .before .before .before .before .args .chip) (c .before .before .before .before .before .before .before .before .before .args .source) (c .before .before .before .before .before .before .before .before .before .args .log .now) (c .before .before .before .before .before .before .before .before .before .args .n) (c .before .before .before .before .before .before .before .before .before .pre .0 .1) (c .before .before .before .before .before .before .before .before .before .pre .1) _ (c .before .before .before .before .before .before .before .before .before .pre .0 .0))
 
--- src/arriving.rt:77:33
 add-packet-at-2 : tie.Need-add-packet-at-2 Inv-loop μ-loop
 add-packet-at-2 c = omega (arith, arrivals.place-few _ (c .before .before .before .before .before .before .before .before .before .args .mesh .now) (c .before .before .before .before .before .before .before .before .before .args .chip) (c .before .before .before .before .before .before .before .before .before .args .source) (c .before .before .before .before .before .before .before .before .before .args .log .now) (c .before .before .before .before .before .before .before .before .before .args .n) (c .before .before .before .before .before .before .before .before .before .pre .0 .1) (c .before .before .before .before .before .before .before .before .before .pre .1) _ (c .before .before .before .before .before .before .before .before .before .pre .0 .0))
 
--- src/arriving.rt:77:13
 packet-at-requires : tie.Need-packet-at-requires Inv-loop μ-loop
 packet-at-requires c κs = omega (arith, arrivals.place-few _ (c .before .before .before .before .before .before .before .before .before .args .mesh .now) (c .before .before .before .before .before .before .before .before .before .args .chip) (c .before .before .before .before .before .before .before .before .before .args .source) (c .before .before .before .before .before .before .before .before .before .args .log .now) (c .before .before .before .before .before .before .before .before .before .args .n) (c .before .before .before .before .before .before .before .before .before .pre .0 .1) (c .before .before .before .before .before .before .before .before .before .pre .1) _ (c .before .before .before .before .before .before .before .before .before .pre .0 .0), c .before .before .loop .inv .1 .long)
 
--- src/arriving.rt:78:9
 pass-one-requires : tie.Need-pass-one-requires Inv-loop μ-loop
 pass-one-requires c κs =
     let at = c .before .before .before .before .before .loop in
     let read : _ = c .before .before .packet-at .ensures in
     arrivals.link-due _ (c .before .before .before .before .before .before .before .before .before .before .before .before .args .mesh .now) (c .before .before .before .before .before .before .before .before .before .before .before .before .args .chip) (c .before .before .before .before .before .before .before .before .before .before .before .before .args .source) (c .before .before .before .before .before .before .before .before .before .before .before .before .args .log .now) (c .before .before .before .before .before .before .before .before .before .before .before .before .args .n) (c .before .before .before .before .before .before .before .before .before .before .before .before .pre .0 .1) (c .before .before .before .before .before .before .before .before .before .before .before .before .pre .1) _ (c .before .before .before .before .before .before .before .before .before .before .before .before .pre .0 .0) (at .i) (c .before .before .before .before .loop-test .taken) (at .mesh) (at .log) (at .done) (at .inv .1) _ read
 
--- src/arriving.rt:79:9
 add-i : tie.Need-add-i Inv-loop μ-loop
 add-i c = omega (arith, arrivals.place-few _ (c .before .before .before .before .before .before .before .before .before .before .before .before .before .before .before .before .before .args .mesh .now) (c .before .before .before .before .before .before .before .before .before .before .before .before .before .before .before .before .before .args .chip) (c .before .before .before .before .before .before .before .before .before .before .before .before .before .before .before .before .before .args .source) (c .before .before .before .before .before .before .before .before .before .before .before .before .before .before .before .before .before .args .log .now) (c .before .before .before .before .before .before .before .before .before .before .before .before .before .before .before .before .before .args .n) (c .before .before .before .before .before .before .before .before .before .before .before .before .before .before .before .before .before .pre .0 .1) (c .before .before .before .before .before .before .before .before .before .before .before .before .before .before .before .before .before .pre .1) _ (c .before .before .before .before .before .before .before .before .before .before .before .before .before .before .before .before .before .pre .0 .0))
 
--- src/arriving.rt:76:5
 loop-less : tie.Need-loop-less Inv-loop μ-loop
 loop-less c = omega arith
 
--- src/arriving.rt:76:5
 loop-again : tie.Need-loop-again Inv-loop μ-loop
 loop-again c =
     let at = c .before .before .before .before .before .before .before .before .before .before .loop in
     (omega arith, rw add-one (arrivals.link-step _ (c .before .before .before .before .before .before .before .before .before .before .before .before .before .before .before .before .before .args .mesh .now) (c .before .before .before .before .before .before .before .before .before .before .before .before .before .before .before .before .before .args .chip) (c .before .before .before .before .before .before .before .before .before .before .before .before .before .before .before .before .before .args .source) (c .before .before .before .before .before .before .before .before .before .before .before .before .before .before .before .before .before .args .log .now) (c .before .before .before .before .before .before .before .before .before .before .before .before .before .before .before .before .before .args .n) (c .before .before .before .before .before .before .before .before .before .before .before .before .before .before .before .before .before .pre .0 .1) (c .before .before .before .before .before .before .before .before .before .before .before .before .before .before .before .before .before .pre .1) _ (c .before .before .before .before .before .before .before .before .before .before .before .before .before .before .before .before .before .pre .0 .0) (at .i) (c .before .before .before .before .before .before .before .before .before .loop-test .taken) (at .mesh) (at .log) (at .done) (at .inv .1) _ (c .before .before .before .before .before .before .before .packet-at .ensures) _ _ _ (c .before .before .before .before .pass-one .ensures)))
 
--- src/arriving.rt:59:1
 same-length : tie.Need-same-length Inv-loop μ-loop
 same-length c = c .before .loop .inv .1 .long
 
--- src/arriving.rt:59:1
 same-length-2 : tie.Need-same-length-2 Inv-loop μ-loop
 same-length-2 c = c .before .loop .inv .1 .room
 
--- src/arriving.rt:59:1
 returns : tie.Need-returns Inv-loop μ-loop
 returns c =
     let at = c .before .loop in

@@ -9,10 +9,6 @@ use Rattle.mesh.proofs.Headers.{head-range}
 use Rattle.mesh.proofs.Arrivals as arrivals
 use Rattle.mesh.proofs.arriving.pass_links.Statement.{statement}
 use Rattle.mesh.proofs.arriving.pass_links.Tie as tie
-use Rattle.mesh.proofs.arriving.pass_links.Reads as reads
-use Rattle.mesh.proofs.arriving.pass_links.Lts as lts
-use Rattle.links.proofs.across.aside_place.Reads as aside-place-reads
-use Rattle.mesh.proofs.arriving.pass_link.Reads as pass-link-reads
 
 abbrev Inv-loop : tie.InvT-loop
 Inv-loop mesh₀ log₀ n chip rows starts codes width height x y done₀ source₀ mesh log done source =
@@ -21,35 +17,27 @@ Inv-loop mesh₀ log₀ n chip rows starts codes width height x y done₀ source
 abbrev μ-loop : tie.MeasureT-loop
 μ-loop mesh₀ log₀ n chip rows starts codes width height x y done₀ source₀ mesh log done source = 6 - source
 
--- src/arriving.rt:44:17
 slice-read-width : tie.Need-slice-read-width Inv-loop μ-loop
 slice-read-width c = omega (arith, c .before .before .before .before .before .before .pre .1 .due .long)
 
--- src/arriving.rt:45:18
 slice-read-height : tie.Need-slice-read-height Inv-loop μ-loop
 slice-read-height c = omega (arith, c .before .before .before .before .before .before .before .pre .1 .due .long)
 
--- src/arriving.rt:46:14
 cast-x : tie.Need-cast-x Inv-loop μ-loop
 cast-x c = omega (arith, c .before .before .before .before .before .before .before .pre .0, head-range (c .before .before .before .before .before .before .before .args .mesh .now) (c .before .before .before .before .before .before .before .pre .1 .due .head) .few)
 
--- src/arriving.rt:46:13
 rem-x : tie.Need-rem-x Inv-loop μ-loop
 rem-x c = head-range (c .before .before .before .before .before .before .before .args .mesh .now) (c .before .before .before .before .before .before .before .pre .1 .due .head) .wide
 
--- src/arriving.rt:47:14
 cast-y : tie.Need-cast-y Inv-loop μ-loop
 cast-y c = omega (arith, c .before .before .before .before .before .before .before .pre .0, head-range (c .before .before .before .before .before .before .before .args .mesh .now) (c .before .before .before .before .before .before .before .pre .1 .due .head) .few)
 
--- src/arriving.rt:47:13
 div-y : tie.Need-div-y Inv-loop μ-loop
 div-y c = head-range (c .before .before .before .before .before .before .before .args .mesh .now) (c .before .before .before .before .before .before .before .pre .1 .due .head) .wide
 
--- src/arriving.rt:50:5
 loop-holds : tie.Need-loop-holds Inv-loop μ-loop
 loop-holds c = (omega arith, arrivals.passed-begin _ _ _ _ _)
 
--- src/arriving.rt:51:13
 aside-place-requires : tie.Need-aside-place-requires Inv-loop μ-loop
 aside-place-requires c κs =
     let a = c .before .before .before .before .before .before .before .before .before .args in
@@ -57,7 +45,6 @@ aside-place-requires c κs =
     let wide = head-range (a .mesh .now) (pre .1 .due .head) .wide in
     (head-size (a .mesh .now) (pre .1 .due .head), (mod-lt (a .chip) wide, (div-lt-iff-lt-mul wide .1 (pre .0), c .loop-test .taken)))
 
--- src/arriving.rt:52:9
 pass-link-requires : tie.Need-pass-link-requires Inv-loop μ-loop
 pass-link-requires c κs =
     let at = c .before .before .before .before .loop in
@@ -67,30 +54,24 @@ pass-link-requires c κs =
       arrivals.links-due _ _ _ _ _ _ _ (a .chip) (at .source) hi (c .before .before .before .before .before .before .before .before .before .before .before .before .pre .1) (at .inv .1),
     )
 
--- src/arriving.rt:53:9
 add-source : tie.Need-add-source Inv-loop μ-loop
 add-source c = omega arith
 
--- src/arriving.rt:50:5
 loop-less : tie.Need-loop-less Inv-loop μ-loop
 loop-less c = omega arith
 
--- src/arriving.rt:50:5
 loop-again : tie.Need-loop-again Inv-loop μ-loop
 loop-again c =
     let at = c .before .before .before .before .before .before .before .before .before .loop in
     let hi : at .source < 6 = c .before .before .before .before .before .before .before .before .loop-test .taken in
     (omega arith, rw add-one (arrivals.links-step _ _ _ _ _ _ _ (c .before .before .before .before .before .before .before .before .before .before .before .before .before .before .before .before .before .args .chip) (at .source) hi (c .before .before .before .before .before .before .before .before .before .before .before .before .before .before .before .before .before .pre .1) (at .inv .1) _ _ _ (c .before .before .before .before .pass-link .ensures)))
 
--- src/arriving.rt:32:1
 same-length : tie.Need-same-length Inv-loop μ-loop
 same-length c = c .before .loop .inv .1 .long
 
--- src/arriving.rt:32:1
 same-length-2 : tie.Need-same-length-2 Inv-loop μ-loop
 same-length-2 c = c .before .loop .inv .1 .room
 
--- src/arriving.rt:32:1
 returns : tie.Need-returns Inv-loop μ-loop
 returns c = let e : c .before .loop .source ≡ 6 = omega arith in rw e at (c .before .loop .inv .1)
 

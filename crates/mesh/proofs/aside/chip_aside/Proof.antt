@@ -12,9 +12,6 @@ use Rattle.mesh.proofs.Asides.{length-aside}
 use Rattle.mesh.proofs.AsideChips.{chip-set-aside}
 use Rattle.mesh.proofs.aside.chip_aside.Statement.{statement}
 use Rattle.mesh.proofs.aside.chip_aside.Tie as tie
-use Rattle.mesh.proofs.aside.chip_aside.Reads as reads
-use Rattle.mesh.proofs.aside.chip_aside.Lts as lts
-use Rattle.mesh.proofs.aside.line_aside.Reads as line-aside-reads
 
 abbrev Inv-loop : tie.InvT-loop
 Inv-loop chip₀ i₀ chip i = (i ≤ 6) × Upto asideOn i chip₀ chip
@@ -22,39 +19,30 @@ Inv-loop chip₀ i₀ chip i = (i ≤ 6) × Upto asideOn i chip₀ chip
 abbrev μ-loop : tie.MeasureT-loop
 μ-loop chip₀ i₀ chip i = 6 - i
 
--- src/aside.rt:28:5
 loop-holds : tie.Need-loop-holds Inv-loop μ-loop
 loop-holds c = (omega arith, begin asideOn _ (c .before .pre .long))
 
--- src/aside.rt:29:23
 mul-at : tie.Need-mul-at Inv-loop μ-loop
 mul-at c = omega arith
 
--- src/aside.rt:29:18
 add-at : tie.Need-add-at Inv-loop μ-loop
 add-at c = omega arith
 
--- src/aside.rt:30:34
 add-line-aside : tie.Need-add-line-aside Inv-loop μ-loop
 add-line-aside c = omega arith
 
--- src/aside.rt:30:20
 mul-line-aside : tie.Need-mul-line-aside Inv-loop μ-loop
 mul-line-aside c = omega arith
 
--- src/aside.rt:30:20
 sub-line-aside : tie.Need-sub-line-aside Inv-loop μ-loop
 sub-line-aside c = omega arith
 
--- src/aside.rt:30:20
 part-line-aside-start : tie.Need-part-line-aside-start Inv-loop μ-loop
 part-line-aside-start c = omega arith
 
--- src/aside.rt:30:20
 part-line-aside-end : tie.Need-part-line-aside-end Inv-loop μ-loop
 part-line-aside-end c = omega (arith, c .before .loop .inv .1 .long)
 
--- src/aside.rt:30:9
 line-aside-requires : tie.Need-line-aside-requires Inv-loop μ-loop
 line-aside-requires c κs =
     let at = c .before .before .loop in
@@ -64,15 +52,12 @@ line-aside-requires c κs =
     rw (add-sub-cancel-left (16 + i * 51) 51)
     (line-long i (at .chip) hi (u .long), subst (λ (w : List ℕ). getD w 1 0 ≤ 8) (sym (u .todo i (omega arith) hi)) (c .before .before .before .before .pre .few i hi))
 
--- src/aside.rt:31:9
 add-i : tie.Need-add-i Inv-loop μ-loop
 add-i c = omega arith
 
--- src/aside.rt:28:5
 loop-less : tie.Need-loop-less Inv-loop μ-loop
 loop-less c = omega arith
 
--- src/aside.rt:28:5
 loop-again : tie.Need-loop-again Inv-loop μ-loop
 loop-again c =
     let at = c .before .before .before .before .before .loop in
@@ -87,11 +72,9 @@ loop-again c =
           (next asideOn i l (at .chip) hi sized (at .inv .1))),
     )
 
--- src/aside.rt:23:1
 same-length : tie.Need-same-length Inv-loop μ-loop
 same-length c = c .before .loop .inv .1 .long ∙ sym (c .before .before .before .pre .long)
 
--- src/aside.rt:23:1
 returns : tie.Need-returns Inv-loop μ-loop
 returns c =
     let pre = c .before .before .before .pre in

@@ -8,8 +8,6 @@ use lib.Seq.{paste, paste-zero, paste-suc, getD-drop}
 use Rattle.mesh.proofs.Asides.{copied-before}
 use Rattle.mesh.proofs.aside.copy_aside.Statement.{statement}
 use Rattle.mesh.proofs.aside.copy_aside.Tie as tie
-use Rattle.mesh.proofs.aside.copy_aside.Reads as reads
-use Rattle.mesh.proofs.aside.copy_aside.Lts as lts
 
 abbrev Inv-loop : tie.InvT-loop
 Inv-loop line₀ words i₀ line i = (i ≤ words) × ((length line ≡ 51) × (line ≡ paste line₀ 27 (drop 2 line₀) i))
@@ -17,43 +15,33 @@ Inv-loop line₀ words i₀ line i = (i ≤ words) × ((length line ≡ 51) × (
 abbrev μ-loop : tie.MeasureT-loop
 μ-loop line₀ words i₀ line i = words - i
 
--- src/aside.rt:51:5
 loop-holds : tie.Need-loop-holds Inv-loop μ-loop
 loop-holds c = (omega arith, (c .pre .0, paste-zero (c .args .line .now) 27 (drop 2 (c .args .line .now))))
 
--- src/aside.rt:52:29
 add-line : tie.Need-add-line Inv-loop μ-loop
 add-line c = omega (arith, c .before .before .pre .1)
 
--- src/aside.rt:52:24
 mul-line : tie.Need-mul-line Inv-loop μ-loop
 mul-line c = omega (arith, c .before .before .pre .1)
 
--- src/aside.rt:52:24
 slice-read-line : tie.Need-slice-read-line Inv-loop μ-loop
 slice-read-line c = omega (arith, c .before .before .before .pre .1)
 
--- src/aside.rt:52:14
 add-line-2 : tie.Need-add-line-2 Inv-loop μ-loop
 add-line-2 c = omega (arith, c .before .before .before .pre .1)
 
--- src/aside.rt:52:9
 mul-line-2 : tie.Need-mul-line-2 Inv-loop μ-loop
 mul-line-2 c = omega (arith, c .before .before .before .pre .1)
 
--- src/aside.rt:52:9
 slice-write-line : tie.Need-slice-write-line Inv-loop μ-loop
 slice-write-line c = omega (arith, c .before .before .before .pre .1)
 
--- src/aside.rt:53:9
 add-i : tie.Need-add-i Inv-loop μ-loop
 add-i c = omega arith
 
--- src/aside.rt:51:5
 loop-less : tie.Need-loop-less Inv-loop μ-loop
 loop-less c = omega arith
 
--- src/aside.rt:51:5
 loop-again : tie.Need-loop-again Inv-loop μ-loop
 loop-again c =
     let at = c .before .before .loop in
@@ -70,11 +58,9 @@ loop-again c =
       ),
     )
 
--- src/aside.rt:46:1
 same-length : tie.Need-same-length Inv-loop μ-loop
 same-length c = c .before .loop .inv .1 .0 ∙ sym (c .before .before .pre .0)
 
--- src/aside.rt:46:1
 returns : tie.Need-returns Inv-loop μ-loop
 returns c = let e : c .before .loop .i ≡ c .before .before .args .words = omega arith in rw e at (c .before .loop .inv .1 .1)
 

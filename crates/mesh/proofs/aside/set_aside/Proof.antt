@@ -8,9 +8,6 @@ use Rattle.mesh.specs.Held.{Few}
 use Rattle.mesh.proofs.AsideChips.{aside-begin, aside-next}
 use Rattle.mesh.proofs.aside.set_aside.Statement.{statement}
 use Rattle.mesh.proofs.aside.set_aside.Tie as tie
-use Rattle.mesh.proofs.aside.set_aside.Reads as reads
-use Rattle.mesh.proofs.aside.set_aside.Lts as lts
-use Rattle.mesh.proofs.aside.chip_aside.Reads as chip-aside-reads
 
 abbrev Inv-loop : tie.InvT-loop
 Inv-loop mesh₀ count i₀ mesh i = (i ≤ count) × AsideUpto count i mesh₀ mesh
@@ -18,39 +15,30 @@ Inv-loop mesh₀ count i₀ mesh i = (i ≤ count) × AsideUpto count i mesh₀ 
 abbrev μ-loop : tie.MeasureT-loop
 μ-loop mesh₀ count i₀ mesh i = count - i
 
--- src/aside.rt:16:5
 loop-holds : tie.Need-loop-holds Inv-loop μ-loop
 loop-holds c = (omega arith, aside-begin _ _)
 
--- src/aside.rt:17:22
 mul-at : tie.Need-mul-at Inv-loop μ-loop
 mul-at c = omega (arith, c .before .before .before .pre .0)
 
--- src/aside.rt:17:18
 add-at : tie.Need-add-at Inv-loop μ-loop
 add-at c = omega (arith, c .before .before .before .pre .0)
 
--- src/aside.rt:18:34
 add-chip-aside : tie.Need-add-chip-aside Inv-loop μ-loop
 add-chip-aside c = omega (arith, c .before .before .before .pre .0)
 
--- src/aside.rt:18:20
 mul-chip-aside : tie.Need-mul-chip-aside Inv-loop μ-loop
 mul-chip-aside c = omega (arith, c .before .before .before .pre .0)
 
--- src/aside.rt:18:20
 sub-chip-aside : tie.Need-sub-chip-aside Inv-loop μ-loop
 sub-chip-aside c = omega arith
 
--- src/aside.rt:18:20
 part-chip-aside-start : tie.Need-part-chip-aside-start Inv-loop μ-loop
 part-chip-aside-start c = omega (arith, c .before .before .before .pre .0, c .before .loop .inv .1 .long)
 
--- src/aside.rt:18:20
 part-chip-aside-end : tie.Need-part-chip-aside-end Inv-loop μ-loop
 part-chip-aside-end c = omega (arith, c .before .before .before .pre .0, c .before .loop .inv .1 .long)
 
--- src/aside.rt:18:9
 chip-aside-requires : tie.Need-chip-aside-requires Inv-loop μ-loop
 chip-aside-requires c κs =
     let at = c .before .before .loop in
@@ -61,15 +49,12 @@ chip-aside-requires c κs =
     rw (add-sub-cancel-left (6 + i * 322) 322)
     (subst Few (sym (u .todo i (omega arith))) (pre .1 i hi))
 
--- src/aside.rt:19:9
 add-i : tie.Need-add-i Inv-loop μ-loop
 add-i c = omega arith
 
--- src/aside.rt:16:5
 loop-less : tie.Need-loop-less Inv-loop μ-loop
 loop-less c = omega arith
 
--- src/aside.rt:16:5
 loop-again : tie.Need-loop-again Inv-loop μ-loop
 loop-again c =
     let at = c .before .before .before .before .before .loop in
@@ -82,11 +67,9 @@ loop-again c =
           (aside-next (a .count) i (a .mesh .now) (at .mesh) (c .before .before .chip-aside .last .0) (pre .0) hi (at .inv .1) (rw (add-sub-cancel-left (6 + i * 322) 322) at (c .before .before .chip-aside .ensures))),
     )
 
--- src/aside.rt:11:1
 same-length : tie.Need-same-length Inv-loop μ-loop
 same-length c = c .before .loop .inv .1 .long
 
--- src/aside.rt:11:1
 returns : tie.Need-returns Inv-loop μ-loop
 returns c = let e : c .before .loop .i ≡ c .before .before .before .args .count = omega arith in rw e at (c .before .loop .inv .1)
 

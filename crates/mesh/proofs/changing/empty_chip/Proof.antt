@@ -5,31 +5,22 @@ use Prim.Native.Nat.{ℕ}
 use Rattle.mesh.specs.Chips.{putBack}
 use Rattle.mesh.proofs.changing.empty_chip.Statement.{statement}
 use Rattle.mesh.proofs.changing.empty_chip.Tie as tie
-use Rattle.mesh.proofs.changing.empty_chip.Reads as reads
-use Rattle.mesh.proofs.changing.empty_chip.Lts as lts
-use Rattle.mesh.proofs.opening.clear.Reads as clear-reads
 
--- src/changing.rt:76:11
 sub-clear : tie.Need-sub-clear
 sub-clear c = search needs
 
--- src/changing.rt:76:11
 part-clear-start : tie.Need-part-clear-start
 part-clear-start c = search needs
 
--- src/changing.rt:76:11
 part-clear-end : tie.Need-part-clear-end
 part-clear-end c = search needs
 
--- src/changing.rt:76:5
 clear-requires : tie.Need-clear-requires
 clear-requires c κs = search needs
 
--- src/changing.rt:72:1
 same-length : tie.Need-same-length
 same-length c = search needs
 
--- src/changing.rt:72:1
 returns : tie.Need-returns
 returns c = ap (λ (ys : List ℕ). putBack 0 6 ys (c .before .before .before .before .before .args .chip .now)) (c .before .before .clear .ensures)
 

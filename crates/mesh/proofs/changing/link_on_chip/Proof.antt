@@ -6,47 +6,34 @@ use native.Mathlib.Nat.{add-sub-cancel-left}
 use Rattle.mesh.specs.Chips.{putBack}
 use Rattle.mesh.proofs.changing.link_on_chip.Statement.{statement}
 use Rattle.mesh.proofs.changing.link_on_chip.Tie as tie
-use Rattle.mesh.proofs.changing.link_on_chip.Reads as reads
-use Rattle.mesh.proofs.changing.link_on_chip.Lts as lts
-use Rattle.links.proofs.line.set_state.Reads as set-state-reads
 
--- src/changing.rt:36:19
 mul-at : tie.Need-mul-at
 mul-at c = search needs
 
--- src/changing.rt:36:14
 add-at : tie.Need-add-at
 add-at c = search needs
 
--- src/changing.rt:37:33
 add-set-state : tie.Need-add-set-state
 add-set-state c = search needs
 
--- src/changing.rt:37:19
 mul-set-state : tie.Need-mul-set-state
 mul-set-state c = search needs
 
--- src/changing.rt:37:19
 sub-set-state : tie.Need-sub-set-state
 sub-set-state c = search needs
 
--- src/changing.rt:37:19
 part-set-state-start : tie.Need-part-set-state-start
 part-set-state-start c = search needs
 
--- src/changing.rt:37:19
 part-set-state-end : tie.Need-part-set-state-end
 part-set-state-end c = search needs
 
--- src/changing.rt:37:5
 set-state-requires : tie.Need-set-state-requires
 set-state-requires c κs = search needs
 
--- src/changing.rt:32:1
 same-length : tie.Need-same-length
 same-length c = search needs
 
--- src/changing.rt:32:1
 returns : tie.Need-returns
 returns c =
     let a = c .before .before .before .before .before .args in

@@ -7,90 +7,64 @@ use Rattle.mesh.proofs.Looks.{chip-there}
 use Rattle.mesh.proofs.RegistersCall.{registers-refused, registers-leave}
 use Rattle.mesh.proofs.changing.read_registers.Statement.{statement}
 use Rattle.mesh.proofs.changing.read_registers.Tie as tie
-use Rattle.mesh.proofs.changing.read_registers.Reads as reads
-use Rattle.mesh.proofs.changing.read_registers.Lts as lts
-use Rattle.mesh.proofs.changing.empty_chip.Reads as empty-chip-reads
-use Rattle.mesh.proofs.holding.registers_at.Reads as registers-at-reads
-use Rattle.mesh.proofs.refusing.chip_refusal.Reads as chip-refusal-reads
-use Rattle.kept.proofs.keeping.empty_registers.Reads as empty-registers-reads
 
--- src/changing.rt:56:9
 chip-refusal-requires : tie.Need-chip-refusal-requires
 chip-refusal-requires c κs = search needs
 
--- src/changing.rt:60:24
 empty-registers-requires : tie.Need-empty-registers-requires
 empty-registers-requires c κs = search needs
 
--- src/changing.rt:58:9
 same-length : tie.Need-same-length
 same-length c = search needs
 
--- src/changing.rt:58:9
 returns : tie.Need-returns
 returns c = registers-refused (c .before .before .before .before .before .args .mesh .now) (c .before .before .before .before .before .args .chip) _ (c .before .before .chip-refusal .ensures) (c .before .if1 .taken) _ (c .empty-registers .ensures)
 
--- src/changing.rt:63:18
 mul-at : tie.Need-mul-at
 mul-at c = search needs
 
--- src/changing.rt:63:14
 add-at : tie.Need-add-at
 add-at c = search needs
 
--- src/changing.rt:64:44
 add-registers-at : tie.Need-add-registers-at
 add-registers-at c = search needs
 
--- src/changing.rt:64:34
 mul-registers-at : tie.Need-mul-registers-at
 mul-registers-at c = search needs
 
--- src/changing.rt:64:34
 sub-registers-at : tie.Need-sub-registers-at
 sub-registers-at c = search needs
 
--- src/changing.rt:64:34
 part-registers-at-start : tie.Need-part-registers-at-start
 part-registers-at-start c = search needs
 
--- src/changing.rt:64:34
 part-registers-at-end : tie.Need-part-registers-at-end
 part-registers-at-end c = omega (arith, chip-there (c .before .before .before .before .before .args .mesh .now) (c .before .before .before .before .before .args .chip) (sym (c .before .before .chip-refusal .ensures) ∙ c .before .if1 .left) .fits)
 
--- src/changing.rt:64:9
 registers-at-requires : tie.Need-registers-at-requires
 registers-at-requires c κs = search needs
 
--- src/changing.rt:65:30
 add-empty-chip : tie.Need-add-empty-chip
 add-empty-chip c = search needs
 
--- src/changing.rt:65:16
 mul-empty-chip : tie.Need-mul-empty-chip
 mul-empty-chip c = search needs
 
--- src/changing.rt:65:16
 sub-empty-chip : tie.Need-sub-empty-chip
 sub-empty-chip c = search needs
 
--- src/changing.rt:65:16
 part-empty-chip-start : tie.Need-part-empty-chip-start
 part-empty-chip-start c = search needs
 
--- src/changing.rt:65:16
 part-empty-chip-end : tie.Need-part-empty-chip-end
 part-empty-chip-end c = omega (arith, chip-there (c .before .before .before .before .before .before .before .args .mesh .now) (c .before .before .before .before .before .before .before .args .chip) (sym (c .before .before .before .before .chip-refusal .ensures) ∙ c .before .before .before .if1 .left) .fits)
 
--- src/changing.rt:65:5
 empty-chip-requires : tie.Need-empty-chip-requires
 empty-chip-requires c κs = search needs
 
--- src/changing.rt:52:1
 same-length-2 : tie.Need-same-length-2
 same-length-2 c = search needs
 
--- src/changing.rt:52:1
 returns-2 : tie.Need-returns-2
 returns-2 c =
     let a = c .before .before .before .before .before .before .before .before .before .before .before .args in

@@ -8,60 +8,43 @@ use Rattle.mesh.proofs.Looks.{number-there}
 use Rattle.mesh.proofs.Changes.{link-refused, link-leaves}
 use Rattle.mesh.proofs.changing.set_link.Statement.{statement}
 use Rattle.mesh.proofs.changing.set_link.Tie as tie
-use Rattle.mesh.proofs.changing.set_link.Reads as reads
-use Rattle.mesh.proofs.changing.set_link.Lts as lts
-use Rattle.mesh.proofs.changing.link_on_chip.Reads as link-on-chip-reads
-use Rattle.mesh.proofs.refusing.number_refusal.Reads as number-refusal-reads
 
--- src/changing.rt:23:9
 number-refusal-requires : tie.Need-number-refusal-requires
 number-refusal-requires c κs = search needs
 
--- src/changing.rt:25:9
 same-length : tie.Need-same-length
 same-length c = search needs
 
--- src/changing.rt:25:9
 returns : tie.Need-returns
 returns c = link-refused (c .before .before .before .before .args .mesh .now) (c .before .before .before .before .args .chip) (c .before .before .before .before .args .link) (c .before .before .before .before .args .up) _ (c .before .number-refusal .ensures) (c .if1 .taken)
 
--- src/changing.rt:27:18
 mul-at : tie.Need-mul-at
 mul-at c = search needs
 
--- src/changing.rt:27:14
 add-at : tie.Need-add-at
 add-at c = search needs
 
--- src/changing.rt:28:32
 add-link-on-chip : tie.Need-add-link-on-chip
 add-link-on-chip c = search needs
 
--- src/changing.rt:28:18
 mul-link-on-chip : tie.Need-mul-link-on-chip
 mul-link-on-chip c = search needs
 
--- src/changing.rt:28:18
 sub-link-on-chip : tie.Need-sub-link-on-chip
 sub-link-on-chip c = search needs
 
--- src/changing.rt:28:18
 part-link-on-chip-start : tie.Need-part-link-on-chip-start
 part-link-on-chip-start c = search needs
 
--- src/changing.rt:28:18
 part-link-on-chip-end : tie.Need-part-link-on-chip-end
 part-link-on-chip-end c = omega (arith, number-there (c .before .before .before .before .args .mesh .now) (c .before .before .before .before .args .chip) (c .before .before .before .before .args .link) 6 (sym (c .before .number-refusal .ensures) ∙ c .if1 .left) .0 .fits)
 
--- src/changing.rt:28:5
 link-on-chip-requires : tie.Need-link-on-chip-requires
 link-on-chip-requires c κs = let h = number-there (c .before .before .before .before .before .args .mesh .now) (c .before .before .before .before .before .args .chip) (c .before .before .before .before .before .args .link) 6 (sym (c .before .before .number-refusal .ensures) ∙ c .before .if1 .left) in rw (add-sub-cancel-left (6 + c .before .before .before .before .before .args .chip * 322) 322) (chip-long (c .before .before .before .before .before .args .mesh .now) (c .before .before .before .before .before .args .chip) (h .0 .fits), h .1)
 
--- src/changing.rt:19:1
 same-length-2 : tie.Need-same-length-2
 same-length-2 c = search needs
 
--- src/changing.rt:19:1
 returns-2 : tie.Need-returns-2
 returns-2 c =
     let a = c .before .before .before .before .before .before .before .before .args in

@@ -4,45 +4,31 @@ use lib.ListN.{length}
 use Rattle.mesh.proofs.Upto.{takes-on, finish}
 use Rattle.mesh.proofs.chip.after.Statement.{statement}
 use Rattle.mesh.proofs.chip.after.Tie as tie
-use Rattle.mesh.proofs.chip.after.Reads as reads
-use Rattle.mesh.proofs.chip.after.Lts as lts
-use Rattle.mesh.proofs.chip.count.Reads as count-reads
-use Rattle.mesh.proofs.chip.keep.Reads as keep-reads
-use Rattle.mesh.proofs.chip.send_all.Reads as send-all-reads
 
--- src/chip.rt:35:10
 sub-keep : tie.Need-sub-keep
 sub-keep c = search needs
 
--- src/chip.rt:35:10
 part-keep-start : tie.Need-part-keep-start
 part-keep-start c = search needs
 
--- src/chip.rt:35:10
 part-keep-end : tie.Need-part-keep-end
 part-keep-end c = search needs
 
--- src/chip.rt:35:5
 keep-requires : tie.Need-keep-requires
 keep-requires c κs = search needs
 
--- src/chip.rt:36:11
 sub-count : tie.Need-sub-count
 sub-count c = search needs
 
--- src/chip.rt:36:11
 part-count-start : tie.Need-part-count-start
 part-count-start c = search needs
 
--- src/chip.rt:36:11
 part-count-end : tie.Need-part-count-end
 part-count-end c = search needs
 
--- src/chip.rt:36:5
 count-requires : tie.Need-count-requires
 count-requires c κs = search needs
 
--- src/chip.rt:37:5
 send-all-requires : tie.Need-send-all-requires
 send-all-requires c κs =
     let a = c .before .before .before .before .before .before .before .before .before .before .args in
@@ -52,11 +38,9 @@ send-all-requires c κs =
     let lc : length cs ≡ 10 = ap length (c .before .before .before .count .ensures) in
     takes-on (a .chip .now) ws cs (a .o) (c .before .before .before .before .before .before .before .before .before .before .pre .long) lw lc (c .before .before .before .before .before .before .before .before .before .before .pre)
 
--- src/chip.rt:31:1
 same-length : tie.Need-same-length
 same-length c = search needs
 
--- src/chip.rt:31:1
 returns : tie.Need-returns
 returns c =
     let a = c .before .before .before .before .before .before .before .before .before .before .before .before .before .args in

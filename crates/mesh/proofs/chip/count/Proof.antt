@@ -7,139 +7,103 @@ use Rattle.mesh.proofs.Stores.{ten-stores}
 use Rattle.kept.specs.declared.Counters.{Counters}
 use Rattle.mesh.proofs.chip.count.Statement.{statement}
 use Rattle.mesh.proofs.chip.count.Tie as tie
-use Rattle.mesh.proofs.chip.count.Reads as reads
-use Rattle.mesh.proofs.chip.count.Lts as lts
-use Rattle.kept.proofs.counting.counted_of.Reads as counted-of-reads
 
--- src/chip.rt:67:13
 slice-read-words : tie.Need-slice-read-words
 slice-read-words c = search needs
 
--- src/chip.rt:67:23
 slice-read-words-2 : tie.Need-slice-read-words-2
 slice-read-words-2 c = search needs
 
--- src/chip.rt:67:33
 slice-read-t10 : tie.Need-slice-read-t10
 slice-read-t10 c = search needs
 
--- src/chip.rt:67:43
 slice-read-t12 : tie.Need-slice-read-t12
 slice-read-t12 c = search needs
 
--- src/chip.rt:67:53
 slice-read-t14 : tie.Need-slice-read-t14
 slice-read-t14 c = search needs
 
--- src/chip.rt:67:63
 slice-read-t16 : tie.Need-slice-read-t16
 slice-read-t16 c = search needs
 
--- src/chip.rt:67:73
 slice-read-t18 : tie.Need-slice-read-t18
 slice-read-t18 c = search needs
 
--- src/chip.rt:67:83
 slice-read-t20 : tie.Need-slice-read-t20
 slice-read-t20 c = search needs
 
--- src/chip.rt:67:93
 slice-read-t22 : tie.Need-slice-read-t22
 slice-read-t22 c = search needs
 
--- src/chip.rt:67:103
 slice-read-t24 : tie.Need-slice-read-t24
 slice-read-t24 c = search needs
 
--- src/chip.rt:70:13
 counted-of-requires : tie.Need-counted-of-requires
 counted-of-requires c κs = search needs
 
--- src/chip.rt:71:16
 element-copy-out-words : tie.Need-element-copy-out-words
 element-copy-out-words c = search needs
 
--- src/chip.rt:71:5
 slice-write-words : tie.Need-slice-write-words
 slice-write-words c = search needs
 
--- src/chip.rt:72:16
 element-copy-out-words-2 : tie.Need-element-copy-out-words-2
 element-copy-out-words-2 c = search needs
 
--- src/chip.rt:72:5
 slice-write-words-2 : tie.Need-slice-write-words-2
 slice-write-words-2 c = search needs
 
--- src/chip.rt:73:16
 element-copy-out-words-3 : tie.Need-element-copy-out-words-3
 element-copy-out-words-3 c = search needs
 
--- src/chip.rt:73:5
 slice-write-words-3 : tie.Need-slice-write-words-3
 slice-write-words-3 c = search needs
 
--- src/chip.rt:74:16
 element-copy-out-words-4 : tie.Need-element-copy-out-words-4
 element-copy-out-words-4 c = search needs
 
--- src/chip.rt:74:5
 slice-write-words-4 : tie.Need-slice-write-words-4
 slice-write-words-4 c = simp length-set (omega arith)
 
--- src/chip.rt:75:16
 element-copy-out-words-5 : tie.Need-element-copy-out-words-5
 element-copy-out-words-5 c = search needs
 
--- src/chip.rt:75:5
 slice-write-words-5 : tie.Need-slice-write-words-5
 slice-write-words-5 c = simp length-set (omega arith)
 
--- src/chip.rt:76:16
 element-copy-out-words-6 : tie.Need-element-copy-out-words-6
 element-copy-out-words-6 c = search needs
 
--- src/chip.rt:76:5
 slice-write-words-6 : tie.Need-slice-write-words-6
 slice-write-words-6 c = simp length-set (omega arith)
 
--- src/chip.rt:77:16
 element-copy-out-words-7 : tie.Need-element-copy-out-words-7
 element-copy-out-words-7 c = search needs
 
--- src/chip.rt:77:5
 slice-write-words-7 : tie.Need-slice-write-words-7
 slice-write-words-7 c = simp length-set (omega arith)
 
--- src/chip.rt:78:16
 element-copy-out-words-8 : tie.Need-element-copy-out-words-8
 element-copy-out-words-8 c = search needs
 
--- src/chip.rt:78:5
 slice-write-words-8 : tie.Need-slice-write-words-8
 slice-write-words-8 c = simp length-set (omega arith)
 
--- src/chip.rt:79:16
 element-copy-out-words-9 : tie.Need-element-copy-out-words-9
 element-copy-out-words-9 c = search needs
 
--- src/chip.rt:79:5
 slice-write-words-9 : tie.Need-slice-write-words-9
 slice-write-words-9 c = simp length-set (omega arith)
 
--- src/chip.rt:80:16
 element-copy-out-words-10 : tie.Need-element-copy-out-words-10
 element-copy-out-words-10 c = search needs
 
--- src/chip.rt:80:5
 slice-write-words-10 : tie.Need-slice-write-words-10
 slice-write-words-10 c = simp length-set (omega arith)
 
--- src/chip.rt:61:1
 same-length : tie.Need-same-length
 same-length c = simp length-set
 
--- src/chip.rt:61:1
 returns : tie.Need-returns
 returns c =
     let l = c .before .before .before .before .before .before .before .before .before .before .before .before .before .before .before .before .before .before .before .before .before .before .args .words .now in

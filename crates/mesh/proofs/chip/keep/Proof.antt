@@ -10,74 +10,55 @@ use lib.ListN.{length-set}
 use borrow.Author.Needs.{needs}
 use Rattle.mesh.proofs.chip.keep.Statement.{statement}
 use Rattle.mesh.proofs.chip.keep.Tie as tie
-use Rattle.mesh.proofs.chip.keep.Reads as reads
-use Rattle.mesh.proofs.chip.keep.Lts as lts
-use Rattle.kept.proofs.keeping.kept_of.Reads as kept-of-reads
 
--- src/chip.rt:69:9
 returns : tie.Need-returns
 returns c =
     let o = c .before .before .before .before .args .o in
     let none = and-eq-true-iff (eqb (o .dropped) 0) (eqb (o .lost) 0) .0 (c .if1 .taken) in
     six-words (c .before .before .before .before .args .words .now) (c .before .before .before .before .pre .0) ∙ simp (eqb-true (o .dropped) 0 (none .0), eqb-true (o .lost) 0 (none .1), ones-zero)
 
--- src/chip.rt:72:18
 slice-read-t9 : tie.Need-slice-read-t9
 slice-read-t9 c = search needs
 
--- src/chip.rt:73:15
 slice-read-t11 : tie.Need-slice-read-t11
 slice-read-t11 c = search needs
 
--- src/chip.rt:74:18
 slice-read-t13 : tie.Need-slice-read-t13
 slice-read-t13 c = search needs
 
--- src/chip.rt:75:15
 slice-read-t15 : tie.Need-slice-read-t15
 slice-read-t15 c = search needs
 
--- src/chip.rt:76:14
 slice-read-t17 : tie.Need-slice-read-t17
 slice-read-t17 c = search needs
 
--- src/chip.rt:77:15
 slice-read-t19 : tie.Need-slice-read-t19
 slice-read-t19 c = search needs
 
--- src/chip.rt:79:9
 kept-of-requires : tie.Need-kept-of-requires
 kept-of-requires c κs = search needs
 
--- src/chip.rt:80:5
 slice-write-words : tie.Need-slice-write-words
 slice-write-words c = search needs
 
--- src/chip.rt:81:5
 slice-write-words-2 : tie.Need-slice-write-words-2
 slice-write-words-2 c = search needs
 
--- src/chip.rt:82:5
 slice-write-words-3 : tie.Need-slice-write-words-3
 slice-write-words-3 c = search needs
 
--- src/chip.rt:83:5
 slice-write-words-4 : tie.Need-slice-write-words-4
 slice-write-words-4 c = search needs
 
--- src/chip.rt:84:5
 slice-write-words-5 : tie.Need-slice-write-words-5
 slice-write-words-5 c = simp length-set (omega arith)
 
--- src/chip.rt:85:5
 slice-write-words-6 : tie.Need-slice-write-words-6
 slice-write-words-6 c = simp length-set (omega arith)
 
--- src/chip.rt:64:1
 same-length : tie.Need-same-length
 same-length c = simp length-set
 
--- src/chip.rt:64:1
 returns-2 : tie.Need-returns-2
 returns-2 c = six-stores (c .before .before .before .before .before .before .before .before .before .before .before .args .words .now) _ _ _ _ _ _ (c .before .before .before .before .before .before .before .before .before .before .before .pre .0) ∙ ap registerWords (c .kept-of .ensures)
 

@@ -1,152 +1,112 @@
 use borrow.Author.Needs.{needs}
 use Rattle.mesh.proofs.chip.ready_of.Statement.{statement}
 use Rattle.mesh.proofs.chip.ready_of.Tie as tie
-use Rattle.mesh.proofs.chip.ready_of.Reads as reads
-use Rattle.mesh.proofs.chip.ready_of.Lts as lts
-use Rattle.links.proofs.line.is_ready.Reads as is-ready-reads
-use Rattle.steps.proofs.errors.flag_of.Reads as flag-of-reads
 
--- src/chip.rt:21:22
 sub-is-ready : tie.Need-sub-is-ready
 sub-is-ready c = search needs
 
--- src/chip.rt:21:22
 part-is-ready-start : tie.Need-part-is-ready-start
 part-is-ready-start c = search needs
 
--- src/chip.rt:21:22
 part-is-ready-end : tie.Need-part-is-ready-end
 part-is-ready-end c = search needs
 
--- src/chip.rt:21:13
 is-ready-requires : tie.Need-is-ready-requires
 is-ready-requires c κs = search needs
 
--- src/chip.rt:21:5
 flag-of-requires : tie.Need-flag-of-requires
 flag-of-requires c κs = search needs
 
--- src/chip.rt:22:28
 sub-is-ready-2 : tie.Need-sub-is-ready-2
 sub-is-ready-2 c = search needs
 
--- src/chip.rt:22:28
 part-is-ready-start-2 : tie.Need-part-is-ready-start-2
 part-is-ready-start-2 c = search needs
 
--- src/chip.rt:22:28
 part-is-ready-end-2 : tie.Need-part-is-ready-end-2
 part-is-ready-end-2 c = search needs
 
--- src/chip.rt:22:19
 is-ready-requires-2 : tie.Need-is-ready-requires-2
 is-ready-requires-2 c κs = search needs
 
--- src/chip.rt:22:11
 flag-of-requires-2 : tie.Need-flag-of-requires-2
 flag-of-requires-2 c κs = search needs
 
--- src/chip.rt:21:5
 add-result : tie.Need-add-result
 add-result c = search needs
 
--- src/chip.rt:23:28
 sub-is-ready-3 : tie.Need-sub-is-ready-3
 sub-is-ready-3 c = search needs
 
--- src/chip.rt:23:28
 part-is-ready-start-3 : tie.Need-part-is-ready-start-3
 part-is-ready-start-3 c = search needs
 
--- src/chip.rt:23:28
 part-is-ready-end-3 : tie.Need-part-is-ready-end-3
 part-is-ready-end-3 c = search needs
 
--- src/chip.rt:23:19
 is-ready-requires-3 : tie.Need-is-ready-requires-3
 is-ready-requires-3 c κs = search needs
 
--- src/chip.rt:23:11
 flag-of-requires-3 : tie.Need-flag-of-requires-3
 flag-of-requires-3 c κs = search needs
 
--- src/chip.rt:21:5
 add-result-2 : tie.Need-add-result-2
 add-result-2 c = search needs
 
--- src/chip.rt:24:28
 sub-is-ready-4 : tie.Need-sub-is-ready-4
 sub-is-ready-4 c = search needs
 
--- src/chip.rt:24:28
 part-is-ready-start-4 : tie.Need-part-is-ready-start-4
 part-is-ready-start-4 c = search needs
 
--- src/chip.rt:24:28
 part-is-ready-end-4 : tie.Need-part-is-ready-end-4
 part-is-ready-end-4 c = search needs
 
--- src/chip.rt:24:19
 is-ready-requires-4 : tie.Need-is-ready-requires-4
 is-ready-requires-4 c κs = search needs
 
--- src/chip.rt:24:11
 flag-of-requires-4 : tie.Need-flag-of-requires-4
 flag-of-requires-4 c κs = search needs
 
--- src/chip.rt:21:5
 add-result-3 : tie.Need-add-result-3
 add-result-3 c = search needs
 
--- src/chip.rt:25:28
 sub-is-ready-5 : tie.Need-sub-is-ready-5
 sub-is-ready-5 c = search needs
 
--- src/chip.rt:25:28
 part-is-ready-start-5 : tie.Need-part-is-ready-start-5
 part-is-ready-start-5 c = search needs
 
--- src/chip.rt:25:28
 part-is-ready-end-5 : tie.Need-part-is-ready-end-5
 part-is-ready-end-5 c = search needs
 
--- src/chip.rt:25:19
 is-ready-requires-5 : tie.Need-is-ready-requires-5
 is-ready-requires-5 c κs = search needs
 
--- src/chip.rt:25:11
 flag-of-requires-5 : tie.Need-flag-of-requires-5
 flag-of-requires-5 c κs = search needs
 
--- src/chip.rt:21:5
 add-result-4 : tie.Need-add-result-4
 add-result-4 c = search needs
 
--- src/chip.rt:26:28
 sub-is-ready-6 : tie.Need-sub-is-ready-6
 sub-is-ready-6 c = search needs
 
--- src/chip.rt:26:28
 part-is-ready-start-6 : tie.Need-part-is-ready-start-6
 part-is-ready-start-6 c = search needs
 
--- src/chip.rt:26:28
 part-is-ready-end-6 : tie.Need-part-is-ready-end-6
 part-is-ready-end-6 c = search needs
 
--- src/chip.rt:26:19
 is-ready-requires-6 : tie.Need-is-ready-requires-6
 is-ready-requires-6 c κs = search needs
 
--- src/chip.rt:26:11
 flag-of-requires-6 : tie.Need-flag-of-requires-6
 flag-of-requires-6 c κs = search needs
 
--- src/chip.rt:21:5
 add-result-5 : tie.Need-add-result-5
 add-result-5 c = search needs
 
--- src/chip.rt:17:1
 returns : tie.Need-returns
 returns c = simp (c .before .before .before .before .before .before .before .before .before .before .before .before .before .before .before .flag-of .ensures .0, c .before .before .before .before .before .before .before .before .before .before .before .before .before .before .before .before .is-ready .ensures, c .before .before .before .before .before .before .before .before .before .before .before .before .flag-of2 .ensures .0, c .before .before .before .before .before .before .before .before .before .before .before .before .before .is-ready2 .ensures, c .before .before .before .before .before .before .before .before .before .flag-of3 .ensures .0, c .before .before .before .before .before .before .before .before .before .before .is-ready3 .ensures, c .before .before .before .before .before .before .flag-of4 .ensures .0, c .before .before .before .before .before .before .before .is-ready4 .ensures, c .before .before .before .flag-of5 .ensures .0, c .before .before .before .before .is-ready5 .ensures, c .flag-of6 .ensures .0, c .before .is-ready6 .ensures)
 

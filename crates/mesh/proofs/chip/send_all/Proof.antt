@@ -9,9 +9,6 @@ use Rattle.mesh.specs.Chips.{sending, Upto}
 use Rattle.links.specs.Lines.{Room}
 use Rattle.mesh.proofs.chip.send_all.Statement.{statement}
 use Rattle.mesh.proofs.chip.send_all.Tie as tie
-use Rattle.mesh.proofs.chip.send_all.Reads as reads
-use Rattle.mesh.proofs.chip.send_all.Lts as lts
-use Rattle.mesh.proofs.chip.send_on.Reads as send-on-reads
 
 abbrev Inv-loop : tie.InvT-loop
 Inv-loop chip₀ o i₀ chip i = (i ≤ 6) × Upto (sending o) i chip₀ chip
@@ -19,11 +16,9 @@ Inv-loop chip₀ o i₀ chip i = (i ≤ 6) × Upto (sending o) i chip₀ chip
 abbrev μ-loop : tie.MeasureT-loop
 μ-loop chip₀ o i₀ chip i = 6 - i
 
--- src/chip.rt:45:5
 loop-holds : tie.Need-loop-holds Inv-loop μ-loop
 loop-holds c = (omega arith, begin _ _ (c .before .pre .long))
 
--- src/chip.rt:46:9
 send-on-requires : tie.Need-send-on-requires Inv-loop μ-loop
 send-on-requires c κs =
     let at = c .before .before .loop in
@@ -32,15 +27,12 @@ send-on-requires c κs =
     let hi = c .before .loop-test .taken in
     (u .long, (hi, subst (λ (w : List ℕ). Room w (c .before .before .before .before .args .o) i) (sym (u .todo i (omega arith) hi)) (c .before .before .before .before .pre .room i hi)))
 
--- src/chip.rt:47:9
 add-i : tie.Need-add-i Inv-loop μ-loop
 add-i c = omega arith
 
--- src/chip.rt:45:5
 loop-less : tie.Need-loop-less Inv-loop μ-loop
 loop-less c = omega arith
 
--- src/chip.rt:45:5
 loop-again : tie.Need-loop-again Inv-loop μ-loop
 loop-again c =
     let at = c .before .before .before .before .before .loop in
@@ -48,11 +40,9 @@ loop-again c =
     let hi = c .before .before .before .before .loop-test .taken in
     (omega arith, rw (c .before .before .send-on .ensures, add-one) (next _ i _ _ hi (sends-long i _ _ hi (c .before .before .before .before .before .before .before .pre)) (at .inv .1)))
 
--- src/chip.rt:40:1
 same-length : tie.Need-same-length Inv-loop μ-loop
 same-length c = c .before .loop .inv .1 .long ∙ sym (c .before .before .before .pre .long)
 
--- src/chip.rt:40:1
 returns : tie.Need-returns Inv-loop μ-loop
 returns c = let e : c .before .loop .i ≡ 6 = omega arith in rw e at (c .before .loop .inv .1)
 

@@ -9,39 +9,28 @@ use lib.Seq.{length-take-le}
 use Rattle.mesh.specs.Chips.{putBack}
 use Rattle.mesh.proofs.chip.send_on.Statement.{statement}
 use Rattle.mesh.proofs.chip.send_on.Tie as tie
-use Rattle.mesh.proofs.chip.send_on.Reads as reads
-use Rattle.mesh.proofs.chip.send_on.Lts as lts
-use Rattle.links.proofs.line.send.Reads as send-reads
 
--- src/chip.rt:34:19
 mul-at : tie.Need-mul-at
 mul-at c = search needs
 
--- src/chip.rt:34:14
 add-at : tie.Need-add-at
 add-at c = search needs
 
--- src/chip.rt:35:24
 add-send : tie.Need-add-send
 add-send c = search needs
 
--- src/chip.rt:35:10
 mul-send : tie.Need-mul-send
 mul-send c = search needs
 
--- src/chip.rt:35:10
 sub-send : tie.Need-sub-send
 sub-send c = search needs
 
--- src/chip.rt:35:10
 part-send-start : tie.Need-part-send-start
 part-send-start c = search needs
 
--- src/chip.rt:35:10
 part-send-end : tie.Need-part-send-end
 part-send-end c = search needs
 
--- src/chip.rt:35:5
 send-requires : tie.Need-send-requires
 send-requires c κs =
     let i = c .before .before .args .i in
@@ -49,11 +38,9 @@ send-requires c κs =
     rw (add-sub-cancel-left (16 + i * 51) 51)
     (length-take-le 51 (drop (16 + i * 51) l) (simp length-drop (omega arith)), c .before .before .pre .1)
 
--- src/chip.rt:30:1
 same-length : tie.Need-same-length
 same-length c = search needs
 
--- src/chip.rt:30:1
 returns : tie.Need-returns
 returns c =
     let i = c .before .before .before .before .before .args .i in

@@ -1,129 +1,94 @@
 use borrow.Author.Needs.{needs}
 use Rattle.mesh.proofs.holding.chip_fine.Statement.{statement}
 use Rattle.mesh.proofs.holding.chip_fine.Tie as tie
-use Rattle.mesh.proofs.holding.chip_fine.Reads as reads
-use Rattle.mesh.proofs.holding.chip_fine.Lts as lts
-use Rattle.mesh.proofs.holding.line_fine.Reads as line-fine-reads
-use Rattle.mesh.proofs.holding.registers_at.Reads as registers-at-reads
-use Rattle.mesh.proofs.holding.registers_fine.Reads as registers-fine-reads
 
--- src/holding.rt:85:33
 sub-registers-at : tie.Need-sub-registers-at
 sub-registers-at c = search needs
 
--- src/holding.rt:85:33
 part-registers-at-start : tie.Need-part-registers-at-start
 part-registers-at-start c = search needs
 
--- src/holding.rt:85:33
 part-registers-at-end : tie.Need-part-registers-at-end
 part-registers-at-end c = search needs
 
--- src/holding.rt:85:20
 registers-at-requires : tie.Need-registers-at-requires
 registers-at-requires c κs = search needs
 
--- src/holding.rt:85:5
 registers-fine-requires : tie.Need-registers-fine-requires
 registers-fine-requires c κs = search needs
 
--- src/holding.rt:86:21
 sub-line-fine : tie.Need-sub-line-fine
 sub-line-fine c = search needs
 
--- src/holding.rt:86:21
 part-line-fine-start : tie.Need-part-line-fine-start
 part-line-fine-start c = search needs
 
--- src/holding.rt:86:21
 part-line-fine-end : tie.Need-part-line-fine-end
 part-line-fine-end c = search needs
 
--- src/holding.rt:86:11
 line-fine-requires : tie.Need-line-fine-requires
 line-fine-requires c κs = search needs
 
--- src/holding.rt:87:21
 sub-line-fine-2 : tie.Need-sub-line-fine-2
 sub-line-fine-2 c = search needs
 
--- src/holding.rt:87:21
 part-line-fine-start-2 : tie.Need-part-line-fine-start-2
 part-line-fine-start-2 c = search needs
 
--- src/holding.rt:87:21
 part-line-fine-end-2 : tie.Need-part-line-fine-end-2
 part-line-fine-end-2 c = search needs
 
--- src/holding.rt:87:11
 line-fine-requires-2 : tie.Need-line-fine-requires-2
 line-fine-requires-2 c κs = search needs
 
--- src/holding.rt:88:21
 sub-line-fine-3 : tie.Need-sub-line-fine-3
 sub-line-fine-3 c = search needs
 
--- src/holding.rt:88:21
 part-line-fine-start-3 : tie.Need-part-line-fine-start-3
 part-line-fine-start-3 c = search needs
 
--- src/holding.rt:88:21
 part-line-fine-end-3 : tie.Need-part-line-fine-end-3
 part-line-fine-end-3 c = search needs
 
--- src/holding.rt:88:11
 line-fine-requires-3 : tie.Need-line-fine-requires-3
 line-fine-requires-3 c κs = search needs
 
--- src/holding.rt:89:21
 sub-line-fine-4 : tie.Need-sub-line-fine-4
 sub-line-fine-4 c = search needs
 
--- src/holding.rt:89:21
 part-line-fine-start-4 : tie.Need-part-line-fine-start-4
 part-line-fine-start-4 c = search needs
 
--- src/holding.rt:89:21
 part-line-fine-end-4 : tie.Need-part-line-fine-end-4
 part-line-fine-end-4 c = search needs
 
--- src/holding.rt:89:11
 line-fine-requires-4 : tie.Need-line-fine-requires-4
 line-fine-requires-4 c κs = search needs
 
--- src/holding.rt:90:21
 sub-line-fine-5 : tie.Need-sub-line-fine-5
 sub-line-fine-5 c = search needs
 
--- src/holding.rt:90:21
 part-line-fine-start-5 : tie.Need-part-line-fine-start-5
 part-line-fine-start-5 c = search needs
 
--- src/holding.rt:90:21
 part-line-fine-end-5 : tie.Need-part-line-fine-end-5
 part-line-fine-end-5 c = search needs
 
--- src/holding.rt:90:11
 line-fine-requires-5 : tie.Need-line-fine-requires-5
 line-fine-requires-5 c κs = search needs
 
--- src/holding.rt:91:21
 sub-line-fine-6 : tie.Need-sub-line-fine-6
 sub-line-fine-6 c = search needs
 
--- src/holding.rt:91:21
 part-line-fine-start-6 : tie.Need-part-line-fine-start-6
 part-line-fine-start-6 c = search needs
 
--- src/holding.rt:91:21
 part-line-fine-end-6 : tie.Need-part-line-fine-end-6
 part-line-fine-end-6 c = search needs
 
--- src/holding.rt:91:11
 line-fine-requires-6 : tie.Need-line-fine-requires-6
 line-fine-requires-6 c κs = search needs
 
--- src/holding.rt:81:1
 returns : tie.Need-returns
 returns c = simp (c .before .before .before .before .before .before .before .before .before .before .before .before .registers-fine .ensures, c .before .before .before .before .before .before .before .before .before .before .before .before .before .registers-at .ensures, c .before .before .before .before .before .before .before .before .before .before .line-fine .ensures, c .before .before .before .before .before .before .before .before .line-fine2 .ensures, c .before .before .before .before .before .before .line-fine3 .ensures, c .before .before .before .before .line-fine4 .ensures, c .before .before .line-fine5 .ensures, c .line-fine6 .ensures)
 

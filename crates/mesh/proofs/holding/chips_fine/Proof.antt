@@ -11,9 +11,6 @@ use Rattle.links.specs.Words.{part}
 use Rattle.mesh.specs.Holding.{chipFine, chipsFine}
 use Rattle.mesh.proofs.holding.chips_fine.Statement.{statement}
 use Rattle.mesh.proofs.holding.chips_fine.Tie as tie
-use Rattle.mesh.proofs.holding.chips_fine.Reads as reads
-use Rattle.mesh.proofs.holding.chips_fine.Lts as lts
-use Rattle.mesh.proofs.holding.chip_fine.Reads as chip-fine-reads
 
 abbrev Inv-loop : tie.InvT-loop
 Inv-loop mesh count i₀ i = (i ≤ count) × (chipsFine 0 count mesh ≡ chipsFine i (count - i) mesh)
@@ -21,45 +18,35 @@ Inv-loop mesh count i₀ i = (i ≤ count) × (chipsFine 0 count mesh ≡ chipsF
 abbrev μ-loop : tie.MeasureT-loop
 μ-loop mesh count i₀ i = count - i
 
--- src/holding.rt:99:5
 loop-holds : tie.Need-loop-holds Inv-loop μ-loop
 loop-holds c = (omega arith, ap (λ (k : ℕ). chipsFine 0 k (c .before .args .mesh .now)) (sym (sub-zero (c .before .args .count))))
 
--- src/holding.rt:100:22
 mul-at : tie.Need-mul-at Inv-loop μ-loop
 mul-at c = omega (arith, c .before .before .before .pre)
 
--- src/holding.rt:100:18
 add-at : tie.Need-add-at Inv-loop μ-loop
 add-at c = omega (arith, c .before .before .before .pre)
 
--- src/holding.rt:101:33
 add-chip-fine : tie.Need-add-chip-fine Inv-loop μ-loop
 add-chip-fine c = omega (arith, c .before .before .before .pre)
 
--- src/holding.rt:101:23
 mul-chip-fine : tie.Need-mul-chip-fine Inv-loop μ-loop
 mul-chip-fine c = omega (arith, c .before .before .before .pre)
 
--- src/holding.rt:101:23
 sub-chip-fine : tie.Need-sub-chip-fine Inv-loop μ-loop
 sub-chip-fine c = omega (arith, c .before .before .before .pre)
 
--- src/holding.rt:101:23
 part-chip-fine-start : tie.Need-part-chip-fine-start Inv-loop μ-loop
 part-chip-fine-start c = omega (arith, c .before .before .before .pre)
 
--- src/holding.rt:101:23
 part-chip-fine-end : tie.Need-part-chip-fine-end Inv-loop μ-loop
 part-chip-fine-end c = omega (arith, c .before .before .before .pre)
 
--- src/holding.rt:101:13
 chip-fine-requires : tie.Need-chip-fine-requires Inv-loop μ-loop
 chip-fine-requires c κs =
     let i = c .before .before .loop .i in
     rw (add-sub-cancel-left (6 + i * 322) 322) (length-take-le 322 (drop (6 + i * 322) (c .before .before .before .before .args .mesh .now)) (simp length-drop (omega (arith, c .before .before .before .before .pre))))
 
--- src/holding.rt:102:13
 returns : tie.Need-returns Inv-loop μ-loop
 returns c =
     let at = c .before .before .before .before .loop in
@@ -68,15 +55,12 @@ returns c =
     let bad : chipFine (part (6 + at .i * 322) 322 l) ≡ false = sym (rw (add-sub-cancel-left (6 + at .i * 322) 322) at (c .before .chip-fine .ensures)) ∙ not-true _ (c .if1 .taken) in
     sym (at .inv .1 ∙ chips-step n (at .i) l (c .before .before .before .loop-test .taken) ∙ ap (λ (x : Bool). x && chipsFine (at .i + 1) (n - (at .i + 1)) l) bad)
 
--- src/holding.rt:104:9
 add-i : tie.Need-add-i Inv-loop μ-loop
 add-i c = omega arith
 
--- src/holding.rt:99:5
 loop-less : tie.Need-loop-less Inv-loop μ-loop
 loop-less c = omega arith
 
--- src/holding.rt:99:5
 loop-again : tie.Need-loop-again Inv-loop μ-loop
 loop-again c =
     let at = c .before .before .before .before .loop in
@@ -85,7 +69,6 @@ loop-again c =
     let good : chipFine (part (6 + at .i * 322) 322 l) ≡ true = sym (rw (add-sub-cancel-left (6 + at .i * 322) 322) at (c .before .chip-fine .ensures)) ∙ not-false _ (c .if1 .left) in
     (omega arith, at .inv .1 ∙ chips-step n (at .i) l (c .before .before .before .loop-test .taken) ∙ ap (λ (x : Bool). x && chipsFine (at .i + 1) (n - (at .i + 1)) l) good)
 
--- src/holding.rt:94:1
 returns-2 : tie.Need-returns-2 Inv-loop μ-loop
 returns-2 c = sym (c .before .loop .inv .1 ∙ chips-end _ _ _ _ (c .loop-test .left))
 

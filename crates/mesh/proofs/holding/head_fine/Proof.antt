@@ -1,48 +1,34 @@
 use borrow.Author.Needs.{needs}
 use Rattle.mesh.proofs.holding.head_fine.Statement.{statement}
 use Rattle.mesh.proofs.holding.head_fine.Tie as tie
-use Rattle.mesh.proofs.holding.head_fine.Reads as reads
-use Rattle.mesh.proofs.holding.head_fine.Lts as lts
-use Rattle.mesh.proofs.opening.rounds_fine.Reads as rounds-fine-reads
-use Rattle.router.proofs.call.size_fine.Reads as size-fine-reads
 
--- src/holding.rt:113:15
 shared-slice-read-size-fine : tie.Need-shared-slice-read-size-fine
 shared-slice-read-size-fine c = search needs
 
--- src/holding.rt:113:24
 shared-slice-read-size-fine-2 : tie.Need-shared-slice-read-size-fine-2
 shared-slice-read-size-fine-2 c = search needs
 
--- src/holding.rt:113:5
 size-fine-requires : tie.Need-size-fine-requires
 size-fine-requires c κs = search needs
 
--- src/holding.rt:114:23
 shared-slice-read-rounds-fine : tie.Need-shared-slice-read-rounds-fine
 shared-slice-read-rounds-fine c = search needs
 
--- src/holding.rt:114:11
 rounds-fine-requires : tie.Need-rounds-fine-requires
 rounds-fine-requires c κs = search needs
 
--- src/holding.rt:115:12
 shared-slice-read-result : tie.Need-shared-slice-read-result
 shared-slice-read-result c = search needs
 
--- src/holding.rt:116:12
 shared-slice-read-result-2 : tie.Need-shared-slice-read-result-2
 shared-slice-read-result-2 c = search needs
 
--- src/holding.rt:117:12
 shared-slice-read-result-3 : tie.Need-shared-slice-read-result-3
 shared-slice-read-result-3 c = search needs
 
--- src/holding.rt:117:22
 shared-slice-read-result-4 : tie.Need-shared-slice-read-result-4
 shared-slice-read-result-4 c = search needs
 
--- src/holding.rt:109:1
 returns : tie.Need-returns
 returns c = simp (c .before .before .before .before .before .before .size-fine .ensures, c .before .before .before .before .rounds-fine .ensures)
 

@@ -6,62 +6,43 @@ use Rattle.mesh.proofs.FineSteps.{head-size}
 use Rattle.mesh.specs.Holding.{chipsFine}
 use Rattle.mesh.proofs.holding.holds.Statement.{statement}
 use Rattle.mesh.proofs.holding.holds.Tie as tie
-use Rattle.mesh.proofs.holding.holds.Reads as reads
-use Rattle.mesh.proofs.holding.holds.Lts as lts
-use Rattle.mesh.proofs.holding.chips_fine.Reads as chips-fine-reads
-use Rattle.mesh.proofs.holding.head_fine.Reads as head-fine-reads
-use Rattle.mesh.proofs.opening.words_for.Reads as words-for-reads
-use Rattle.router.proofs.call.chips.Reads as chips-reads
 
--- src/holding.rt:125:9
 returns : tie.Need-returns
 returns c = simp (lt-leb _ _ (c .if1 .taken))
 
--- src/holding.rt:127:9
 head-fine-requires : tie.Need-head-fine-requires
 head-fine-requires c κs = search needs
 
--- src/holding.rt:128:9
 returns-2 : tie.Need-returns-2
 returns-2 c = simp (le-leb _ _ (c .before .before .if1 .left), sym (c .before .head-fine .ensures) ∙ not-true _ (c .if2 .taken))
 
--- src/holding.rt:130:32
 shared-slice-read-words-for : tie.Need-shared-slice-read-words-for
 shared-slice-read-words-for c = search needs
 
--- src/holding.rt:130:41
 shared-slice-read-words-for-2 : tie.Need-shared-slice-read-words-for-2
 shared-slice-read-words-for-2 c = search needs
 
--- src/holding.rt:130:22
 words-for-requires : tie.Need-words-for-requires
 words-for-requires c κs = head-size (c .before .before .before .before .before .before .args .mesh .now) (sym (c .before .before .before .head-fine .ensures) ∙ not-false _ (c .before .before .if2 .left))
 
--- src/holding.rt:130:22
 cast-if3 : tie.Need-cast-if3
 cast-if3 c = search needs
 
--- src/holding.rt:131:9
 returns-3 : tie.Need-returns-3
 returns-3 c = simp (le-leb _ _ (c .before .before .before .before .before .before .if1 .left), sym (c .before .before .before .before .before .head-fine .ensures) ∙ not-false _ (c .before .before .before .before .if2 .left), lt-leb _ _ (rw (c .before .words-for .ensures) at (c .if3 .taken)))
 
--- src/holding.rt:133:28
 shared-slice-read-chips : tie.Need-shared-slice-read-chips
 shared-slice-read-chips c = search needs
 
--- src/holding.rt:133:37
 shared-slice-read-chips-2 : tie.Need-shared-slice-read-chips-2
 shared-slice-read-chips-2 c = search needs
 
--- src/holding.rt:133:22
 chips-requires : tie.Need-chips-requires
 chips-requires c κs = head-size (c .before .before .before .before .before .before .before .before .before .before .args .mesh .now) (sym (c .before .before .before .before .before .before .before .head-fine .ensures) ∙ not-false _ (c .before .before .before .before .before .before .if2 .left))
 
--- src/holding.rt:133:5
 chips-fine-requires : tie.Need-chips-fine-requires
 chips-fine-requires c κs = search needs
 
--- src/holding.rt:121:1
 returns-4 : tie.Need-returns-4
 returns-4 c =
     c .chips-fine .ensures ∙ ap (λ (n : ℕ). chipsFine 0 n (c .before .before .before .before .before .before .before .before .before .before .before .before .args .mesh .now)) (c .before .chips .ensures)

@@ -3,39 +3,28 @@ use mathlib.Core.Path.{_∙_}
 use borrow.Author.Tests.{le-leb, lt-leb}
 use Rattle.mesh.proofs.holding.line_fine.Statement.{statement}
 use Rattle.mesh.proofs.holding.line_fine.Tie as tie
-use Rattle.mesh.proofs.holding.line_fine.Reads as reads
-use Rattle.mesh.proofs.holding.line_fine.Lts as lts
-use Rattle.mesh.proofs.holding.places_fine.Reads as places-fine-reads
 
--- src/holding.rt:44:12
 shared-slice-read-if1 : tie.Need-shared-slice-read-if1
 shared-slice-read-if1 c = search needs
 
--- src/holding.rt:45:9
 returns : tie.Need-returns
 returns c = simp (lt-leb _ _ (c .if1 .taken))
 
--- src/holding.rt:47:12
 shared-slice-read-if2 : tie.Need-shared-slice-read-if2
 shared-slice-read-if2 c = search needs
 
--- src/holding.rt:48:9
 returns-2 : tie.Need-returns-2
 returns-2 c = simp (le-leb _ _ (c .before .before .if1 .left), lt-leb _ _ (c .if2 .taken))
 
--- src/holding.rt:50:23
 shared-slice-read-places-fine : tie.Need-shared-slice-read-places-fine
 shared-slice-read-places-fine c = search needs
 
--- src/holding.rt:50:23
 cast-places-fine : tie.Need-cast-places-fine
 cast-places-fine c = search needs
 
--- src/holding.rt:50:5
 places-fine-requires : tie.Need-places-fine-requires
 places-fine-requires c κs = search needs
 
--- src/holding.rt:40:1
 returns-3 : tie.Need-returns-3
 returns-3 c = c .places-fine .ensures ∙ simp (le-leb _ _ (c .before .before .before .before .if1 .left), le-leb _ _ (c .before .before .if2 .left))
 

@@ -11,10 +11,6 @@ use Rattle.mesh.specs.Holding.{packetFine, placesFine}
 use Rattle.links.specs.Words.{packetIn}
 use Rattle.mesh.proofs.holding.places_fine.Statement.{statement}
 use Rattle.mesh.proofs.holding.places_fine.Tie as tie
-use Rattle.mesh.proofs.holding.places_fine.Reads as reads
-use Rattle.mesh.proofs.holding.places_fine.Lts as lts
-use Rattle.mesh.proofs.holding.packet_fine.Reads as packet-fine-reads
-use Rattle.links.proofs.line.packet_at.Reads as packet-at-reads
 
 abbrev Inv-loop : tie.InvT-loop
 Inv-loop line count i₀ i = (i ≤ count) × (placesFine count (drop 2 line) ≡ placesFine (count - i) (drop (2 + i * 3) line))
@@ -22,27 +18,21 @@ Inv-loop line count i₀ i = (i ≤ count) × (placesFine count (drop 2 line) �
 abbrev μ-loop : tie.MeasureT-loop
 μ-loop line count i₀ i = count - i
 
--- src/holding.rt:31:5
 loop-holds : tie.Need-loop-holds Inv-loop μ-loop
 loop-holds c = (omega arith, ap (λ (k : ℕ). placesFine k (drop 2 (c .before .args .line .now))) (sym (sub-zero (c .before .args .count))))
 
--- src/holding.rt:32:45
 mul-packet-at : tie.Need-mul-packet-at Inv-loop μ-loop
 mul-packet-at c = omega arith
 
--- src/holding.rt:32:41
 add-packet-at : tie.Need-add-packet-at Inv-loop μ-loop
 add-packet-at c = omega (arith, c .before .before .before .pre)
 
--- src/holding.rt:32:25
 packet-at-requires : tie.Need-packet-at-requires Inv-loop μ-loop
 packet-at-requires c κs = omega (arith, c .before .before .before .pre)
 
--- src/holding.rt:32:13
 packet-fine-requires : tie.Need-packet-fine-requires Inv-loop μ-loop
 packet-fine-requires c κs = search needs
 
--- src/holding.rt:33:13
 returns : tie.Need-returns Inv-loop μ-loop
 returns c =
     let at = c .before .before .before .before .loop in
@@ -51,15 +41,12 @@ returns c =
     let bad : packetFine (packetIn (drop (2 + at .i * 3) l)) ≡ false = sym (c .before .packet-fine .ensures ∙ ap packetFine (c .before .before .packet-at .ensures)) ∙ not-true _ (c .if1 .taken) in
     sym (at .inv .1 ∙ places-step n (at .i) l (c .before .before .before .loop-test .taken) ∙ simp bad)
 
--- src/holding.rt:35:9
 add-i : tie.Need-add-i Inv-loop μ-loop
 add-i c = omega arith
 
--- src/holding.rt:31:5
 loop-less : tie.Need-loop-less Inv-loop μ-loop
 loop-less c = omega arith
 
--- src/holding.rt:31:5
 loop-again : tie.Need-loop-again Inv-loop μ-loop
 loop-again c =
     let at = c .before .before .before .before .loop in
@@ -68,7 +55,6 @@ loop-again c =
     let good : packetFine (packetIn (drop (2 + at .i * 3) l)) ≡ true = sym (c .before .packet-fine .ensures ∙ ap packetFine (c .before .before .packet-at .ensures)) ∙ not-false _ (c .if1 .left) in
     (omega arith, at .inv .1 ∙ places-step n (at .i) l (c .before .before .before .loop-test .taken) ∙ simp good)
 
--- src/holding.rt:26:1
 returns-2 : tie.Need-returns-2 Inv-loop μ-loop
 returns-2 c = sym (c .before .loop .inv .1 ∙ places-end _ _ _ (c .loop-test .left))
 

@@ -6,98 +6,73 @@ use lib.ListN.{length-set}
 use Rattle.mesh.proofs.Logs.{logged-none, logged-one}
 use Rattle.mesh.proofs.logging.write_record.Statement.{statement}
 use Rattle.mesh.proofs.logging.write_record.Tie as tie
-use Rattle.mesh.proofs.logging.write_record.Reads as reads
-use Rattle.mesh.proofs.logging.write_record.Lts as lts
 
--- src/logging.rt:14:9
 returns : tie.Need-returns
 returns c = simp (lt-ltb _ _ (c .if1 .taken)) (logged-none _ _)
 
--- src/logging.rt:16:14
 mul-at : tie.Need-mul-at
 mul-at c = search needs
 
--- src/logging.rt:18:15
 cast-log : tie.Need-cast-log
 cast-log c = search needs
 
--- src/logging.rt:18:5
 mul-log : tie.Need-mul-log
 mul-log c = search needs
 
--- src/logging.rt:18:5
 slice-write-log : tie.Need-slice-write-log
 slice-write-log c = search needs
 
--- src/logging.rt:19:9
 add-log : tie.Need-add-log
 add-log c = search needs
 
--- src/logging.rt:19:5
 mul-log-2 : tie.Need-mul-log-2
 mul-log-2 c = search needs
 
--- src/logging.rt:19:5
 slice-write-log-2 : tie.Need-slice-write-log-2
 slice-write-log-2 c = simp length-set (omega (arith, c .before .before .before .before .pre .0))
 
--- src/logging.rt:20:9
 add-log-2 : tie.Need-add-log-2
 add-log-2 c = search needs
 
--- src/logging.rt:20:5
 mul-log-3 : tie.Need-mul-log-3
 mul-log-3 c = search needs
 
--- src/logging.rt:20:5
 slice-write-log-3 : tie.Need-slice-write-log-3
 slice-write-log-3 c = simp length-set (omega (arith, c .before .before .before .before .pre .0))
 
--- src/logging.rt:21:9
 add-log-3 : tie.Need-add-log-3
 add-log-3 c = search needs
 
--- src/logging.rt:21:5
 mul-log-4 : tie.Need-mul-log-4
 mul-log-4 c = search needs
 
--- src/logging.rt:21:5
 slice-write-log-4 : tie.Need-slice-write-log-4
 slice-write-log-4 c = simp length-set (omega (arith, c .before .before .before .before .pre .0))
 
--- src/logging.rt:22:9
 add-log-4 : tie.Need-add-log-4
 add-log-4 c = search needs
 
--- src/logging.rt:22:5
 mul-log-5 : tie.Need-mul-log-5
 mul-log-5 c = search needs
 
--- src/logging.rt:22:5
 slice-write-log-5 : tie.Need-slice-write-log-5
 slice-write-log-5 c = simp length-set (omega (arith, c .before .before .before .before .pre .0))
 
--- src/logging.rt:23:9
 add-log-5 : tie.Need-add-log-5
 add-log-5 c = search needs
 
--- src/logging.rt:23:5
 mul-log-6 : tie.Need-mul-log-6
 mul-log-6 c = search needs
 
--- src/logging.rt:23:5
 slice-write-log-6 : tie.Need-slice-write-log-6
 slice-write-log-6 c = simp length-set (omega (arith, c .before .before .before .before .pre .0))
 
--- src/logging.rt:24:5
 add-result : tie.Need-add-result
 add-result c = search needs
 
--- src/logging.rt:9:1
 same-length : tie.Need-same-length
 same-length c = search needs
 
--- src/logging.rt:9:1
 returns-2 : tie.Need-returns-2
 returns-2 c =
     let a = c .before .before .before .before .args in

@@ -5,32 +5,22 @@ use Rattle.mesh.specs.Calls.{bit}
 use Rattle.links.proofs.Places.{length-places}
 use Rattle.mesh.proofs.looking.look_line.Statement.{statement}
 use Rattle.mesh.proofs.looking.look_line.Tie as tie
-use Rattle.mesh.proofs.looking.look_line.Reads as reads
-use Rattle.mesh.proofs.looking.look_line.Lts as lts
-use Rattle.links.proofs.line.is_ready.Reads as is-ready-reads
-use Rattle.steps.proofs.errors.flag_of.Reads as flag-of-reads
 
--- src/looking.rt:88:21
 shared-slice-read-flag-of : tie.Need-shared-slice-read-flag-of
 shared-slice-read-flag-of c = search needs
 
--- src/looking.rt:88:13
 flag-of-requires : tie.Need-flag-of-requires
 flag-of-requires c κs = search needs
 
--- src/looking.rt:89:15
 shared-slice-read-t7 : tie.Need-shared-slice-read-t7
 shared-slice-read-t7 c = search needs
 
--- src/looking.rt:90:24
 is-ready-requires : tie.Need-is-ready-requires
 is-ready-requires c κs = search needs
 
--- src/looking.rt:90:16
 flag-of-requires-2 : tie.Need-flag-of-requires-2
 flag-of-requires-2 c κs = search needs
 
--- src/looking.rt:82:1
 returns : tie.Need-returns
 returns c =
     let l = c .before .before .before .before .before .before .args .line .now in

@@ -6,66 +6,48 @@ use native.Mathlib.Omega.{arith}
 use Rattle.mesh.proofs.Looks.{number-there, link-refused, link-found}
 use Rattle.mesh.proofs.looking.look_link.Statement.{statement}
 use Rattle.mesh.proofs.looking.look_link.Tie as tie
-use Rattle.mesh.proofs.looking.look_link.Reads as reads
-use Rattle.mesh.proofs.looking.look_link.Lts as lts
-use Rattle.mesh.proofs.looking.look_line.Reads as look-line-reads
-use Rattle.mesh.proofs.refusing.number_refusal.Reads as number-refusal-reads
 
--- src/looking.rt:69:9
 number-refusal-requires : tie.Need-number-refusal-requires
 number-refusal-requires c κs = search needs
 
--- src/looking.rt:71:9
 returns : tie.Need-returns
 returns c = link-refused (c .before .before .before .args .mesh .now) (c .before .before .before .args .chip) (c .before .before .before .args .link) _ (c .before .number-refusal .ensures) (c .if1 .taken)
 
--- src/looking.rt:78:18
 mul-at : tie.Need-mul-at
 mul-at c = search needs
 
--- src/looking.rt:78:14
 add-at : tie.Need-add-at
 add-at c = search needs
 
--- src/looking.rt:78:48
 mul-at-2 : tie.Need-mul-at-2
 mul-at-2 c = search needs
 
--- src/looking.rt:78:43
 add-at-2 : tie.Need-add-at-2
 add-at-2 c = search needs
 
--- src/looking.rt:78:14
 add-at-3 : tie.Need-add-at-3
 add-at-3 c = search needs
 
--- src/looking.rt:79:25
 add-look-line : tie.Need-add-look-line
 add-look-line c = search needs
 
--- src/looking.rt:79:15
 mul-look-line : tie.Need-mul-look-line
 mul-look-line c = search needs
 
--- src/looking.rt:79:15
 sub-look-line : tie.Need-sub-look-line
 sub-look-line c = search needs
 
--- src/looking.rt:79:15
 part-look-line-start : tie.Need-part-look-line-start
 part-look-line-start c = search needs
 
--- src/looking.rt:79:15
 part-look-line-end : tie.Need-part-look-line-end
 part-look-line-end c =
     let h = number-there (c .before .before .before .args .mesh .now) (c .before .before .before .args .chip) (c .before .before .before .args .link) 6 (sym (c .before .number-refusal .ensures) ∙ c .if1 .left) in
     omega (arith, h .0 .fits, h .1)
 
--- src/looking.rt:79:5
 look-line-requires : tie.Need-look-line-requires
 look-line-requires c κs = search needs
 
--- src/looking.rt:66:1
 returns-2 : tie.Need-returns-2
 returns-2 c =
     let at = 6 + c .before .before .before .before .before .args .chip * 322 + (16 + c .before .before .before .before .before .args .link * 51) in

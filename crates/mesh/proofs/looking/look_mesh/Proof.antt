@@ -6,61 +6,43 @@ use Rattle.mesh.proofs.Counts.{holds-size, words-enough}
 use Rattle.mesh.proofs.Looks.{mesh-found}
 use Rattle.mesh.proofs.looking.look_mesh.Statement.{statement}
 use Rattle.mesh.proofs.looking.look_mesh.Tie as tie
-use Rattle.mesh.proofs.looking.look_mesh.Reads as reads
-use Rattle.mesh.proofs.looking.look_mesh.Lts as lts
-use Rattle.mesh.proofs.flight.in_flight.Reads as in-flight-reads
-use Rattle.mesh.proofs.holding.holds.Reads as holds-reads
-use Rattle.router.proofs.call.chips.Reads as chips-reads
 
--- src/looking.rt:39:9
 holds-requires : tie.Need-holds-requires
 holds-requires c κs = search needs
 
--- src/looking.rt:40:9
 returns : tie.Need-returns
 returns c = simp (sym (c .before .holds .ensures) ∙ not-true _ (c .if1 .taken))
 
--- src/looking.rt:51:21
 shared-slice-read-chips : tie.Need-shared-slice-read-chips
 shared-slice-read-chips c = omega (arith, words-enough (c .before .before .before .before .args .mesh .now) (sym (c .before .before .holds .ensures) ∙ not-false _ (c .before .if1 .left)))
 
--- src/looking.rt:51:30
 shared-slice-read-chips-2 : tie.Need-shared-slice-read-chips-2
 shared-slice-read-chips-2 c = omega (arith, words-enough (c .before .before .before .before .before .args .mesh .now) (sym (c .before .before .before .holds .ensures) ∙ not-false _ (c .before .before .if1 .left)))
 
--- src/looking.rt:51:9
 chips-requires : tie.Need-chips-requires
 chips-requires c κs = holds-size (c .before .before .before .before .before .args .mesh .now) (sym (c .before .before .before .holds .ensures) ∙ not-false _ (c .before .before .if1 .left))
 
--- src/looking.rt:54:16
 shared-slice-read-t6 : tie.Need-shared-slice-read-t6
 shared-slice-read-t6 c = omega (arith, words-enough (c .before .before .before .before .before .before .before .args .mesh .now) (sym (c .before .before .before .before .before .holds .ensures) ∙ not-false _ (c .before .before .before .before .if1 .left)))
 
--- src/looking.rt:55:17
 shared-slice-read-t8 : tie.Need-shared-slice-read-t8
 shared-slice-read-t8 c = omega (arith, words-enough (c .before .before .before .before .before .before .before .before .args .mesh .now) (sym (c .before .before .before .before .before .before .holds .ensures) ∙ not-false _ (c .before .before .before .before .before .if1 .left)))
 
--- src/looking.rt:56:27
 shared-slice-read-t12 : tie.Need-shared-slice-read-t12
 shared-slice-read-t12 c = omega (arith, words-enough (c .before .before .before .before .before .before .before .before .before .args .mesh .now) (sym (c .before .before .before .before .before .before .before .holds .ensures) ∙ not-false _ (c .before .before .before .before .before .before .if1 .left)))
 
--- src/looking.rt:57:18
 shared-slice-read-t14 : tie.Need-shared-slice-read-t14
 shared-slice-read-t14 c = omega (arith, words-enough (c .before .before .before .before .before .before .before .before .before .before .args .mesh .now) (sym (c .before .before .before .before .before .before .before .before .holds .ensures) ∙ not-false _ (c .before .before .before .before .before .before .before .if1 .left)))
 
--- src/looking.rt:58:16
 shared-slice-read-t16 : tie.Need-shared-slice-read-t16
 shared-slice-read-t16 c = omega (arith, words-enough (c .before .before .before .before .before .before .before .before .before .before .before .args .mesh .now) (sym (c .before .before .before .before .before .before .before .before .before .holds .ensures) ∙ not-false _ (c .before .before .before .before .before .before .before .before .if1 .left)))
 
--- src/looking.rt:59:26
 shared-slice-read-t18 : tie.Need-shared-slice-read-t18
 shared-slice-read-t18 c = omega (arith, words-enough (c .before .before .before .before .before .before .before .before .before .before .before .before .args .mesh .now) (sym (c .before .before .before .before .before .before .before .before .before .before .holds .ensures) ∙ not-false _ (c .before .before .before .before .before .before .before .before .before .if1 .left)))
 
--- src/looking.rt:60:20
 in-flight-requires : tie.Need-in-flight-requires
 in-flight-requires c κs = (sym (c .before .before .before .before .before .before .before .before .before .before .holds .ensures) ∙ not-false _ (c .before .before .before .before .before .before .before .before .before .if1 .left), c .before .before .before .before .before .before .chips .ensures)
 
--- src/looking.rt:36:1
 returns-2 : tie.Need-returns-2
 returns-2 c = mesh-found (c .before .before .before .before .before .before .before .before .before .before .before .before .before .args .mesh .now) (sym (c .before .before .before .before .before .before .before .before .before .before .before .holds .ensures) ∙ not-false _ (c .before .before .before .before .before .before .before .before .before .before .if1 .left)) (c .in-flight .result) (c .in-flight .ensures)
 

@@ -4,45 +4,33 @@ use native.Mathlib.Omega.{arith}
 use Rattle.mesh.proofs.Looks.{number-there, count-refused, count-found}
 use Rattle.mesh.proofs.looking.read_counter.Statement.{statement}
 use Rattle.mesh.proofs.looking.read_counter.Tie as tie
-use Rattle.mesh.proofs.looking.read_counter.Reads as reads
-use Rattle.mesh.proofs.looking.read_counter.Lts as lts
-use Rattle.mesh.proofs.refusing.number_refusal.Reads as number-refusal-reads
 
--- src/looking.rt:21:9
 number-refusal-requires : tie.Need-number-refusal-requires
 number-refusal-requires c κs = search needs
 
--- src/looking.rt:23:9
 returns : tie.Need-returns
 returns c = count-refused (c .before .before .before .args .mesh .now) (c .before .before .before .args .chip) (c .before .before .before .args .counter) _ (c .before .number-refusal .ensures) (c .if1 .taken)
 
--- src/looking.rt:28:18
 mul-at : tie.Need-mul-at
 mul-at c = search needs
 
--- src/looking.rt:28:14
 add-at : tie.Need-add-at
 add-at c = search needs
 
--- src/looking.rt:28:43
 add-at-2 : tie.Need-add-at-2
 add-at-2 c = search needs
 
--- src/looking.rt:28:14
 add-at-3 : tie.Need-add-at-3
 add-at-3 c = search needs
 
--- src/looking.rt:31:16
 mul-t7 : tie.Need-mul-t7
 mul-t7 c = search needs
 
--- src/looking.rt:31:16
 shared-slice-read-t13 : tie.Need-shared-slice-read-t13
 shared-slice-read-t13 c =
     let h = number-there (c .before .before .before .before .args .mesh .now) (c .before .before .before .before .args .chip) (c .before .before .before .before .args .counter) 10 (sym (c .before .before .number-refusal .ensures) ∙ c .before .if1 .left) in
     omega (arith, h .0 .fits, h .1)
 
--- src/looking.rt:18:1
 returns-2 : tie.Need-returns-2
 returns-2 c = count-found (c .before .before .before .before .args .mesh .now) (c .before .before .before .before .args .chip) (c .before .before .before .before .args .counter) _ (c .before .before .number-refusal .ensures) (c .before .if1 .left)
 

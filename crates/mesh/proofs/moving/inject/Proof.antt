@@ -4,47 +4,33 @@ use Rattle.mesh.specs.Going.{tablesOf}
 use Rattle.mesh.proofs.InjectCall.{inject-refused, taken-packet, inject-due, inject-leaves}
 use Rattle.mesh.proofs.moving.inject.Statement.{statement}
 use Rattle.mesh.proofs.moving.inject.Tie as tie
-use Rattle.mesh.proofs.moving.inject.Reads as reads
-use Rattle.mesh.proofs.moving.inject.Lts as lts
-use Rattle.mesh.proofs.going.pass_one.Reads as pass-one-reads
-use Rattle.mesh.proofs.refusing.inject_refusal.Reads as inject-refusal-reads
-use Rattle.packet.proofs.bytes.take.Reads as take-reads
 
--- src/moving.rt:33:9
 inject-refusal-requires : tie.Need-inject-refusal-requires
 inject-refusal-requires c κs = search needs
 
--- src/moving.rt:35:9
 same-length : tie.Need-same-length
 same-length c = search needs
 
--- src/moving.rt:35:9
 returns : tie.Need-returns
 returns c = inject-refused (tablesOf (c .before .before .before .before .before .before .before .before .before .args .rows .now) (c .before .before .before .before .before .before .before .before .before .args .starts .now) (c .before .before .before .before .before .before .before .before .before .args .codes .now)) (c .before .before .before .before .before .before .before .before .before .args .mesh .now) (c .before .before .before .before .before .before .before .before .before .args .log .now) (c .before .before .before .before .before .before .before .before .before .args .chip) (c .before .before .before .before .before .before .before .before .before .args .bytes .now) _ (c .before .inject-refusal .ensures) (c .if1 .taken)
 
--- src/moving.rt:40:9
 take-requires : tie.Need-take-requires
 take-requires c κs = search needs
 
--- src/moving.rt:42:9
 pass-one-requires : tie.Need-pass-one-requires
 pass-one-requires c κs =
     let whole = taken-packet (tablesOf (c .before .before .before .before .before .before .before .before .before .before .before .before .before .args .rows .now) (c .before .before .before .before .before .before .before .before .before .before .before .before .before .args .starts .now) (c .before .before .before .before .before .before .before .before .before .before .before .before .before .args .codes .now)) (c .before .before .before .before .before .before .before .before .before .before .before .before .before .args .mesh .now) (c .before .before .before .before .before .before .before .before .before .before .before .before .before .args .log .now) (c .before .before .before .before .before .before .before .before .before .before .before .before .before .args .chip) (c .before .before .before .before .before .before .before .before .before .before .before .before .before .args .bytes .now) (sym (c .before .before .before .before .before .inject-refusal .ensures) ∙ c .before .before .before .before .if1 .left) (c .before .before .before .take .result) (c .before .before .before .take .ensures) in
     rw whole (inject-due (tablesOf (c .before .before .before .before .before .before .before .before .before .before .before .before .before .args .rows .now) (c .before .before .before .before .before .before .before .before .before .before .before .before .before .args .starts .now) (c .before .before .before .before .before .before .before .before .before .before .before .before .before .args .codes .now)) (c .before .before .before .before .before .before .before .before .before .before .before .before .before .args .mesh .now) (c .before .before .before .before .before .before .before .before .before .before .before .before .before .args .log .now) (c .before .before .before .before .before .before .before .before .before .before .before .before .before .args .chip) (c .before .before .before .before .before .before .before .before .before .before .before .before .before .args .bytes .now) (sym (c .before .before .before .before .before .inject-refusal .ensures) ∙ c .before .before .before .before .if1 .left))
 
--- src/moving.rt:45:16
 cast-t20 : tie.Need-cast-t20
 cast-t20 c = search needs
 
--- src/moving.rt:20:1
 same-length-2 : tie.Need-same-length-2
 same-length-2 c = search needs
 
--- src/moving.rt:20:1
 same-length-3 : tie.Need-same-length-3
 same-length-3 c = search needs
 
--- src/moving.rt:20:1
 returns-2 : tie.Need-returns-2
 returns-2 c =
     let whole = taken-packet (tablesOf (c .before .before .before .before .before .before .before .before .before .before .before .before .before .before .before .before .before .before .args .rows .now) (c .before .before .before .before .before .before .before .before .before .before .before .before .before .before .before .before .before .before .args .starts .now) (c .before .before .before .before .before .before .before .before .before .before .before .before .before .before .before .before .before .before .args .codes .now)) (c .before .before .before .before .before .before .before .before .before .before .before .before .before .before .before .before .before .before .args .mesh .now) (c .before .before .before .before .before .before .before .before .before .before .before .before .before .before .before .before .before .before .args .log .now) (c .before .before .before .before .before .before .before .before .before .before .before .before .before .before .before .before .before .before .args .chip) (c .before .before .before .before .before .before .before .before .before .before .before .before .before .before .before .before .before .before .args .bytes .now) (sym (c .before .before .before .before .before .before .before .before .before .before .inject-refusal .ensures) ∙ c .before .before .before .before .before .before .before .before .before .if1 .left) (c .before .before .before .before .before .before .before .before .take .result) (c .before .before .before .before .before .before .before .before .take .ensures) in

@@ -7,66 +7,46 @@ use Rattle.mesh.proofs.Headers.{chips-kept}
 use Rattle.mesh.proofs.RoundCall.{round-holds, round-refused, round-due, over-requires, count-small, round-leaves}
 use Rattle.mesh.proofs.moving.round.Statement.{statement}
 use Rattle.mesh.proofs.moving.round.Tie as tie
-use Rattle.mesh.proofs.moving.round.Reads as reads
-use Rattle.mesh.proofs.moving.round.Lts as lts
-use Rattle.mesh.proofs.arriving.pass_chips.Reads as pass-chips-reads
-use Rattle.mesh.proofs.aside.set_aside.Reads as set-aside-reads
-use Rattle.mesh.proofs.moving.round_over.Reads as round-over-reads
-use Rattle.mesh.proofs.refusing.round_refusal.Reads as round-refusal-reads
-use Rattle.router.proofs.call.chips.Reads as chips-reads
 
--- src/moving.rt:56:9
 round-refusal-requires : tie.Need-round-refusal-requires
 round-refusal-requires c κs = search needs
 
--- src/moving.rt:58:9
 same-length : tie.Need-same-length
 same-length c = search needs
 
--- src/moving.rt:58:9
 returns : tie.Need-returns
 returns c = round-refused (tablesOf (c .before .before .before .before .before .before .before .before .args .rows .now) (c .before .before .before .before .before .before .before .before .args .starts .now) (c .before .before .before .before .before .before .before .before .args .codes .now)) (c .before .before .before .before .before .before .before .before .args .mesh .now) (c .before .before .before .before .before .before .before .before .args .log .now) _ (c .before .round-refusal .ensures) (c .if1 .taken)
 
--- src/moving.rt:63:21
 slice-read-chips : tie.Need-slice-read-chips
 slice-read-chips c = omega (arith, words-enough (c .before .before .before .before .before .before .before .before .before .args .mesh .now) (round-holds (tablesOf (c .before .before .before .before .before .before .before .before .before .args .rows .now) (c .before .before .before .before .before .before .before .before .before .args .starts .now) (c .before .before .before .before .before .before .before .before .before .args .codes .now)) (c .before .before .before .before .before .before .before .before .before .args .mesh .now) (c .before .before .before .before .before .before .before .before .before .args .log .now) (sym (c .before .before .round-refusal .ensures) ∙ c .before .if1 .left)))
 
--- src/moving.rt:63:30
 slice-read-chips-2 : tie.Need-slice-read-chips-2
 slice-read-chips-2 c = omega (arith, words-enough (c .before .before .before .before .before .before .before .before .before .before .args .mesh .now) (round-holds (tablesOf (c .before .before .before .before .before .before .before .before .before .before .args .rows .now) (c .before .before .before .before .before .before .before .before .before .before .args .starts .now) (c .before .before .before .before .before .before .before .before .before .before .args .codes .now)) (c .before .before .before .before .before .before .before .before .before .before .args .mesh .now) (c .before .before .before .before .before .before .before .before .before .before .args .log .now) (sym (c .before .before .before .round-refusal .ensures) ∙ c .before .before .if1 .left)))
 
--- src/moving.rt:63:9
 chips-requires : tie.Need-chips-requires
 chips-requires c κs = holds-size (c .before .before .before .before .before .before .before .before .before .before .args .mesh .now) (round-holds (tablesOf (c .before .before .before .before .before .before .before .before .before .before .args .rows .now) (c .before .before .before .before .before .before .before .before .before .before .args .starts .now) (c .before .before .before .before .before .before .before .before .before .before .args .codes .now)) (c .before .before .before .before .before .before .before .before .before .before .args .mesh .now) (c .before .before .before .before .before .before .before .before .before .before .args .log .now) (sym (c .before .before .before .round-refusal .ensures) ∙ c .before .before .if1 .left))
 
--- src/moving.rt:64:5
 set-aside-requires : tie.Need-set-aside-requires
 set-aside-requires c κs = rw (c .before .chips .ensures) (words-enough (c .before .before .before .before .before .before .before .before .before .before .before .before .args .mesh .now) (round-holds (tablesOf (c .before .before .before .before .before .before .before .before .before .before .before .before .args .rows .now) (c .before .before .before .before .before .before .before .before .before .before .before .before .args .starts .now) (c .before .before .before .before .before .before .before .before .before .before .before .before .args .codes .now)) (c .before .before .before .before .before .before .before .before .before .before .before .before .args .mesh .now) (c .before .before .before .before .before .before .before .before .before .before .before .before .args .log .now) (sym (c .before .before .before .before .before .round-refusal .ensures) ∙ c .before .before .before .before .if1 .left)), few-held (c .before .before .before .before .before .before .before .before .before .before .before .before .args .mesh .now) (round-holds (tablesOf (c .before .before .before .before .before .before .before .before .before .before .before .before .args .rows .now) (c .before .before .before .before .before .before .before .before .before .before .before .before .args .starts .now) (c .before .before .before .before .before .before .before .before .before .before .before .before .args .codes .now)) (c .before .before .before .before .before .before .before .before .before .before .before .before .args .mesh .now) (c .before .before .before .before .before .before .before .before .before .before .before .before .args .log .now) (sym (c .before .before .before .before .before .round-refusal .ensures) ∙ c .before .before .before .before .if1 .left)))
 
--- src/moving.rt:65:9
 pass-chips-requires : tie.Need-pass-chips-requires
 pass-chips-requires c κs =
     let a = c .before .before .before .before .before .before .before .before .before .before .before .before .before .before .before .before .before .args in
     let u = rw (c .before .before .before .before .before .before .chips .ensures) at (c .before .before .before .before .set-aside .ensures) in
     rw (c .before .before .before .before .before .before .chips .ensures) (chips-kept (a .mesh .now) (c .before .before .before .before .set-aside .last .0) (u .head), round-due (tablesOf (c .before .before .before .before .before .before .before .before .before .before .before .before .before .before .before .before .before .args .rows .now) (c .before .before .before .before .before .before .before .before .before .before .before .before .before .before .before .before .before .args .starts .now) (c .before .before .before .before .before .before .before .before .before .before .before .before .before .before .before .before .before .args .codes .now)) (c .before .before .before .before .before .before .before .before .before .before .before .before .before .before .before .before .before .args .mesh .now) (c .before .before .before .before .before .before .before .before .before .before .before .before .before .before .before .before .before .args .log .now) (sym (c .before .before .before .before .before .before .before .before .before .before .round-refusal .ensures) ∙ c .before .before .before .before .before .before .before .before .before .if1 .left) _ u)
 
--- src/moving.rt:66:5
 round-over-requires : tie.Need-round-over-requires
 round-over-requires c κs = over-requires (tablesOf (c .before .before .before .before .before .before .before .before .before .before .before .before .before .before .before .before .before .before .before .before .before .before .before .args .rows .now) (c .before .before .before .before .before .before .before .before .before .before .before .before .before .before .before .before .before .before .before .before .before .before .before .args .starts .now) (c .before .before .before .before .before .before .before .before .before .before .before .before .before .before .before .before .before .before .before .before .before .before .before .args .codes .now)) (c .before .before .before .before .before .before .before .before .before .before .before .before .before .before .before .before .before .before .before .before .before .before .before .args .mesh .now) (c .before .before .before .before .before .before .before .before .before .before .before .before .before .before .before .before .before .before .before .before .before .before .before .args .log .now) (sym (c .before .before .before .before .before .before .before .before .before .before .before .before .before .before .before .before .round-refusal .ensures) ∙ c .before .before .before .before .before .before .before .before .before .before .before .before .before .before .before .if1 .left) _ (rw (c .before .before .before .before .before .before .before .before .before .before .before .before .chips .ensures) at (c .before .before .before .before .before .before .before .before .before .before .set-aside .ensures)) _ _ _ (rw (c .before .before .before .before .before .before .before .before .before .before .before .before .chips .ensures) at (c .before .before .before .before .before .pass-chips .ensures))
 
--- src/moving.rt:69:16
 cast-t14 : tie.Need-cast-t14
 cast-t14 c = omega (arith, count-small (tablesOf (c .before .before .before .before .before .before .before .before .before .before .before .before .before .before .before .before .before .before .before .before .before .before .before .before .before .before .args .rows .now) (c .before .before .before .before .before .before .before .before .before .before .before .before .before .before .before .before .before .before .before .before .before .before .before .before .before .before .args .starts .now) (c .before .before .before .before .before .before .before .before .before .before .before .before .before .before .before .before .before .before .before .before .before .before .before .before .before .before .args .codes .now)) (c .before .before .before .before .before .before .before .before .before .before .before .before .before .before .before .before .before .before .before .before .before .before .before .before .before .before .args .mesh .now) (c .before .before .before .before .before .before .before .before .before .before .before .before .before .before .before .before .before .before .before .before .before .before .before .before .before .before .args .log .now) (sym (c .before .before .before .before .before .before .before .before .before .before .before .before .before .before .before .before .before .before .before .round-refusal .ensures) ∙ c .before .before .before .before .before .before .before .before .before .before .before .before .before .before .before .before .before .before .if1 .left) _ (rw (c .before .before .before .before .before .before .before .before .before .before .before .before .before .before .before .chips .ensures) at (c .before .before .before .before .before .before .before .before .before .before .before .before .before .set-aside .ensures)) _ _ _ (rw (c .before .before .before .before .before .before .before .before .before .before .before .before .before .before .before .chips .ensures) at (c .before .before .before .before .before .before .before .before .pass-chips .ensures)))
 
--- src/moving.rt:51:1
 same-length-2 : tie.Need-same-length-2
 same-length-2 c = search needs
 
--- src/moving.rt:51:1
 same-length-3 : tie.Need-same-length-3
 same-length-3 c = search needs
 
--- src/moving.rt:51:1
 returns-2 : tie.Need-returns-2
 returns-2 c =
     rw (c .before .before .round-over .ensures) (round-leaves (tablesOf (c .before .before .before .before .before .before .before .before .before .before .before .before .before .before .before .before .before .before .before .before .before .before .before .before .before .before .args .rows .now) (c .before .before .before .before .before .before .before .before .before .before .before .before .before .before .before .before .before .before .before .before .before .before .before .before .before .before .args .starts .now) (c .before .before .before .before .before .before .before .before .before .before .before .before .before .before .before .before .before .before .before .before .before .before .before .before .before .before .args .codes .now)) (c .before .before .before .before .before .before .before .before .before .before .before .before .before .before .before .before .before .before .before .before .before .before .before .before .before .before .args .mesh .now) (c .before .before .before .before .before .before .before .before .before .before .before .before .before .before .before .before .before .before .before .before .before .before .before .before .before .before .args .log .now) (sym (c .before .before .before .before .before .before .before .before .before .before .before .before .before .before .before .before .before .before .before .round-refusal .ensures) ∙ c .before .before .before .before .before .before .before .before .before .before .before .before .before .before .before .before .before .before .if1 .left) _ (rw (c .before .before .before .before .before .before .before .before .before .before .before .before .before .before .before .chips .ensures) at (c .before .before .before .before .before .before .before .before .before .before .before .before .before .set-aside .ensures)) _ _ _ (rw (c .before .before .before .before .before .before .before .before .before .before .before .before .before .before .before .chips .ensures) at (c .before .before .before .before .before .before .before .before .pass-chips .ensures)))

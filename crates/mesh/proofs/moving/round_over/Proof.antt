@@ -7,55 +7,40 @@ use borrow.Author.Tests.{lt-ltb, le-ltb}
 use Rattle.links.specs.Phase.{nextPhase}
 use Rattle.mesh.proofs.moving.round_over.Statement.{statement}
 use Rattle.mesh.proofs.moving.round_over.Tie as tie
-use Rattle.mesh.proofs.moving.round_over.Reads as reads
-use Rattle.mesh.proofs.moving.round_over.Lts as lts
-use Rattle.links.proofs.phase.next_phase.Reads as next-phase-reads
 
--- src/moving.rt:77:16
 slice-read-next : tie.Need-slice-read-next
 slice-read-next c = search needs
 
--- src/moving.rt:77:16
 add-next : tie.Need-add-next
 add-next c = search needs
 
--- src/moving.rt:78:15
 slice-read-if1 : tie.Need-slice-read-if1
 slice-read-if1 c = search needs
 
--- src/moving.rt:79:9
 slice-write-mesh : tie.Need-slice-write-mesh
 slice-write-mesh c = search needs
 
--- src/moving.rt:81:9
 slice-write-mesh-2 : tie.Need-slice-write-mesh-2
 slice-write-mesh-2 c = search needs
 
--- src/moving.rt:82:30
 slice-read-next-phase : tie.Need-slice-read-next-phase
 slice-read-next-phase c = simp length-set (omega (arith, c .before .before .before .before .before .pre))
 
--- src/moving.rt:82:19
 next-phase-requires : tie.Need-next-phase-requires
 next-phase-requires c κs = search needs
 
--- src/moving.rt:82:9
 slice-write-mesh-3 : tie.Need-slice-write-mesh-3
 slice-write-mesh-3 c = simp length-set (omega (arith, c .before .before .before .before .before .before .pre))
 
--- src/moving.rt:73:1
 same-length : tie.Need-same-length
 same-length c = search needs
 
--- src/moving.rt:73:1
 returns : tie.Need-returns
 returns c = simp (lt-ltb _ _ (c .if1 .taken))
 
--- src/moving.rt:73:1
 same-length-2 : tie.Need-same-length-2
 same-length-2 c = search needs
 
--- src/moving.rt:73:1
 returns-2 : tie.Need-returns-2
 returns-2 c =
     let l = c .before .before .before .before .before .before .args .mesh .now in

@@ -6,8 +6,6 @@ use lib.ListN.{length, drop, set, replicate, length-set}
 use borrow.Author.Fill.{fill-none, fill-more}
 use Rattle.mesh.proofs.opening.clear.Statement.{statement}
 use Rattle.mesh.proofs.opening.clear.Tie as tie
-use Rattle.mesh.proofs.opening.clear.Reads as reads
-use Rattle.mesh.proofs.opening.clear.Lts as lts
 
 abbrev Inv-loop : tie.InvT-loop
 Inv-loop mesh₀ count i₀ mesh i = (i ≤ count) × ((length mesh ≡ length mesh₀) × (mesh ≡ replicate i 0 ++ drop i mesh₀))
@@ -15,38 +13,30 @@ Inv-loop mesh₀ count i₀ mesh i = (i ≤ count) × ((length mesh ≡ length m
 abbrev μ-loop : tie.MeasureT-loop
 μ-loop mesh₀ count i₀ mesh i = count - i
 
--- src/opening.rt:83:5
 loop-holds : tie.Need-loop-holds Inv-loop μ-loop
 loop-holds c = (omega arith, (refl, fill-none _ 0))
 
--- src/opening.rt:84:9
 mul-mesh : tie.Need-mul-mesh Inv-loop μ-loop
 mul-mesh c = omega arith
 
--- src/opening.rt:84:9
 slice-write-mesh : tie.Need-slice-write-mesh Inv-loop μ-loop
 slice-write-mesh c = omega (arith, c .before .before .pre)
 
--- src/opening.rt:85:9
 add-i : tie.Need-add-i Inv-loop μ-loop
 add-i c = omega arith
 
--- src/opening.rt:83:5
 loop-less : tie.Need-loop-less Inv-loop μ-loop
 loop-less c = omega arith
 
--- src/opening.rt:83:5
 loop-again : tie.Need-loop-again Inv-loop μ-loop
 loop-again c =
     let at = c .before .loop in
     let here : at .i < length (c .before .before .args .mesh .now) = omega (arith, c .before .before .pre) in
     (omega arith, (simp length-set (at .inv .1 .0), ap (λ (l : List ℕ). set l (at .i) 0) (at .inv .1 .1) ∙ fill-more (at .i) 0 (c .before .before .args .mesh .now) here))
 
--- src/opening.rt:78:1
 same-length : tie.Need-same-length Inv-loop μ-loop
 same-length c = c .before .loop .inv .1 .0
 
--- src/opening.rt:78:1
 returns : tie.Need-returns Inv-loop μ-loop
 returns c = let e : c .before .loop .i ≡ c .before .before .args .count = omega arith in rw e at (c .before .loop .inv .1 .1)
 

@@ -7,70 +7,49 @@ use lib.ListN.{drop, set, replicate, length-set}
 use borrow.Author.Tests.{lt-ltb, le-ltb, not-false}
 use Rattle.mesh.proofs.opening.open.Statement.{statement}
 use Rattle.mesh.proofs.opening.open.Tie as tie
-use Rattle.mesh.proofs.opening.open.Reads as reads
-use Rattle.mesh.proofs.opening.open.Lts as lts
-use Rattle.mesh.proofs.opening.clear.Reads as clear-reads
-use Rattle.mesh.proofs.opening.rounds_fine.Reads as rounds-fine-reads
-use Rattle.mesh.proofs.opening.words_for.Reads as words-for-reads
-use Rattle.router.proofs.call.size_fine.Reads as size-fine-reads
 
--- src/opening.rt:50:9
 size-fine-requires : tie.Need-size-fine-requires
 size-fine-requires c κs = search needs
 
--- src/opening.rt:51:9
 returns : tie.Need-returns
 returns c = (simp (rw (c .before .size-fine .ensures) at (c .if1 .taken)), refl)
 
--- src/opening.rt:53:9
 rounds-fine-requires : tie.Need-rounds-fine-requires
 rounds-fine-requires c κs = search needs
 
--- src/opening.rt:54:9
 returns-2 : tie.Need-returns-2
 returns-2 c = (simp (rw (c .before .before .before .size-fine .ensures) at (c .before .before .if1 .left), rw (c .before .rounds-fine .ensures) at (c .if2 .taken)), refl)
 
--- src/opening.rt:57:9
 returns-3 : tie.Need-returns-3
 returns-3 c = (simp (rw (c .before .before .before .before .size-fine .ensures) at (c .before .before .before .if1 .left), rw (c .before .before .rounds-fine .ensures) at (c .before .if2 .left), lt-ltb _ _ (c .if3 .taken)), refl)
 
--- src/opening.rt:59:18
 words-for-requires : tie.Need-words-for-requires
 words-for-requires c κs = sym (c .before .before .before .before .size-fine .ensures) ∙ not-false _ (c .before .before .before .if1 .left)
 
--- src/opening.rt:59:18
 cast-needed : tie.Need-cast-needed
 cast-needed c = search needs
 
--- src/opening.rt:61:9
 returns-4 : tie.Need-returns-4
 returns-4 c = (simp (rw (c .before .before .before .before .before .before .size-fine .ensures) at (c .before .before .before .before .before .if1 .left), rw (c .before .before .before .before .rounds-fine .ensures) at (c .before .before .before .if2 .left), le-ltb _ _ (c .before .before .if3 .left), lt-ltb _ _ (rw (c .before .words-for .ensures) at (c .if4 .taken))), refl)
 
--- src/opening.rt:63:5
 clear-requires : tie.Need-clear-requires
 clear-requires c κs = search needs
 
--- src/opening.rt:64:5
 slice-write-mesh : tie.Need-slice-write-mesh
 slice-write-mesh c = search needs
 
--- src/opening.rt:65:5
 slice-write-mesh-2 : tie.Need-slice-write-mesh-2
 slice-write-mesh-2 c = simp length-set (omega arith)
 
--- src/opening.rt:66:5
 slice-write-mesh-3 : tie.Need-slice-write-mesh-3
 slice-write-mesh-3 c = simp length-set (omega arith)
 
--- src/opening.rt:67:5
 slice-write-mesh-4 : tie.Need-slice-write-mesh-4
 slice-write-mesh-4 c = simp length-set (omega arith)
 
--- src/opening.rt:46:1
 same-length : tie.Need-same-length
 same-length c = search needs
 
--- src/opening.rt:46:1
 returns-5 : tie.Need-returns-5
 returns-5 c =
     let a = c .before .before .before .before .before .before .before .before .before .before .before .before .args in

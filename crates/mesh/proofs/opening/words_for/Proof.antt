@@ -3,22 +3,16 @@ use native.Mathlib.Omega.{arith}
 use Rattle.router.proofs.Inputs.{chips-small}
 use Rattle.mesh.proofs.opening.words_for.Statement.{statement}
 use Rattle.mesh.proofs.opening.words_for.Tie as tie
-use Rattle.mesh.proofs.opening.words_for.Reads as reads
-use Rattle.mesh.proofs.opening.words_for.Lts as lts
 
--- src/opening.rt:41:9
 mul-result : tie.Need-mul-result
 mul-result c = omega (arith, chips-small (c .args .width) (c .args .height) (c .pre))
 
--- src/opening.rt:41:9
 mul-result-2 : tie.Need-mul-result-2
 mul-result-2 c = omega (arith, chips-small (c .args .width) (c .args .height) (c .pre))
 
--- src/opening.rt:41:5
 add-result : tie.Need-add-result
 add-result c = omega (arith, chips-small (c .args .width) (c .args .height) (c .pre))
 
--- src/opening.rt:37:1
 returns : tie.Need-returns
 returns c = search needs
 

@@ -11,61 +11,43 @@ use Rattle.mesh.specs.Mesh.{readyOf}
 use Rattle.steps.specs.Deciding.{Checked, outcomeOf}
 use Rattle.mesh.proofs.passing.pass_at.Statement.{statement}
 use Rattle.mesh.proofs.passing.pass_at.Tie as tie
-use Rattle.mesh.proofs.passing.pass_at.Reads as reads
-use Rattle.mesh.proofs.passing.pass_at.Lts as lts
-use Rattle.mesh.proofs.chip.after.Reads as after-reads
-use Rattle.mesh.proofs.chip.ready_of.Reads as ready-of-reads
-use Rattle.steps.proofs.deciding.outcome_of.Reads as outcome-of-reads
 
--- src/passing.rt:17:18
 mul-at : tie.Need-mul-at
 mul-at c = search needs
 
--- src/passing.rt:17:14
 add-at : tie.Need-add-at
 add-at c = search needs
 
--- src/passing.rt:18:36
 add-ready-of : tie.Need-add-ready-of
 add-ready-of c = search needs
 
--- src/passing.rt:18:26
 mul-ready-of : tie.Need-mul-ready-of
 mul-ready-of c = search needs
 
--- src/passing.rt:18:26
 sub-ready-of : tie.Need-sub-ready-of
 sub-ready-of c = search needs
 
--- src/passing.rt:18:26
 part-ready-of-start : tie.Need-part-ready-of-start
 part-ready-of-start c = search needs
 
--- src/passing.rt:18:26
 part-ready-of-end : tie.Need-part-ready-of-end
 part-ready-of-end c = search needs
 
--- src/passing.rt:18:9
 ready-of-requires : tie.Need-ready-of-requires
 ready-of-requires c κs = search needs
 
--- src/passing.rt:20:16
 slice-read-t18 : tie.Need-slice-read-t18
 slice-read-t18 c = search needs
 
--- src/passing.rt:21:17
 slice-read-t20 : tie.Need-slice-read-t20
 slice-read-t20 c = search needs
 
--- src/passing.rt:22:18
 slice-read-t22 : tie.Need-slice-read-t22
 slice-read-t22 c = search needs
 
--- src/passing.rt:23:16
 slice-read-t24 : tie.Need-slice-read-t24
 slice-read-t24 c = search needs
 
--- src/passing.rt:26:9
 outcome-of-requires : tie.Need-outcome-of-requires
 outcome-of-requires c κs =
     let a = c .before .before .before .before .before .before .before .before .before .before .args in
@@ -76,27 +58,21 @@ outcome-of-requires c κs =
     let fine : Checked (a .p) (a .source) (a .codes .now) (settingIn l (a .chip)) = checked-at l (a .chip) (a .source) (a .p) (a .codes .now) r (source-near (a .source) (r .from)) in
     rw set fine
 
--- src/passing.rt:27:25
 add-after : tie.Need-add-after
 add-after c = search needs
 
--- src/passing.rt:27:11
 mul-after : tie.Need-mul-after
 mul-after c = search needs
 
--- src/passing.rt:27:11
 sub-after : tie.Need-sub-after
 sub-after c = search needs
 
--- src/passing.rt:27:11
 part-after-start : tie.Need-part-after-start
 part-after-start c = search needs
 
--- src/passing.rt:27:11
 part-after-end : tie.Need-part-after-end
 part-after-end c = search needs
 
--- src/passing.rt:27:5
 after-requires : tie.Need-after-requires
 after-requires c κs =
     let a = c .before .before .before .before .before .before .before .before .before .before .before .before .args in
@@ -109,11 +85,9 @@ after-requires c κs =
     c .before .outcome-of .ensures ∙ ap (λ (n : ℕ). outcomeOf (a .p) (a .source) (a .rows .now) (a .codes .now) (record { width = getD l 0 0; height = getD l 1 0; monitor = getD l 3 0; phase = getD l 4 0; ready = n })) set in
     rw (add-sub-cancel-left at 322, same) (takes (a .p) (a .source) (a .rows .now) (a .codes .now) (settingIn l (a .chip)) fine (r .from) (chipWords (a .chip) l) (chip-long l (a .chip) (r .fits)) refl)
 
--- src/passing.rt:12:1
 same-length : tie.Need-same-length
 same-length c = search needs
 
--- src/passing.rt:12:1
 returns : tie.Need-returns
 returns c =
     let a = c .before .before .before .before .before .before .before .before .before .before .before .before .before .before .before .args in

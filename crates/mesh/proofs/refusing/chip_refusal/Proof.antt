@@ -5,36 +5,25 @@ use borrow.Author.Tests.{lt-ltb, le-ltb, not-true, not-false}
 use Rattle.mesh.proofs.Counts.{holds-size, words-enough}
 use Rattle.mesh.proofs.refusing.chip_refusal.Statement.{statement}
 use Rattle.mesh.proofs.refusing.chip_refusal.Tie as tie
-use Rattle.mesh.proofs.refusing.chip_refusal.Reads as reads
-use Rattle.mesh.proofs.refusing.chip_refusal.Lts as lts
-use Rattle.mesh.proofs.holding.holds.Reads as holds-reads
-use Rattle.router.proofs.call.chips.Reads as chips-reads
 
--- src/refusing.rt:108:9
 holds-requires : tie.Need-holds-requires
 holds-requires c κs = search needs
 
--- src/refusing.rt:109:9
 returns : tie.Need-returns
 returns c = simp (sym (c .before .holds .ensures) ∙ not-true _ (c .if1 .taken))
 
--- src/refusing.rt:111:14
 shared-slice-read-chips : tie.Need-shared-slice-read-chips
 shared-slice-read-chips c = omega (arith, words-enough (c .before .before .before .before .args .mesh .now) (sym (c .before .before .holds .ensures) ∙ not-false _ (c .before .if1 .left)))
 
--- src/refusing.rt:111:23
 shared-slice-read-chips-2 : tie.Need-shared-slice-read-chips-2
 shared-slice-read-chips-2 c = omega (arith, words-enough (c .before .before .before .before .before .args .mesh .now) (sym (c .before .before .before .holds .ensures) ∙ not-false _ (c .before .before .if1 .left)))
 
--- src/refusing.rt:111:8
 chips-requires : tie.Need-chips-requires
 chips-requires c κs = holds-size (c .before .before .before .before .before .args .mesh .now) (sym (c .before .before .before .holds .ensures) ∙ not-false _ (c .before .before .if1 .left))
 
--- src/refusing.rt:112:9
 returns-2 : tie.Need-returns-2
 returns-2 c = simp (sym (c .before .before .before .before .before .holds .ensures) ∙ not-false _ (c .before .before .before .before .if1 .left), le-ltb _ _ (rw (c .before .chips .ensures) at (c .if2 .taken)))
 
--- src/refusing.rt:105:1
 returns-3 : tie.Need-returns-3
 returns-3 c = simp (sym (c .before .before .before .before .before .holds .ensures) ∙ not-false _ (c .before .before .before .before .if1 .left), lt-ltb _ _ (rw (c .before .chips .ensures) at (c .if2 .left)))
 

@@ -9,58 +9,41 @@ use Rattle.mesh.proofs.Counts.{holds-size, words-enough}
 use Rattle.mesh.proofs.Refusals.{inject-first}
 use Rattle.mesh.proofs.refusing.inject_refusal.Statement.{statement}
 use Rattle.mesh.proofs.refusing.inject_refusal.Tie as tie
-use Rattle.mesh.proofs.refusing.inject_refusal.Reads as reads
-use Rattle.mesh.proofs.refusing.inject_refusal.Lts as lts
-use Rattle.mesh.proofs.holding.holds.Reads as holds-reads
-use Rattle.mesh.proofs.refusing.packet_refusal.Reads as packet-refusal-reads
-use Rattle.mesh.proofs.refusing.tables_refusal.Reads as tables-refusal-reads
-use Rattle.router.proofs.call.chips.Reads as chips-reads
 
--- src/refusing.rt:33:9
 holds-requires : tie.Need-holds-requires
 holds-requires c κs = search needs
 
--- src/refusing.rt:34:9
 returns : tie.Need-returns
 returns c = simp (sym (c .before .holds .ensures) ∙ not-true _ (c .if1 .taken))
 
--- src/refusing.rt:36:21
 shared-slice-read-chips : tie.Need-shared-slice-read-chips
 shared-slice-read-chips c = omega (arith, words-enough (c .before .before .before .before .before .before .before .before .args .mesh .now) (sym (c .before .before .holds .ensures) ∙ not-false _ (c .before .if1 .left)))
 
--- src/refusing.rt:36:30
 shared-slice-read-chips-2 : tie.Need-shared-slice-read-chips-2
 shared-slice-read-chips-2 c = omega (arith, words-enough (c .before .before .before .before .before .before .before .before .before .args .mesh .now) (sym (c .before .before .before .holds .ensures) ∙ not-false _ (c .before .before .if1 .left)))
 
--- src/refusing.rt:36:9
 chips-requires : tie.Need-chips-requires
 chips-requires c κs = holds-size (c .before .before .before .before .before .before .before .before .before .args .mesh .now) (sym (c .before .before .before .holds .ensures) ∙ not-false _ (c .before .before .if1 .left))
 
--- src/refusing.rt:38:9
 returns-2 : tie.Need-returns-2
 returns-2 c = simp (sym (c .before .before .before .before .before .holds .ensures) ∙ not-false _ (c .before .before .before .before .if1 .left), le-ltb _ _ (rw (c .before .chips .ensures) at (c .if2 .taken)))
 
--- src/refusing.rt:40:9
 tables-refusal-requires : tie.Need-tables-refusal-requires
 tables-refusal-requires c κs = rw (c .before .chips .ensures) (chips-small _ _ (holds-size (c .before .before .before .before .before .before .before .before .before .before .before .args .mesh .now) (sym (c .before .before .before .before .before .holds .ensures) ∙ not-false _ (c .before .before .before .before .if1 .left))))
 
--- src/refusing.rt:42:9
 returns-3 : tie.Need-returns-3
 returns-3 c =
     let e = rw (c .before .before .before .chips .ensures) at (sym (c .before .tables-refusal .ensures)) in
     sym (inject-first (holdsMesh (c .before .before .before .before .before .before .before .before .before .before .before .before .before .args .mesh .now)) (chipsOf (c .before .before .before .before .before .before .before .before .before .before .before .before .before .args .mesh .now)) (c .before .before .before .before .before .before .before .before .before .before .before .before .before .args .chip) (tablesOf (c .before .before .before .before .before .before .before .before .before .before .before .before .before .args .rows .now) (c .before .before .before .before .before .before .before .before .before .before .before .before .before .args .starts .now) (c .before .before .before .before .before .before .before .before .before .before .before .before .before .args .codes .now)) (c .before .before .before .before .before .before .before .before .before .before .before .before .before .args .room) (c .before .before .before .before .before .before .before .before .before .before .before .before .before .args .bytes .now) ∙ simp (sym (c .before .before .before .before .before .before .before .holds .ensures) ∙ not-false _ (c .before .before .before .before .before .before .if1 .left), lt-ltb _ _ (rw (c .before .before .before .chips .ensures) at (c .before .before .if2 .left)), e, ne-eqb _ 0 (c .if3 .taken)))
 
--- src/refusing.rt:45:9
 returns-4 : tie.Need-returns-4
 returns-4 c =
     let e = rw (c .before .before .before .before .chips .ensures) at (sym (c .before .before .tables-refusal .ensures)) in
     sym (inject-first (holdsMesh (c .before .before .before .before .before .before .before .before .before .before .before .before .before .before .args .mesh .now)) (chipsOf (c .before .before .before .before .before .before .before .before .before .before .before .before .before .before .args .mesh .now)) (c .before .before .before .before .before .before .before .before .before .before .before .before .before .before .args .chip) (tablesOf (c .before .before .before .before .before .before .before .before .before .before .before .before .before .before .args .rows .now) (c .before .before .before .before .before .before .before .before .before .before .before .before .before .before .args .starts .now) (c .before .before .before .before .before .before .before .before .before .before .before .before .before .before .args .codes .now)) (c .before .before .before .before .before .before .before .before .before .before .before .before .before .before .args .room) (c .before .before .before .before .before .before .before .before .before .before .before .before .before .before .args .bytes .now) ∙ simp (sym (c .before .before .before .before .before .before .before .before .holds .ensures) ∙ not-false _ (c .before .before .before .before .before .before .before .if1 .left), lt-ltb _ _ (rw (c .before .before .before .before .chips .ensures) at (c .before .before .before .if2 .left)), e, eq-eqb _ 0 (c .before .if3 .left), lt-ltb _ _ (c .if4 .taken)))
 
--- src/refusing.rt:47:5
 packet-refusal-requires : tie.Need-packet-refusal-requires
 packet-refusal-requires c κs = search needs
 
--- src/refusing.rt:22:1
 returns-5 : tie.Need-returns-5
 returns-5 c =
     let e = rw (c .before .before .before .before .before .chips .ensures) at (sym (c .before .before .before .tables-refusal .ensures)) in

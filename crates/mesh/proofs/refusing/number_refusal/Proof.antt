@@ -6,23 +6,16 @@ use Rattle.mesh.specs.Going.{chipsOf}
 use Rattle.mesh.proofs.Refusals.{number-first}
 use Rattle.mesh.proofs.refusing.number_refusal.Statement.{statement}
 use Rattle.mesh.proofs.refusing.number_refusal.Tie as tie
-use Rattle.mesh.proofs.refusing.number_refusal.Reads as reads
-use Rattle.mesh.proofs.refusing.number_refusal.Lts as lts
-use Rattle.mesh.proofs.refusing.chip_refusal.Reads as chip-refusal-reads
 
--- src/refusing.rt:121:9
 chip-refusal-requires : tie.Need-chip-refusal-requires
 chip-refusal-requires c κs = search needs
 
--- src/refusing.rt:123:9
 returns : tie.Need-returns
 returns c = let e = sym (c .before .chip-refusal .ensures) in sym (number-first (holdsMesh (c .before .before .before .args .mesh .now)) (chipsOf (c .before .before .before .args .mesh .now)) (c .before .before .before .args .chip) (c .before .before .before .args .number) (c .before .before .before .args .end) ∙ simp (e, ne-eqb _ 0 (c .if1 .taken)))
 
--- src/refusing.rt:126:9
 returns-2 : tie.Need-returns-2
 returns-2 c = let e = sym (c .before .before .chip-refusal .ensures) in sym (number-first (holdsMesh (c .before .before .before .before .args .mesh .now)) (chipsOf (c .before .before .before .before .args .mesh .now)) (c .before .before .before .before .args .chip) (c .before .before .before .before .args .number) (c .before .before .before .before .args .end) ∙ simp (e, eq-eqb _ 0 (c .before .if1 .left), le-ltb _ _ (c .if2 .taken)))
 
--- src/refusing.rt:118:1
 returns-3 : tie.Need-returns-3
 returns-3 c = let e = sym (c .before .before .chip-refusal .ensures) in sym (number-first (holdsMesh (c .before .before .before .before .args .mesh .now)) (chipsOf (c .before .before .before .before .args .mesh .now)) (c .before .before .before .before .args .chip) (c .before .before .before .before .args .number) (c .before .before .before .before .args .end) ∙ simp (e, eq-eqb _ 0 (c .before .if1 .left), lt-ltb _ _ (c .if2 .left)))
 

@@ -10,16 +10,10 @@ use Rattle.router.proofs.Inputs.{taken-whole}
 use Rattle.mesh.proofs.Refusals.{packet-first}
 use Rattle.mesh.proofs.refusing.packet_refusal.Statement.{statement}
 use Rattle.mesh.proofs.refusing.packet_refusal.Tie as tie
-use Rattle.mesh.proofs.refusing.packet_refusal.Reads as reads
-use Rattle.mesh.proofs.refusing.packet_refusal.Lts as lts
-use Rattle.packet.proofs.bytes.take.Reads as take-reads
-use Rattle.router.proofs.call.is_direct.Reads as is-direct-reads
 
--- src/refusing.rt:93:9
 take-requires : tie.Need-take-requires
 take-requires c κs = search needs
 
--- src/refusing.rt:95:9
 returns : tie.Need-returns
 returns c =
     let bytes = c .before .before .before .before .args .bytes .now in
@@ -27,11 +21,9 @@ returns c =
     let e : r ≡ takenOf bytes .refusal = ap (λ (x : Taken). x .refusal) (c .before .before .take .ensures) in
     e ∙ sym (packet-first bytes ∙ simp (ne-eqb (takenOf bytes .refusal) 0 (λ z. c .if1 .taken (e ∙ z))))
 
--- src/refusing.rt:98:8
 is-direct-requires : tie.Need-is-direct-requires
 is-direct-requires c κs = search needs
 
--- src/refusing.rt:99:9
 returns-2 : tie.Need-returns-2
 returns-2 c =
     let bytes = c .before .before .before .before .before .before .before .args .bytes .now in
@@ -40,7 +32,6 @@ returns-2 c =
     let direct : isDirect (getD bytes 0 0) ≡ true = sym (c .before .is-direct .ensures ∙ ap (λ (x : Taken). isDirect (x .packet .control)) whole) ∙ c .if2 .taken in
     sym (packet-first bytes ∙ simp (none, direct))
 
--- src/refusing.rt:90:1
 returns-3 : tie.Need-returns-3
 returns-3 c =
     let bytes = c .before .before .before .before .before .before .before .args .bytes .now in

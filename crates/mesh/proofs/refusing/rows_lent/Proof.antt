@@ -4,24 +4,16 @@ use mathlib.Core.Bool.{and-true, and-false}
 use borrow.Author.Tests.{not-true, not-false}
 use Rattle.mesh.proofs.refusing.rows_lent.Statement.{statement}
 use Rattle.mesh.proofs.refusing.rows_lent.Tie as tie
-use Rattle.mesh.proofs.refusing.rows_lent.Reads as reads
-use Rattle.mesh.proofs.refusing.rows_lent.Lts as lts
-use Rattle.tables.proofs.accept.routes_fine.Reads as routes-fine-reads
-use Rattle.tables.proofs.accept.starts_fine.Reads as starts-fine-reads
 
--- src/refusing.rt:84:9
 starts-fine-requires : tie.Need-starts-fine-requires
 starts-fine-requires c κs = search needs
 
--- src/refusing.rt:85:9
 returns : tie.Need-returns
 returns c = simp (sym (c .before .starts-fine .ensures) ∙ not-true _ (c .if1 .taken), and-false)
 
--- src/refusing.rt:87:5
 routes-fine-requires : tie.Need-routes-fine-requires
 routes-fine-requires c κs = search needs
 
--- src/refusing.rt:81:1
 returns-2 : tie.Need-returns-2
 returns-2 c = c .routes-fine .ensures ∙ simp (sym (c .before .before .starts-fine .ensures) ∙ not-false _ (c .before .if1 .left), and-true)
 

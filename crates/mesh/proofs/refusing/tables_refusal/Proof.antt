@@ -5,32 +5,22 @@ use native.Mathlib.Nat.{mul-le-mul}
 use borrow.Author.Tests.{not-true, not-false}
 use Rattle.mesh.proofs.refusing.tables_refusal.Statement.{statement}
 use Rattle.mesh.proofs.refusing.tables_refusal.Tie as tie
-use Rattle.mesh.proofs.refusing.tables_refusal.Reads as reads
-use Rattle.mesh.proofs.refusing.tables_refusal.Lts as lts
-use Rattle.mesh.proofs.refusing.rows_lent.Reads as rows-lent-reads
-use Rattle.tables.proofs.accept.codes_fine.Reads as codes-fine-reads
 
--- src/refusing.rt:72:9
 rows-lent-requires : tie.Need-rows-lent-requires
 rows-lent-requires c κs = search needs
 
--- src/refusing.rt:73:9
 returns : tie.Need-returns
 returns c = simp (sym (c .before .rows-lent .ensures) ∙ not-true _ (c .if1 .taken))
 
--- src/refusing.rt:75:27
 mul-codes-fine : tie.Need-mul-codes-fine
 mul-codes-fine c = omega (arith, mul-le-mul (c .before .before .before .before .before .pre) (c .before .before .before .before .before .pre))
 
--- src/refusing.rt:75:9
 codes-fine-requires : tie.Need-codes-fine-requires
 codes-fine-requires c κs = search needs
 
--- src/refusing.rt:76:9
 returns-2 : tie.Need-returns-2
 returns-2 c = simp (sym (c .before .before .before .rows-lent .ensures) ∙ not-false _ (c .before .before .if1 .left), sym (c .before .codes-fine .ensures) ∙ not-true _ (c .if2 .taken))
 
--- src/refusing.rt:68:1
 returns-3 : tie.Need-returns-3
 returns-3 c = simp (sym (c .before .before .before .rows-lent .ensures) ∙ not-false _ (c .before .before .if1 .left), sym (c .before .codes-fine .ensures) ∙ not-false _ (c .if2 .left))
 

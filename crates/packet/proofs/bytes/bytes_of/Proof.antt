@@ -3,23 +3,16 @@ use borrow.Author.Tests.{eq-eqb, ne-eqb}
 use mathlib.Core.Path.{_∙_}
 use Rattle.packet.proofs.bytes.bytes_of.Statement.{statement}
 use Rattle.packet.proofs.bytes.bytes_of.Tie as tie
-use Rattle.packet.proofs.bytes.bytes_of.Reads as reads
-use Rattle.packet.proofs.bytes.bytes_of.Lts as lts
-use Rattle.packet.proofs.bytes.packed.Reads as packed-reads
 
--- src/bytes.rt:31:9
 packed-requires : tie.Need-packed-requires
 packed-requires c κs = search needs
 
--- src/bytes.rt:33:9
 packed-requires-2 : tie.Need-packed-requires-2
 packed-requires-2 c κs = search needs
 
--- src/bytes.rt:27:1
 returns : tie.Need-returns
 returns c = c .packed .ensures ∙ simp (eq-eqb _ _ (c .before .if1 .taken))
 
--- src/bytes.rt:27:1
 returns-2 : tie.Need-returns-2
 returns-2 c = c .packed2 .ensures ∙ simp (ne-eqb _ _ (c .before .if1 .left))
 

@@ -1,55 +1,40 @@
 use borrow.Author.Needs.{needs}
 use Rattle.packet.proofs.bytes.packed.Statement.{statement}
 use Rattle.packet.proofs.bytes.packed.Tie as tie
-use Rattle.packet.proofs.bytes.packed.Reads as reads
-use Rattle.packet.proofs.bytes.packed.Lts as lts
-use Rattle.packet.proofs.bytes.turned.Reads as turned-reads
 
--- src/bytes.rt:106:9
 turned-requires : tie.Need-turned-requires
 turned-requires c κs = search needs
 
--- src/bytes.rt:107:9
 turned-requires-2 : tie.Need-turned-requires-2
 turned-requires-2 c κs = search needs
 
--- src/bytes.rt:112:13
 cast-t7 : tie.Need-cast-t7
 cast-t7 c = search needs
 
--- src/bytes.rt:113:13
 cast-t9 : tie.Need-cast-t9
 cast-t9 c = search needs
 
--- src/bytes.rt:114:13
 cast-t12 : tie.Need-cast-t12
 cast-t12 c = search needs
 
--- src/bytes.rt:115:13
 cast-t15 : tie.Need-cast-t15
 cast-t15 c = search needs
 
--- src/bytes.rt:116:13
 cast-t17 : tie.Need-cast-t17
 cast-t17 c = search needs
 
--- src/bytes.rt:117:13
 cast-t19 : tie.Need-cast-t19
 cast-t19 c = search needs
 
--- src/bytes.rt:118:13
 cast-t22 : tie.Need-cast-t22
 cast-t22 c = search needs
 
--- src/bytes.rt:119:13
 cast-t25 : tie.Need-cast-t25
 cast-t25 c = search needs
 
--- src/bytes.rt:120:13
 cast-t27 : tie.Need-cast-t27
 cast-t27 c = search needs
 
--- src/bytes.rt:103:1
 returns : tie.Need-returns
 returns c =
     let word = c .before .before .turned .ensures in

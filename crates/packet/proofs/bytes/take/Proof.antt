@@ -3,42 +3,28 @@ use borrow.Author.Tests.{ne-eqb}
 use mathlib.Core.Path.{_∙_}
 use Rattle.packet.proofs.bytes.take.Statement.{statement}
 use Rattle.packet.proofs.bytes.take.Tie as tie
-use Rattle.packet.proofs.bytes.take.Reads as reads
-use Rattle.packet.proofs.bytes.take.Lts as lts
-use Rattle.packet.proofs.bytes.five.Reads as five-reads
-use Rattle.packet.proofs.bytes.nine.Reads as nine-reads
-use Rattle.packet.proofs.bytes.not_taken.Reads as not-taken-reads
-use Rattle.packet.proofs.bytes.used.Reads as used-reads
 
--- src/bytes.rt:16:21
 five-requires : tie.Need-five-requires
 five-requires c κs = search needs
 
--- src/bytes.rt:16:9
 used-requires : tie.Need-used-requires
 used-requires c κs = search needs
 
--- src/bytes.rt:16:9
 returns : tie.Need-returns
 returns c = c .used .ensures ∙ simp (c .before .five .ensures, c .before .before .if1 .taken)
 
--- src/bytes.rt:19:21
 nine-requires : tie.Need-nine-requires
 nine-requires c κs = search needs
 
--- src/bytes.rt:19:9
 used-requires-2 : tie.Need-used-requires-2
 used-requires-2 c κs = search needs
 
--- src/bytes.rt:19:9
 returns-2 : tie.Need-returns-2
 returns-2 c = c .used2 .ensures ∙ simp (c .before .nine .ensures, c .before .before .if2 .taken)
 
--- src/bytes.rt:21:5
 not-taken-requires : tie.Need-not-taken-requires
 not-taken-requires c κs = search needs
 
--- src/bytes.rt:11:1
 returns-3 : tie.Need-returns-3
 returns-3 c = c .not-taken .ensures ∙ simp (ne-eqb _ _ (c .before .before .if1 .left), ne-eqb _ _ (c .before .if2 .left))
 

@@ -4,34 +4,25 @@ use borrow.Author.Needs.{needs}
 use Rattle.packet.proofs.Packing.{digit-0, digit-1, digit-2, digit-3}
 use Rattle.packet.proofs.bytes.turned.Statement.{statement}
 use Rattle.packet.proofs.bytes.turned.Tie as tie
-use Rattle.packet.proofs.bytes.turned.Reads as reads
-use Rattle.packet.proofs.bytes.turned.Lts as lts
 
--- src/bytes.rt:129:5
 mul-result : tie.Need-mul-result
 mul-result c = search needs
 
--- src/bytes.rt:129:26
 mul-result-2 : tie.Need-mul-result-2
 mul-result-2 c = search needs
 
--- src/bytes.rt:129:5
 add-result : tie.Need-add-result
 add-result c = search needs
 
--- src/bytes.rt:129:50
 mul-result-3 : tie.Need-mul-result-3
 mul-result-3 c = search needs
 
--- src/bytes.rt:129:5
 add-result-2 : tie.Need-add-result-2
 add-result-2 c = search needs
 
--- src/bytes.rt:129:5
 add-result-3 : tie.Need-add-result-3
 add-result-3 c = search needs
 
--- src/bytes.rt:126:1
 returns : tie.Need-returns
 returns c =
     let w = c .args .w in

@@ -3,24 +3,16 @@ use borrow.Author.Tests.{lt-ltb, le-ltb}
 use mathlib.Core.Path.{_∙_}
 use Rattle.packet.proofs.bytes.used.Statement.{statement}
 use Rattle.packet.proofs.bytes.used.Tie as tie
-use Rattle.packet.proofs.bytes.used.Reads as reads
-use Rattle.packet.proofs.bytes.used.Lts as lts
-use Rattle.packet.proofs.bytes.not_taken.Reads as not-taken-reads
-use Rattle.packet.proofs.control.kind_of.Reads as kind-of-reads
 
--- src/bytes.rt:77:8
 kind-of-requires : tie.Need-kind-of-requires
 kind-of-requires c κs = search needs
 
--- src/bytes.rt:83:9
 not-taken-requires : tie.Need-not-taken-requires
 not-taken-requires c κs = search needs
 
--- src/bytes.rt:74:1
 returns : tie.Need-returns
 returns c = simp (lt-ltb _ _ (rw (c .before .kind-of .ensures) at (c .if1 .taken)))
 
--- src/bytes.rt:74:1
 returns-2 : tie.Need-returns-2
 returns-2 c = c .not-taken .ensures ∙ simp (le-ltb _ _ (rw (c .before .before .kind-of .ensures) at (c .before .if1 .left)))
 

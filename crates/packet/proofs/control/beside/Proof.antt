@@ -3,14 +3,10 @@ use native.Mathlib.Nat.{mod-eq-of-lt, lt-of-le-of-lt, le-add-right}
 use lib.Bits.{or-shifted}
 use Rattle.packet.proofs.control.beside.Statement.{statement}
 use Rattle.packet.proofs.control.beside.Tie as tie
-use Rattle.packet.proofs.control.beside.Reads as reads
-use Rattle.packet.proofs.control.beside.Lts as lts
 
--- src/control.rt:77:6
 shl-result : tie.Need-shl-result
 shl-result c = search needs
 
--- src/control.rt:73:1
 returns : tie.Need-returns
 returns c = rw (mod-eq-of-lt (lt-of-le-of-lt (le-add-right _ (c .args .field)) (c .pre .1 .1))) (or-shifted (c .args .above) (c .args .width) (c .args .field) (c .pre .1 .0))
 

@@ -4,10 +4,7 @@ use lib.Bits.{and-mask, or-shifted}
 use lib.Dec.{lit<}
 use Rattle.packet.proofs.control.parity_in.Statement.{statement}
 use Rattle.packet.proofs.control.parity_in.Tie as tie
-use Rattle.packet.proofs.control.parity_in.Reads as reads
-use Rattle.packet.proofs.control.parity_in.Lts as lts
 
--- src/control.rt:66:1
 returns : tie.Need-returns
 returns c = simp (mod-eq-of-lt (lt-of-le-of-lt (div-mul-le-self (c .args .control) 2) (c .fits .control .fits)), and-mask (c .args .bit) 1) (or-shifted (c .args .control / 2) 1 (c .args .bit % 2) (mod-lt (c .args .bit) (lit< tt)))
 

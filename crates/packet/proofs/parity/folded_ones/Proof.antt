@@ -4,10 +4,7 @@ use lib.Count.{ones-le}
 use Rattle.packet.proofs.Folded.{ones-xor}
 use Rattle.packet.proofs.parity.folded_ones.Statement.{statement}
 use Rattle.packet.proofs.parity.folded_ones.Tie as tie
-use Rattle.packet.proofs.parity.folded_ones.Reads as reads
-use Rattle.packet.proofs.parity.folded_ones.Lts as lts
 
--- src/parity.rt:32:1
 returns : tie.Need-returns
 returns c =
     let p = c .before .before .args .p in (

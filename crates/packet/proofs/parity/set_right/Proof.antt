@@ -7,37 +7,25 @@ use Rattle.packet.specs.Control.{parityIn}
 use Rattle.packet.specs.declared.Packet.{Packet}
 use Rattle.packet.proofs.parity.set_right.Statement.{statement}
 use Rattle.packet.proofs.parity.set_right.Tie as tie
-use Rattle.packet.proofs.parity.set_right.Reads as reads
-use Rattle.packet.proofs.parity.set_right.Lts as lts
-use Rattle.packet.proofs.control.parity_in.Reads as parity-in-reads
-use Rattle.packet.proofs.parity.folded_ones.Reads as folded-ones-reads
-use Rattle.packet.proofs.parity.with_control.Reads as with-control-reads
 
--- src/parity.rt:41:46
 parity-in-requires : tie.Need-parity-in-requires
 parity-in-requires c κs = search needs
 
--- src/parity.rt:41:30
 with-control-requires : tie.Need-with-control-requires
 with-control-requires c κs = search needs
 
--- src/parity.rt:41:9
 folded-ones-requires : tie.Need-folded-ones-requires
 folded-ones-requires c κs = search needs
 
--- src/parity.rt:42:42
 add-parity-in : tie.Need-add-parity-in
 add-parity-in c = search needs
 
--- src/parity.rt:42:21
 parity-in-requires-2 : tie.Need-parity-in-requires-2
 parity-in-requires-2 c κs = search needs
 
--- src/parity.rt:42:5
 with-control-requires-2 : tie.Need-with-control-requires-2
 with-control-requires-2 c κs = search needs
 
--- src/parity.rt:38:1
 returns : tie.Need-returns
 returns c =
     let p = c .before .before .before .before .before .args .p in

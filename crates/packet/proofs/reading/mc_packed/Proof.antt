@@ -7,50 +7,34 @@ use Rattle.packet.proofs.Packing.{packs-as}
 use Rattle.packet.proofs.Ranges.{end-ranges, mc-ranges}
 use Rattle.packet.proofs.reading.mc_packed.Statement.{statement}
 use Rattle.packet.proofs.reading.mc_packed.Tie as tie
-use Rattle.packet.proofs.reading.mc_packed.Reads as reads
-use Rattle.packet.proofs.reading.mc_packed.Lts as lts
-use Rattle.packet.proofs.bytes.bytes_of.Reads as bytes-of-reads
-use Rattle.packet.proofs.control.beside.Reads as beside-reads
-use Rattle.packet.proofs.control.control_byte.Reads as control-byte-reads
-use Rattle.packet.proofs.reading.mc_in_range.Reads as mc-in-range-reads
-use Rattle.packet.proofs.reading.not_packed.Reads as not-packed-reads
-use Rattle.packet.proofs.reading.packet_with.Reads as packet-with-reads
 
--- src/reading.rt:197:9
 mc-in-range-requires : tie.Need-mc-in-range-requires
 mc-in-range-requires c κs = search needs
 
--- src/reading.rt:198:9
 not-packed-requires : tie.Need-not-packed-requires
 not-packed-requires c κs = search needs
 
--- src/reading.rt:198:9
 returns : tie.Need-returns
 unfolding packedOf
 returns c =
     let start = c .before .before .before in
     c .not-packed .ensures ∙ simp (start .pre .0, start .pre .1, sym (c .before .before .mc-in-range .ensures) ∙ not-true _ (c .before .if1 .taken))
 
--- src/reading.rt:200:9
 beside-requires : tie.Need-beside-requires
 beside-requires c κs = omega (arith, mc-ranges (c .before .before .args .f) (sym (c .before .mc-in-range .ensures) ∙ not-false _ (c .if1 .left)))
 
--- src/reading.rt:201:29
 control-byte-requires : tie.Need-control-byte-requires
 control-byte-requires c κs =
     let passed = c .before in
     let start = passed .before .before in
     omega (arith, mc-ranges (start .args .f) (sym (passed .before .mc-in-range .ensures) ∙ not-false _ (passed .if1 .left)), end-ranges (start .args .f) (start .pre .1))
 
--- src/reading.rt:201:14
 packet-with-requires : tie.Need-packet-with-requires
 packet-with-requires c κs = search needs
 
--- src/reading.rt:201:5
 bytes-of-requires : tie.Need-bytes-of-requires
 bytes-of-requires c κs = search needs
 
--- src/reading.rt:193:1
 returns-2 : tie.Need-returns-2
 returns-2 c =
     let passed = c .before .before .before .before in

@@ -3,29 +3,20 @@ use mathlib.Core.Path.{sym, _∙_}
 use Rattle.packet.specs.Fields.{packedOf}
 use Rattle.packet.proofs.reading.unused_packed.Statement.{statement}
 use Rattle.packet.proofs.reading.unused_packed.Tie as tie
-use Rattle.packet.proofs.reading.unused_packed.Reads as reads
-use Rattle.packet.proofs.reading.unused_packed.Lts as lts
-use Rattle.packet.proofs.reading.mc_in_range.Reads as mc-in-range-reads
-use Rattle.packet.proofs.reading.not_packed.Reads as not-packed-reads
 
--- src/reading.rt:232:8
 mc-in-range-requires : tie.Need-mc-in-range-requires
 mc-in-range-requires c κs = search needs
 
--- src/reading.rt:233:9
 not-packed-requires : tie.Need-not-packed-requires
 not-packed-requires c κs = search needs
 
--- src/reading.rt:235:9
 not-packed-requires-2 : tie.Need-not-packed-requires-2
 not-packed-requires-2 c κs = search needs
 
--- src/reading.rt:228:1
 returns : tie.Need-returns
 unfolding packedOf
 returns c = c .not-packed .ensures ∙ simp (c .before .before .before .pre .0, c .before .before .before .pre .1, sym (c .before .before .mc-in-range .ensures) ∙ c .before .if1 .taken)
 
--- src/reading.rt:228:1
 returns-2 : tie.Need-returns-2
 unfolding packedOf
 returns-2 c = c .not-packed2 .ensures ∙ simp (c .before .before .before .pre .0, c .before .before .before .pre .1, sym (c .before .before .mc-in-range .ensures) ∙ c .before .if1 .left)

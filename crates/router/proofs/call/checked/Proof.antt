@@ -9,42 +9,28 @@ use Rattle.packet.specs.declared.Taken.{Taken}
 use Rattle.router.proofs.Inputs.{refused-setting, refused-packet, refused-direct, accepted, taken-whole}
 use Rattle.router.proofs.call.checked.Statement.{statement}
 use Rattle.router.proofs.call.checked.Tie as tie
-use Rattle.router.proofs.call.checked.Reads as reads
-use Rattle.router.proofs.call.checked.Lts as lts
-use Rattle.packet.proofs.bytes.not_taken.Reads as not-taken-reads
-use Rattle.packet.proofs.bytes.take.Reads as take-reads
-use Rattle.router.proofs.call.is_direct.Reads as is-direct-reads
-use Rattle.router.proofs.call.setting_refusal.Reads as setting-refusal-reads
 
--- src/call.rt:34:9
 setting-refusal-requires : tie.Need-setting-refusal-requires
 setting-refusal-requires c κs = search needs
 
--- src/call.rt:36:9
 not-taken-requires : tie.Need-not-taken-requires
 not-taken-requires c κs = search needs
 
--- src/call.rt:36:9
 returns : tie.Need-returns
 returns c = c .not-taken .ensures ∙ sym (refused-setting _ _ _ _ _ _ (sym (c .before .before .setting-refusal .ensures)) (c .before .if1 .taken))
 
--- src/call.rt:38:9
 take-requires : tie.Need-take-requires
 take-requires c κs = search needs
 
--- src/call.rt:40:9
 returns-2 : tie.Need-returns-2
 returns-2 c = c .before .before .take .ensures ∙ sym (refused-packet _ _ _ _ _ (sym (c .before .before .before .before .setting-refusal .ensures) ∙ c .before .before .before .if1 .left) (rw (c .before .before .take .ensures) at (c .if2 .taken)))
 
--- src/call.rt:43:8
 is-direct-requires : tie.Need-is-direct-requires
 is-direct-requires c κs = search needs
 
--- src/call.rt:44:9
 not-taken-requires-2 : tie.Need-not-taken-requires-2
 not-taken-requires-2 c κs = search needs
 
--- src/call.rt:44:9
 returns-3 : tie.Need-returns-3
 returns-3 c =
     let a = c .before .before .before .before .before .before .before .before .before .before .before .before .args in
@@ -55,7 +41,6 @@ returns-3 c =
     let taken : takenOf bytes .refusal ≡ 0 = ap (λ (x : Taken). x .refusal) (sym (c .before .before .before .before .before .before .take .ensures) ∙ whole) in
     c .not-taken2 .ensures ∙ sym (refused-direct bytes (a .source) (a .rows .now) (a .codes .now) (a .t) none taken direct)
 
--- src/call.rt:31:1
 returns-4 : tie.Need-returns-4
 returns-4 c =
     let a = c .before .before .before .before .before .before .before .before .before .before .before .args in

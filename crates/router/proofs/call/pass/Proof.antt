@@ -8,17 +8,10 @@ use Rattle.router.specs.Call.{passOf, answer}
 use Rattle.packet.specs.declared.Taken.{Taken}
 use Rattle.router.proofs.call.pass.Statement.{statement}
 use Rattle.router.proofs.call.pass.Tie as tie
-use Rattle.router.proofs.call.pass.Reads as reads
-use Rattle.router.proofs.call.pass.Lts as lts
-use Rattle.router.proofs.call.checked.Reads as checked-reads
-use Rattle.router.proofs.call.outcome_unless.Reads as outcome-unless-reads
-use Rattle.router.proofs.showing.shown.Reads as shown-reads
 
--- src/call.rt:29:9
 checked-requires : tie.Need-checked-requires
 checked-requires c κs = search needs
 
--- src/call.rt:31:9
 outcome-unless-requires : tie.Need-outcome-unless-requires
 outcome-unless-requires c κs =
     let a = c .before .before .before .before .before .args in
@@ -28,14 +21,12 @@ outcome-unless-requires c κs =
     rw (c .before .checked .ensures ∙ t .packet) (c .before .before .before .before .shared-slice-known .given 0 .fits) in
     checked _ _ (a .rows .now) _ _ control (t .tests)
 
--- src/call.rt:32:5
 shown-requires : tie.Need-shown-requires
 shown-requires c κs =
     let a = c .before .before .before .before .before .before .args in
     let s = unless-sets (c .before .before .checked .result) (a .source) (a .rows .now) (a .codes .now) (a .t) in
     rw (c .outcome-unless .ensures) (unless-none (c .before .before .checked .result) (a .source) (a .rows .now) (a .codes .now) (a .t), (s .sent, (s .dropped, s .lost)))
 
--- src/call.rt:26:1
 returns : tie.Need-returns
 unfolding passOf
 returns c =

@@ -5,60 +5,40 @@ use borrow.Author.Tests.{not-false}
 use Rattle.tables.specs.Accept.{codesFine}
 use Rattle.router.proofs.call.setting_refusal.Statement.{statement}
 use Rattle.router.proofs.call.setting_refusal.Tie as tie
-use Rattle.router.proofs.call.setting_refusal.Reads as reads
-use Rattle.router.proofs.call.setting_refusal.Lts as lts
-use Rattle.router.proofs.call.chips.Reads as chips-reads
-use Rattle.router.proofs.call.setting_fine.Reads as setting-fine-reads
-use Rattle.router.proofs.call.size_fine.Reads as size-fine-reads
-use Rattle.router.proofs.call.source_fine.Reads as source-fine-reads
-use Rattle.tables.proofs.accept.codes_fine.Reads as codes-fine-reads
-use Rattle.tables.proofs.accept.rows_fine.Reads as rows-fine-reads
 
--- src/call.rt:52:9
 size-fine-requires : tie.Need-size-fine-requires
 size-fine-requires c κs = search needs
 
--- src/call.rt:53:9
 returns : tie.Need-returns
 returns c = simp (rw (c .before .size-fine .ensures) at (c .if1 .taken))
 
--- src/call.rt:55:9
 setting-fine-requires : tie.Need-setting-fine-requires
 setting-fine-requires c κs = search needs
 
--- src/call.rt:56:9
 returns-2 : tie.Need-returns-2
 returns-2 c = simp (rw (c .before .setting-fine .ensures) at (c .if2 .taken), rw (c .before .before .before .size-fine .ensures) at (c .before .before .if1 .left))
 
--- src/call.rt:58:9
 rows-fine-requires : tie.Need-rows-fine-requires
 rows-fine-requires c κs = search needs
 
--- src/call.rt:59:9
 returns-3 : tie.Need-returns-3
 returns-3 c = simp (rw (c .before .rows-fine .ensures) at (c .if3 .taken), rw (c .before .before .before .setting-fine .ensures) at (c .before .before .if2 .left), rw (c .before .before .before .before .before .size-fine .ensures) at (c .before .before .before .before .if1 .left))
 
--- src/call.rt:61:27
 chips-requires : tie.Need-chips-requires
 chips-requires c κs = sym (c .before .before .before .before .before .size-fine .ensures) ∙ not-false _ (c .before .before .before .before .if1 .left)
 
--- src/call.rt:61:9
 codes-fine-requires : tie.Need-codes-fine-requires
 codes-fine-requires c κs = search needs
 
--- src/call.rt:62:9
 returns-4 : tie.Need-returns-4
 returns-4 c = simp (rw (c .before .codes-fine .ensures ∙ ap (λ (n : ℕ). codesFine (c .before .before .before .before .before .before .before .before .before .before .before .args .codes .now) n) (c .before .before .chips .ensures)) at (c .if4 .taken), rw (c .before .before .before .before .rows-fine .ensures) at (c .before .before .before .if3 .left), rw (c .before .before .before .before .before .before .setting-fine .ensures) at (c .before .before .before .before .before .if2 .left), rw (c .before .before .before .before .before .before .before .before .size-fine .ensures) at (c .before .before .before .before .before .before .before .if1 .left))
 
--- src/call.rt:64:9
 source-fine-requires : tie.Need-source-fine-requires
 source-fine-requires c κs = search needs
 
--- src/call.rt:65:9
 returns-5 : tie.Need-returns-5
 returns-5 c = simp (rw (c .before .source-fine .ensures) at (c .if5 .taken), rw (c .before .before .before .codes-fine .ensures ∙ ap (λ (n : ℕ). codesFine (c .before .before .before .before .before .before .before .before .before .before .before .before .before .args .codes .now) n) (c .before .before .before .before .chips .ensures)) at (c .before .before .if4 .left), rw (c .before .before .before .before .before .before .rows-fine .ensures) at (c .before .before .before .before .before .if3 .left), rw (c .before .before .before .before .before .before .before .before .setting-fine .ensures) at (c .before .before .before .before .before .before .before .if2 .left), rw (c .before .before .before .before .before .before .before .before .before .before .size-fine .ensures) at (c .before .before .before .before .before .before .before .before .before .if1 .left))
 
--- src/call.rt:49:1
 returns-6 : tie.Need-returns-6
 returns-6 c = simp (rw (c .before .source-fine .ensures) at (c .if5 .left), rw (c .before .before .before .codes-fine .ensures ∙ ap (λ (n : ℕ). codesFine (c .before .before .before .before .before .before .before .before .before .before .before .before .before .args .codes .now) n) (c .before .before .before .before .chips .ensures)) at (c .before .before .if4 .left), rw (c .before .before .before .before .before .before .rows-fine .ensures) at (c .before .before .before .before .before .if3 .left), rw (c .before .before .before .before .before .before .before .before .setting-fine .ensures) at (c .before .before .before .before .before .before .before .if2 .left), rw (c .before .before .before .before .before .before .before .before .before .before .size-fine .ensures) at (c .before .before .before .before .before .before .before .before .before .if1 .left))
 

@@ -2,69 +2,49 @@ use Rattle.router.proofs.Shown.{counts-picked}
 use borrow.Author.Needs.{needs}
 use Rattle.router.proofs.showing.counts_shown.Statement.{statement}
 use Rattle.router.proofs.showing.counts_shown.Tie as tie
-use Rattle.router.proofs.showing.counts_shown.Reads as reads
-use Rattle.router.proofs.showing.counts_shown.Lts as lts
-use Rattle.kept.proofs.counting.counted_of.Reads as counted-of-reads
-use Rattle.kept.proofs.counting.no_counts.Reads as no-counts-reads
-use Rattle.steps.proofs.errors.flag_of.Reads as flag-of-reads
 
--- src/showing.rt:55:24
 no-counts-requires : tie.Need-no-counts-requires
 no-counts-requires c κs = search needs
 
--- src/showing.rt:55:13
 counted-of-requires : tie.Need-counted-of-requires
 counted-of-requires c κs = search needs
 
--- src/showing.rt:56:40
 element-copy-out-flag-of : tie.Need-element-copy-out-flag-of
 element-copy-out-flag-of c = search needs
 
--- src/showing.rt:56:9
 flag-of-requires : tie.Need-flag-of-requires
 flag-of-requires c κs = search needs
 
--- src/showing.rt:57:43
 element-copy-out-flag-of-2 : tie.Need-element-copy-out-flag-of-2
 element-copy-out-flag-of-2 c = search needs
 
--- src/showing.rt:57:9
 flag-of-requires-2 : tie.Need-flag-of-requires-2
 flag-of-requires-2 c κs = search needs
 
--- src/showing.rt:61:13
 element-copy-out-t11 : tie.Need-element-copy-out-t11
 element-copy-out-t11 c = search needs
 
--- src/showing.rt:62:13
 element-copy-out-t18 : tie.Need-element-copy-out-t18
 element-copy-out-t18 c = search needs
 
--- src/showing.rt:63:13
 element-copy-out-t21 : tie.Need-element-copy-out-t21
 element-copy-out-t21 c = search needs
 
--- src/showing.rt:64:13
 element-copy-out-t24 : tie.Need-element-copy-out-t24
 element-copy-out-t24 c = search needs
 
--- src/showing.rt:65:13
 element-copy-out-t27 : tie.Need-element-copy-out-t27
 element-copy-out-t27 c = search needs
 
--- src/showing.rt:66:13
 element-copy-out-t30 : tie.Need-element-copy-out-t30
 element-copy-out-t30 c = search needs
 
--- src/showing.rt:67:13
 element-copy-out-t33 : tie.Need-element-copy-out-t33
 element-copy-out-t33 c = search needs
 
--- src/showing.rt:69:13
 element-copy-out-t36 : tie.Need-element-copy-out-t36
 element-copy-out-t36 c = search needs
 
--- src/showing.rt:51:1
 returns : tie.Need-returns
 returns c =
     let a = c .before .before .before .before .before .before .before .before .before .before .before .before .before .before .args in

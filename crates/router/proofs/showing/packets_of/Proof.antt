@@ -11,10 +11,6 @@ use Rattle.steps.specs.Links.{has}
 use Rattle.router.proofs.LowestFirst.{shownBut, none-yet, all-shown, lowest-link, step}
 use Rattle.router.proofs.showing.packets_of.Statement.{statement}
 use Rattle.router.proofs.showing.packets_of.Tie as tie
-use Rattle.router.proofs.showing.packets_of.Reads as reads
-use Rattle.router.proofs.showing.packets_of.Lts as lts
-use Rattle.steps.proofs.deciding.packet_on.Reads as packet-on-reads
-use Rattle.router.proofs.showing.no_packet.Reads as no-packet-reads
 
 abbrev Inv-loop : tie.InvT-loop
 Inv-loop o packets₀ rest₀ packets rest = (rest < 64) × (((j : ℕ) → j < 6 → has rest j ≡ true → has (o .sent) j ≡ true) × (packets ≡ shownBut o rest))

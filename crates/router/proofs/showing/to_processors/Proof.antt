@@ -3,15 +3,10 @@ use mathlib.Core.Path.{_∙_}
 use borrow.Author.Needs.{needs}
 use Rattle.router.proofs.showing.to_processors.Statement.{statement}
 use Rattle.router.proofs.showing.to_processors.Tie as tie
-use Rattle.router.proofs.showing.to_processors.Reads as reads
-use Rattle.router.proofs.showing.to_processors.Lts as lts
-use Rattle.router.proofs.showing.only.Reads as only-reads
 
--- src/showing.rt:114:5
 only-requires : tie.Need-only-requires
 only-requires c κs = search needs
 
--- src/showing.rt:111:1
 returns : tie.Need-returns
 returns c = c .only .ensures ∙ at-processors (c .before .before .args .o)
 

@@ -4,66 +4,44 @@ use borrow.Author.Tests.{eq-eqb, ne-eqb}
 use Rattle.steps.specs.Deciding.{decided}
 use Rattle.steps.proofs.deciding.decide.Statement.{statement}
 use Rattle.steps.proofs.deciding.decide.Tie as tie
-use Rattle.steps.proofs.deciding.decide.Reads as reads
-use Rattle.steps.proofs.deciding.decide.Lts as lts
-use Rattle.packet.proofs.control.kind_of.Reads as kind-of-reads
-use Rattle.steps.proofs.deciding.leg_set.Reads as leg-set-reads
-use Rattle.steps.proofs.detour.carry_set.Reads as carry-set-reads
-use Rattle.steps.proofs.detour.drop_set.Reads as drop-set-reads
-use Rattle.steps.proofs.detour.plain_drop_set.Reads as plain-drop-set-reads
-use Rattle.steps.proofs.detour.plain_send_set.Reads as plain-send-set-reads
-use Rattle.steps.proofs.detour.send_set.Reads as send-set-reads
 
--- src/deciding.rt:87:9
 leg-set-requires : tie.Need-leg-set-requires
 leg-set-requires c κs = search needs
 
--- src/deciding.rt:89:8
 kind-of-requires : tie.Need-kind-of-requires
 kind-of-requires c κs = search needs
 
--- src/deciding.rt:95:19
 send-set-requires : tie.Need-send-set-requires
 send-set-requires c κs = search needs
 
--- src/deciding.rt:96:22
 carry-set-requires : tie.Need-carry-set-requires
 carry-set-requires c κs = search needs
 
--- src/deciding.rt:97:22
 drop-set-requires : tie.Need-drop-set-requires
 drop-set-requires c κs = search needs
 
--- src/deciding.rt:98:18
 plain-send-set-requires : tie.Need-plain-send-set-requires
 plain-send-set-requires c κs = search needs
 
--- src/deciding.rt:99:19
 plain-drop-set-requires : tie.Need-plain-drop-set-requires
 plain-drop-set-requires c κs = search needs
 
--- src/deciding.rt:107:19
 plain-send-set-requires-2 : tie.Need-plain-send-set-requires-2
 plain-send-set-requires-2 c κs = search needs
 
--- src/deciding.rt:109:22
 plain-drop-set-requires-2 : tie.Need-plain-drop-set-requires-2
 plain-drop-set-requires-2 c κs = search needs
 
--- src/deciding.rt:110:18
 plain-send-set-requires-3 : tie.Need-plain-send-set-requires-3
 plain-send-set-requires-3 c κs = search needs
 
--- src/deciding.rt:111:19
 plain-drop-set-requires-3 : tie.Need-plain-drop-set-requires-3
 plain-drop-set-requires-3 c κs = search needs
 
--- src/deciding.rt:83:1
 returns : tie.Need-returns
 unfolding decided
 returns c = simp (c .before .plain-send-set .ensures, c .plain-drop-set .ensures, c .before .before .drop-set .ensures, c .before .before .before .carry-set .ensures, c .before .before .before .before .send-set .ensures, c .before .before .before .before .before .before .before .before .leg-set .ensures .0, eq-eqb _ _ (sym (c .before .before .before .before .before .before .kind-of .ensures) ∙ c .before .before .before .before .before .if1 .taken))
 
--- src/deciding.rt:83:1
 returns-2 : tie.Need-returns-2
 unfolding decided
 returns-2 c = simp (c .before .plain-send-set3 .ensures, c .plain-drop-set3 .ensures, c .before .before .plain-drop-set2 .ensures, c .before .before .before .plain-send-set2 .ensures, c .before .before .before .before .before .before .before .leg-set .ensures .0, ne-eqb _ _ (rw (c .before .before .before .before .before .kind-of .ensures) at (c .before .before .before .before .if1 .left)))

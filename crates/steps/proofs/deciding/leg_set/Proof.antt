@@ -7,24 +7,16 @@ use lib.Dec.{ltb, lit<}
 use Rattle.packet.proofs.Small.{every, at}
 use Rattle.steps.proofs.deciding.leg_set.Statement.{statement}
 use Rattle.steps.proofs.deciding.leg_set.Tie as tie
-use Rattle.steps.proofs.deciding.leg_set.Reads as reads
-use Rattle.steps.proofs.deciding.leg_set.Lts as lts
-use Rattle.steps.proofs.deciding.has_leg.Reads as has-leg-reads
-use Rattle.steps.proofs.wants.bit.Reads as bit-reads
 
--- src/deciding.rt:76:8
 has-leg-requires : tie.Need-has-leg-requires
 has-leg-requires c κs = search needs
 
--- src/deciding.rt:77:14
 add-bit : tie.Need-add-bit
 add-bit c = search needs
 
--- src/deciding.rt:77:9
 bit-requires : tie.Need-bit-requires
 bit-requires c κs = search needs
 
--- src/deciding.rt:72:1
 returns : tie.Need-returns
 unfolding every
 returns c =
@@ -33,7 +25,6 @@ returns c =
       rw (c .bit .ensures) (ltb-true _ _ (at 6 (λ i. ltb (2 ^ i) 64) refl ((e + 5) % 6) (mod-lt (e + 5) (lit< tt)))),
     )
 
--- src/deciding.rt:72:1
 returns-2 : tie.Need-returns-2
 returns-2 c = (simp (sym (c .before .has-leg .ensures) ∙ c .if1 .left), lit< tt)
 

@@ -2,27 +2,19 @@ use borrow.Author.Needs.{needs}
 use mathlib.Core.Path.{sym, _∙_}
 use Rattle.steps.proofs.deciding.mark_on.Statement.{statement}
 use Rattle.steps.proofs.deciding.mark_on.Tie as tie
-use Rattle.steps.proofs.deciding.mark_on.Reads as reads
-use Rattle.steps.proofs.deciding.mark_on.Lts as lts
-use Rattle.steps.proofs.deciding.has_link.Reads as has-link-reads
 
--- src/deciding.rt:57:8
 has-link-requires : tie.Need-has-link-requires
 has-link-requires c κs = search needs
 
--- src/deciding.rt:58:12
 has-link-requires-2 : tie.Need-has-link-requires-2
 has-link-requires-2 c κs = search needs
 
--- src/deciding.rt:53:1
 returns : tie.Need-returns
 returns c = simp (sym (c .before .before .before .before .has-link .ensures) ∙ c .before .before .before .if1 .taken, sym (c .before .has-link2 .ensures) ∙ c .if2 .taken)
 
--- src/deciding.rt:53:1
 returns-2 : tie.Need-returns-2
 returns-2 c = simp (sym (c .before .before .before .before .has-link .ensures) ∙ c .before .before .before .if1 .taken, sym (c .before .has-link2 .ensures) ∙ c .if2 .left)
 
--- src/deciding.rt:53:1
 returns-3 : tie.Need-returns-3
 returns-3 c = simp (sym (c .before .has-link .ensures) ∙ c .if1 .left)
 

@@ -4,40 +4,25 @@ use Rattle.steps.proofs.ByRows.{wanted-by-rows}
 use borrow.Author.Needs.{needs}
 use Rattle.steps.proofs.deciding.outcome_of.Statement.{statement}
 use Rattle.steps.proofs.deciding.outcome_of.Tie as tie
-use Rattle.steps.proofs.deciding.outcome_of.Reads as reads
-use Rattle.steps.proofs.deciding.outcome_of.Lts as lts
-use Rattle.steps.proofs.deciding.decide.Reads as decide-reads
-use Rattle.steps.proofs.errors.errors_of.Reads as errors-of-reads
-use Rattle.steps.proofs.errors.stamped_of.Reads as stamped-of-reads
-use Rattle.steps.proofs.wants.by_rows.Reads as by-rows-reads
-use Rattle.steps.proofs.wants.looked_up.Reads as looked-up-reads
-use Rattle.steps.proofs.wants.wanted_given.Reads as wanted-given-reads
 
--- src/deciding.rt:30:9
 errors-of-requires : tie.Need-errors-of-requires
 errors-of-requires c κs = search needs
 
--- src/deciding.rt:31:9
 stamped-of-requires : tie.Need-stamped-of-requires
 stamped-of-requires c κs = search needs
 
--- src/deciding.rt:32:9
 by-rows-requires : tie.Need-by-rows-requires
 by-rows-requires c κs = search needs
 
--- src/deciding.rt:33:9
 looked-up-requires : tie.Need-looked-up-requires
 looked-up-requires c κs = search needs
 
--- src/deciding.rt:34:9
 wanted-given-requires : tie.Need-wanted-given-requires
 wanted-given-requires c κs = search needs
 
--- src/deciding.rt:35:5
 decide-requires : tie.Need-decide-requires
 decide-requires c κs = search needs
 
--- src/deciding.rt:26:1
 returns : tie.Need-returns
 unfolding outcomeOf
 returns c =

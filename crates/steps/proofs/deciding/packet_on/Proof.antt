@@ -3,29 +3,19 @@ use mathlib.Core.Path.{sym, _∙_}
 use borrow.Author.Tests.{eq-eqb, ne-eqb}
 use Rattle.steps.proofs.deciding.packet_on.Statement.{statement}
 use Rattle.steps.proofs.deciding.packet_on.Tie as tie
-use Rattle.steps.proofs.deciding.packet_on.Reads as reads
-use Rattle.steps.proofs.deciding.packet_on.Lts as lts
-use Rattle.packet.proofs.control.kind_of.Reads as kind-of-reads
-use Rattle.packet.proofs.parity.with_mark.Reads as with-mark-reads
-use Rattle.steps.proofs.deciding.mark_on.Reads as mark-on-reads
 
--- src/deciding.rt:31:8
 kind-of-requires : tie.Need-kind-of-requires
 kind-of-requires c κs = search needs
 
--- src/deciding.rt:32:22
 mark-on-requires : tie.Need-mark-on-requires
 mark-on-requires c κs = search needs
 
--- src/deciding.rt:32:9
 with-mark-requires : tie.Need-with-mark-requires
 with-mark-requires c κs = search needs
 
--- src/deciding.rt:26:1
 returns : tie.Need-returns
 returns c = c .with-mark .ensures ∙ simp (c .before .mark-on .ensures, eq-eqb _ _ (sym (c .before .before .before .kind-of .ensures) ∙ c .before .before .if1 .taken))
 
--- src/deciding.rt:26:1
 returns-2 : tie.Need-returns-2
 returns-2 c = simp (ne-eqb _ _ (rw (c .before .kind-of .ensures) at (c .if1 .left)))
 

@@ -5,35 +5,24 @@ use Rattle.steps.proofs.BySource.{local-errors, link-errors}
 use borrow.Author.Needs.{needs}
 use Rattle.steps.proofs.errors.source_errors.Statement.{statement}
 use Rattle.steps.proofs.errors.source_errors.Tie as tie
-use Rattle.steps.proofs.errors.source_errors.Reads as reads
-use Rattle.steps.proofs.errors.source_errors.Lts as lts
-use Rattle.steps.proofs.errors.bad_local.Reads as bad-local-reads
-use Rattle.steps.proofs.errors.flag_of.Reads as flag-of-reads
-use Rattle.steps.proofs.errors.too_old.Reads as too-old-reads
 
--- src/errors.rt:26:17
 bad-local-requires : tie.Need-bad-local-requires
 bad-local-requires c κs = search needs
 
--- src/errors.rt:26:9
 flag-of-requires : tie.Need-flag-of-requires
 flag-of-requires c κs = search needs
 
--- src/errors.rt:28:17
 too-old-requires : tie.Need-too-old-requires
 too-old-requires c κs = search needs
 
--- src/errors.rt:28:9
 flag-of-requires-2 : tie.Need-flag-of-requires-2
 flag-of-requires-2 c κs = search needs
 
--- src/errors.rt:21:1
 returns : tie.Need-returns
 returns c =
     let a = c .before .before .before .args in
     (c .flag-of .ensures .0 ∙ ap (λ (b : Bool). flag b 8) (c .before .bad-local .ensures) ∙ local-errors (a .control) (a .source) (a .phase) (c .before .before .if1 .taken), search needs)
 
--- src/errors.rt:21:1
 returns-2 : tie.Need-returns-2
 returns-2 c =
     let a = c .before .before .before .args in

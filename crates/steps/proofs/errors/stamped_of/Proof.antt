@@ -2,24 +2,16 @@ use borrow.Author.Needs.{needs}
 use mathlib.Core.Path.{_∙_}
 use Rattle.steps.proofs.errors.stamped_of.Statement.{statement}
 use Rattle.steps.proofs.errors.stamped_of.Tie as tie
-use Rattle.steps.proofs.errors.stamped_of.Reads as reads
-use Rattle.steps.proofs.errors.stamped_of.Lts as lts
-use Rattle.packet.proofs.control.kind_of.Reads as kind-of-reads
-use Rattle.packet.proofs.parity.with_stamp.Reads as with-stamp-reads
 
--- src/errors.rt:22:41
 kind-of-requires : tie.Need-kind-of-requires
 kind-of-requires c κs = search needs
 
--- src/errors.rt:23:9
 with-stamp-requires : tie.Need-with-stamp-requires
 with-stamp-requires c κs = search needs
 
--- src/errors.rt:19:1
 returns : tie.Need-returns
 returns c = c .with-stamp .ensures ∙ simp (rw (c .before .before .kind-of .ensures) at (c .before .if1 .taken))
 
--- src/errors.rt:19:1
 returns-2 : tie.Need-returns-2
 returns-2 c = simp (rw (c .before .kind-of .ensures) at (c .if1 .left))
 

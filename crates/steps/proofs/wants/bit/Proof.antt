@@ -6,14 +6,10 @@ use lib.Dec.{eqb}
 use Rattle.packet.proofs.Small.{every, at}
 use Rattle.steps.proofs.wants.bit.Statement.{statement}
 use Rattle.steps.proofs.wants.bit.Tie as tie
-use Rattle.steps.proofs.wants.bit.Reads as reads
-use Rattle.steps.proofs.wants.bit.Lts as lts
 
--- src/wants.rt:112:5
 shl-result : tie.Need-shl-result
 shl-result c = search needs
 
--- src/wants.rt:108:1
 returns : tie.Need-returns
 unfolding every
 returns c = eqb-true _ _ (at 26 (λ i. eqb ((1 * 2 ^ i) % 4294967296) (2 ^ i)) refl (c .args .i) (c .pre))

@@ -3,49 +3,34 @@ use mathlib.Core.Path.{_∙_}
 use borrow.Author.Tests.{eq-eqb, ne-eqb}
 use Rattle.steps.proofs.wants.miss_wanted.Statement.{statement}
 use Rattle.steps.proofs.wants.miss_wanted.Tie as tie
-use Rattle.steps.proofs.wants.miss_wanted.Reads as reads
-use Rattle.steps.proofs.wants.miss_wanted.Lts as lts
-use Rattle.steps.proofs.wants.alone.Reads as alone-reads
-use Rattle.steps.proofs.wants.bit.Reads as bit-reads
-use Rattle.steps.proofs.wants.monitor_bit.Reads as monitor-bit-reads
 
--- src/wants.rt:56:13
 monitor-bit-requires : tie.Need-monitor-bit-requires
 monitor-bit-requires c κs = search needs
 
--- src/wants.rt:57:9
 returns : tie.Need-returns
 returns c = simp (c .monitor-bit .ensures, eq-eqb _ _ (c .before .if1 .taken))
 
--- src/wants.rt:60:25
 add-bit : tie.Need-add-bit
 add-bit c = search needs
 
--- src/wants.rt:60:20
 bit-requires : tie.Need-bit-requires
 bit-requires c κs = search needs
 
--- src/wants.rt:60:14
 alone-requires : tie.Need-alone-requires
 alone-requires c κs = search needs
 
--- src/wants.rt:61:25
 add-bit-2 : tie.Need-add-bit-2
 add-bit-2 c = search needs
 
--- src/wants.rt:61:20
 bit-requires-2 : tie.Need-bit-requires-2
 bit-requires-2 c κs = search needs
 
--- src/wants.rt:61:14
 alone-requires-2 : tie.Need-alone-requires-2
 alone-requires-2 c κs = search needs
 
--- src/wants.rt:51:1
 returns-2 : tie.Need-returns-2
 returns-2 c = c .alone .ensures ∙ simp (c .before .bit .ensures, ne-eqb _ _ (c .before .before .before .if1 .left), eq-eqb _ _ (c .before .before .match .keys1))
 
--- src/wants.rt:51:1
 returns-3 : tie.Need-returns-3
 returns-3 c = c .alone2 .ensures ∙ simp (c .before .bit2 .ensures, ne-eqb _ _ (c .before .before .before .if1 .left), ne-eqb _ _ (c .before .before .match .rest .1))
 

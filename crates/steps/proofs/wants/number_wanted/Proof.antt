@@ -4,28 +4,19 @@ use borrow.Author.Tests.{ne-eqb, lt-ltb, le-ltb}
 use native.Mathlib.Omega.{arith}
 use Rattle.steps.proofs.wants.number_wanted.Statement.{statement}
 use Rattle.steps.proofs.wants.number_wanted.Tie as tie
-use Rattle.steps.proofs.wants.number_wanted.Reads as reads
-use Rattle.steps.proofs.wants.number_wanted.Lts as lts
-use Rattle.steps.proofs.wants.bit.Reads as bit-reads
-use Rattle.steps.proofs.wants.monitor_bit.Reads as monitor-bit-reads
 
--- src/wants.rt:89:18
 bit-requires : tie.Need-bit-requires
 bit-requires c κs = search needs
 
--- src/wants.rt:91:14
 monitor-bit-requires : tie.Need-monitor-bit-requires
 monitor-bit-requires c κs = search needs
 
--- src/wants.rt:84:1
 returns : tie.Need-returns
 returns c = simp (c .match .keys1)
 
--- src/wants.rt:84:1
 returns-2 : tie.Need-returns-2
 returns-2 c = c .bit .ensures ∙ simp (lt-ltb (c .before .before .before .args .number) 6 (omega arith))
 
--- src/wants.rt:84:1
 returns-3 : tie.Need-returns-3
 returns-3 c = c .monitor-bit .ensures ∙ simp (le-ltb (c .before .before .before .args .number) 6 (omega arith), ne-eqb (c .before .before .before .args .number) 6 (c .before .before .match .rest .1))
 

@@ -5,53 +5,34 @@ use borrow.Author.Tests.{eq-eqb, ne-eqb}
 use borrow.Author.Needs.{needs}
 use Rattle.steps.proofs.wants.wanted_given.Statement.{statement}
 use Rattle.steps.proofs.wants.wanted_given.Tie as tie
-use Rattle.steps.proofs.wants.wanted_given.Reads as reads
-use Rattle.steps.proofs.wants.wanted_given.Lts as lts
-use Rattle.packet.proofs.control.kind_of.Reads as kind-of-reads
-use Rattle.packet.proofs.control.mark_of.Reads as mark-of-reads
-use Rattle.steps.proofs.wants.alone.Reads as alone-reads
-use Rattle.steps.proofs.wants.mc_wanted.Reads as mc-wanted-reads
-use Rattle.steps.proofs.wants.monitor_bit.Reads as monitor-bit-reads
-use Rattle.steps.proofs.wants.nn_wanted.Reads as nn-wanted-reads
-use Rattle.steps.proofs.wants.p2p_wanted.Reads as p2p-wanted-reads
 
--- src/wants.rt:42:13
 kind-of-requires : tie.Need-kind-of-requires
 kind-of-requires c κs = search needs
 
--- src/wants.rt:44:35
 mark-of-requires : tie.Need-mark-of-requires
 mark-of-requires c κs = search needs
 
--- src/wants.rt:44:18
 mc-wanted-requires : tie.Need-mc-wanted-requires
 mc-wanted-requires c κs = search needs
 
--- src/wants.rt:45:24
 p2p-wanted-requires : tie.Need-p2p-wanted-requires
 p2p-wanted-requires c κs = search needs
 
--- src/wants.rt:45:18
 alone-requires : tie.Need-alone-requires
 alone-requires c κs = search needs
 
--- src/wants.rt:46:24
 nn-wanted-requires : tie.Need-nn-wanted-requires
 nn-wanted-requires c κs = search needs
 
--- src/wants.rt:46:18
 alone-requires-2 : tie.Need-alone-requires-2
 alone-requires-2 c κs = search needs
 
--- src/wants.rt:49:15
 monitor-bit-requires : tie.Need-monitor-bit-requires
 monitor-bit-requires c κs = search needs
 
--- src/wants.rt:49:9
 alone-requires-3 : tie.Need-alone-requires-3
 alone-requires-3 c κs = search needs
 
--- src/wants.rt:30:1
 returns : tie.Need-returns
 returns c =
     let a = c .before .before .before .before .before .before .args in
@@ -61,18 +42,15 @@ returns c =
     ∙ ap (λ (n : ℕ). markWanted (a .found) n (a .source) (a .t .monitor)) (c .before .mark-of .ensures)
     ∙ simp (eq-eqb _ _ none, eq-eqb _ _ mc)
 
--- src/wants.rt:30:1
 returns-2 : tie.Need-returns-2
 returns-2 c = c .alone .ensures ∙ simp (c .before .p2p-wanted .ensures, eq-eqb _ _ (c .before .before .before .before .if1 .taken), sym (c .before .before .before .kind-of .ensures) ∙ c .before .before .match .keys2)
 
--- src/wants.rt:30:1
 returns-3 : tie.Need-returns-3
 returns-3 c =
     let k = c .before .before .before .kind-of .ensures in
     let n = c .before .before .match .rest in
     c .alone2 .ensures ∙ simp (c .before .nn-wanted .ensures, eq-eqb _ _ (c .before .before .before .before .if1 .taken), ne-eqb _ _ (rw k at (n .0 .1)), ne-eqb _ _ (rw k at (n .1)))
 
--- src/wants.rt:30:1
 returns-4 : tie.Need-returns-4
 returns-4 c = c .alone3 .ensures ∙ simp (c .before .monitor-bit .ensures, ne-eqb _ _ (c .before .before .if1 .left))
 

@@ -10,19 +10,13 @@ use Rattle.tables.proofs.OneByOne.{codes-step}
 use Rattle.tables.proofs.EightCodes.{one-code}
 use Rattle.tables.proofs.accept.code_at.Statement.{statement}
 use Rattle.tables.proofs.accept.code_at.Tie as tie
-use Rattle.tables.proofs.accept.code_at.Reads as reads
-use Rattle.tables.proofs.accept.code_at.Lts as lts
-use Rattle.tables.proofs.accept.wide_code.Reads as wide-code-reads
 
--- src/accept.rt:114:15
 shared-slice-read-wide-code : tie.Need-shared-slice-read-wide-code
 shared-slice-read-wide-code c = search needs
 
--- src/accept.rt:114:5
 wide-code-requires : tie.Need-wide-code-requires
 wide-code-requires c κs = search needs
 
--- src/accept.rt:110:1
 returns : tie.Need-returns
 returns c =
     let a = c .before .before .before .args in

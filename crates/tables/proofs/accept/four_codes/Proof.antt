@@ -4,23 +4,16 @@ use lib.Dec.{lit≤}
 use Rattle.tables.proofs.EightCodes.{beside}
 use Rattle.tables.proofs.accept.four_codes.Statement.{statement}
 use Rattle.tables.proofs.accept.four_codes.Tie as tie
-use Rattle.tables.proofs.accept.four_codes.Reads as reads
-use Rattle.tables.proofs.accept.four_codes.Lts as lts
-use Rattle.tables.proofs.accept.two_codes.Reads as two-codes-reads
 
--- src/accept.rt:99:5
 two-codes-requires : tie.Need-two-codes-requires
 two-codes-requires c κs = search needs
 
--- src/accept.rt:99:45
 add-two-codes : tie.Need-add-two-codes
 add-two-codes c = search needs
 
--- src/accept.rt:99:28
 two-codes-requires-2 : tie.Need-two-codes-requires-2
 two-codes-requires-2 c κs = search needs
 
--- src/accept.rt:95:1
 returns : tie.Need-returns
 returns c = let a = c .before .before .before .args in beside 2 2 48 refl refl (lit≤ tt) refl (a .codes .now) (a .i) _ _ (c .before .two-codes .ensures) (c .two-codes2 .ensures)
 

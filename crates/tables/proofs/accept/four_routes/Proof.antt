@@ -2,39 +2,28 @@ use borrow.Author.Needs.{needs}
 use Rattle.tables.proofs.OneByOne.{routes-four}
 use Rattle.tables.proofs.accept.four_routes.Statement.{statement}
 use Rattle.tables.proofs.accept.four_routes.Tie as tie
-use Rattle.tables.proofs.accept.four_routes.Reads as reads
-use Rattle.tables.proofs.accept.four_routes.Lts as lts
-use Rattle.tables.proofs.search.route_at.Reads as route-at-reads
 
--- src/accept.rt:62:5
 route-at-requires : tie.Need-route-at-requires
 route-at-requires c κs = search needs
 
--- src/accept.rt:62:40
 add-route-at : tie.Need-add-route-at
 add-route-at c = search needs
 
--- src/accept.rt:62:25
 route-at-requires-2 : tie.Need-route-at-requires-2
 route-at-requires-2 c κs = search needs
 
--- src/accept.rt:62:64
 add-route-at-2 : tie.Need-add-route-at-2
 add-route-at-2 c = search needs
 
--- src/accept.rt:62:49
 route-at-requires-3 : tie.Need-route-at-requires-3
 route-at-requires-3 c κs = search needs
 
--- src/accept.rt:62:88
 add-route-at-3 : tie.Need-add-route-at-3
 add-route-at-3 c = search needs
 
--- src/accept.rt:62:73
 route-at-requires-4 : tie.Need-route-at-requires-4
 route-at-requires-4 c κs = search needs
 
--- src/accept.rt:58:1
 returns : tie.Need-returns
 returns c =
     let a = c .before .before .before .before .before .args in

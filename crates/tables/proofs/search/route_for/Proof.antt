@@ -5,34 +5,24 @@ use Rattle.tables.specs.Rows.{routeOf}
 use Rattle.tables.specs.declared.Matched.the-variants.{Route}
 use Rattle.tables.proofs.search.route_for.Statement.{statement}
 use Rattle.tables.proofs.search.route_for.Tie as tie
-use Rattle.tables.proofs.search.route_for.Reads as reads
-use Rattle.tables.proofs.search.route_for.Lts as lts
-use Rattle.tables.proofs.search.first_match.Reads as first-match-reads
-use Rattle.tables.proofs.search.route_at.Reads as route-at-reads
 
--- src/search.rt:12:11
 first-match-requires : tie.Need-first-match-requires
 first-match-requires c κs = search needs
 
--- src/search.rt:13:19
 enum-known-n : tie.Need-enum-known-n
 enum-known-n c = search needs
 
--- src/search.rt:13:40
 route-at-requires : tie.Need-route-at-requires
 route-at-requires c κs = match-row _ _ _ (sym (c .before .before .before .first-match .ensures) ∙ c .before .n .given .1) .0
 
--- src/search.rt:14:27
 enum-told : tie.Need-enum-told
 enum-told c = search needs
 
--- src/search.rt:9:1
 returns : tie.Need-returns
 returns c =
     let found : _ = sym (c .before .before .before .before .first-match .ensures) ∙ c .before .before .n .given .1 in
     sym (ap (routeOf _) found ∙ ap Route (match-row _ _ _ found .1 ∙ sym (c .route-at .ensures)))
 
--- src/search.rt:9:1
 returns-2 : tie.Need-returns-2
 returns-2 c = sym (ap (routeOf _) (sym (c .before .before .first-match .ensures) ∙ c .enum-told .given .1))
 
