@@ -30,6 +30,21 @@ pub fn step(mesh: &[u32; WORDS], log: &[u32; 6], added: u32) {
     sendings(mesh);
 }
 
+// What was counted from one moment to another.
+pub fn sums(before: Totals, after: Totals) {
+    text(b"  links crossed ");
+    number(wrapping_sub_u32(after.sent, before.sent));
+    text(b", delivered ");
+    number(wrapping_sub_u32(after.delivered, before.delivered));
+    text(b", dropped ");
+    number(wrapping_sub_u32(after.dropped, before.dropped));
+    text(b"\n");
+}
+
+pub fn text(t: &[u8]) {
+    io::write_all(STDOUT_FILENO, t);
+}
+
 fn delivery(log: &[u32; 6]) {
     text(b"  chip ");
     number(log[0]);
@@ -92,21 +107,6 @@ fn light(mesh: &[u32; WORDS]) {
     text(b"\n");
 }
 
-// What was counted from one moment to another.
-pub fn sums(before: Totals, after: Totals) {
-    text(b"  links crossed ");
-    number(wrapping_sub_u32(after.sent, before.sent));
-    text(b", delivered ");
-    number(wrapping_sub_u32(after.delivered, before.delivered));
-    text(b", dropped ");
-    number(wrapping_sub_u32(after.dropped, before.dropped));
-    text(b"\n");
-}
-
 fn number(n: u32) {
     io::print_decimal(STDOUT_FILENO, n as u64);
-}
-
-pub fn text(t: &[u8]) {
-    io::write_all(STDOUT_FILENO, t);
 }

@@ -2,3 +2,4 @@
 pub mod across;
 pub mod line;
 pub mod phase;
+pub mod words;

@@ -9,7 +9,7 @@ use steps::deciding::packet_on;
 ghost use mathlib.Core.Path.{_≡_};
 ghost use mathlib.Core.Bool.{true};
 ghost use lib.ListN.{length, getD, drop, set};
-ghost use Prim.Native.Nat.{_+_, _*_, _≤_, _<_};
+ghost use Prim.Native.Nat.{_+_, _≤_, _<_};
 ghost use Rattle.steps.specs.Links.{has};
 ghost use Rattle.steps.specs.Deciding.{packetOn, legPacket};
 ghost use Rattle.links.specs.Line.{isReady};
@@ -24,19 +24,6 @@ pub fn is_ready(line: &[u32]) -> bool
     (line[0] == 0) & (line[1] <= 6)
 }
 
-// Puts a packet behind those that the link holds.
-fn push(line: &mut [u32], p: Packet)
-    requires { ⌜ (length (now line) ≡ 51) × (getD (now line) 1 0 ≤ 7) ⌝ }
-    ensures { λ _. ⌜ now (line .exit) ≡ pushed (now (line .entry)) p ⌝ }
-{
-    let held = line[1];
-    let at = 2 + (held as usize) * 3;
-    line[at] = p.control;
-    line[at + 1] = p.word;
-    line[at + 2] = p.payload;
-    line[1] = held + 1;
-}
-
 // Sends what a pass has for link i: the packet of step 5 or 7, then the second leg. There is room for both.
 pub fn send(line: &mut [u32], o: Outcome, i: u32)
     requires { ⌜ (length (now line) ≡ 51) × ((i < 6) × Room (now line) o i) ⌝ }
@@ -44,24 +31,6 @@ pub fn send(line: &mut [u32], o: Outcome, i: u32)
 {
     send_packet(line, o, i);
     send_leg(line, o, i);
-}
-
-fn send_packet(line: &mut [u32], o: Outcome, i: u32)
-    requires { ⌜ (length (now line) ≡ 51) × ((i < 6) × (has (o .sent) i ≡ true → getD (now line) 1 0 ≤ 7)) ⌝ }
-    ensures { λ _. ⌜ now (line .exit) ≡ pushedIf (has (o .sent) i) (now (line .entry)) (packetOn o i) ⌝ }
-{
-    if has_link(o.sent, i) {
-        push(line, packet_on(o, i));
-    }
-}
-
-fn send_leg(line: &mut [u32], o: Outcome, i: u32)
-    requires { ⌜ (length (now line) ≡ 51) × ((i < 6) × (has (o .leg) i ≡ true → getD (now line) 1 0 ≤ 7)) ⌝ }
-    ensures { λ _. ⌜ now (line .exit) ≡ pushedIf (has (o .leg) i) (now (line .entry)) (legPacket o) ⌝ }
-{
-    if has_link(o.leg, i) {
-        push(line, leg_packet(o));
-    }
 }
 
 // The packet at a place, counted in words.
@@ -87,5 +56,36 @@ pub fn set_state(line: &mut [u32], up: bool)
         line[0] = 0;
     } else {
         line[0] = 1;
+    }
+}
+
+// Puts a packet behind those that the link holds.
+fn push(line: &mut [u32], p: Packet)
+    requires { ⌜ (length (now line) ≡ 51) × (getD (now line) 1 0 ≤ 7) ⌝ }
+    ensures { λ _. ⌜ now (line .exit) ≡ pushed (now (line .entry)) p ⌝ }
+{
+    let held = line[1];
+    let at = 2 + (held as usize) * 3;
+    line[at] = p.control;
+    line[at + 1] = p.word;
+    line[at + 2] = p.payload;
+    line[1] = held + 1;
+}
+
+fn send_packet(line: &mut [u32], o: Outcome, i: u32)
+    requires { ⌜ (length (now line) ≡ 51) × ((i < 6) × (has (o .sent) i ≡ true → getD (now line) 1 0 ≤ 7)) ⌝ }
+    ensures { λ _. ⌜ now (line .exit) ≡ pushedIf (has (o .sent) i) (now (line .entry)) (packetOn o i) ⌝ }
+{
+    if has_link(o.sent, i) {
+        push(line, packet_on(o, i));
+    }
+}
+
+fn send_leg(line: &mut [u32], o: Outcome, i: u32)
+    requires { ⌜ (length (now line) ≡ 51) × ((i < 6) × (has (o .leg) i ≡ true → getD (now line) 1 0 ≤ 7)) ⌝ }
+    ensures { λ _. ⌜ now (line .exit) ≡ pushedIf (has (o .leg) i) (now (line .entry)) (legPacket o) ⌝ }
+{
+    if has_link(o.leg, i) {
+        push(line, leg_packet(o));
     }
 }

@@ -1,4 +1,9 @@
 // Setting aside what is in flight, as a round does first: a link's packets move to the places behind its own.
+use links::words::ASIDE;
+use links::words::CHIP;
+use links::words::HEADER;
+use links::words::LINE;
+use links::words::LINES;
 ghost use mathlib.Core.Path.{_≡_};
 ghost use lib.ListN.{length, getD, drop};
 ghost use lib.Seq.{paste};
@@ -14,8 +19,8 @@ pub fn set_aside(mesh: &mut [u32], count: usize)
 {
     let mut i = 0;
     while i < count {
-        let at = 6 + i * 322;
-        chip_aside(&mut mesh[at..at + 322]);
+        let at = HEADER + i * CHIP;
+        chip_aside(&mut mesh[at..at + CHIP]);
         i += 1;
     }
 }
@@ -26,8 +31,8 @@ fn chip_aside(chip: &mut [u32])
 {
     let mut i = 0;
     while i < 6 {
-        let at = 16 + i * 51;
-        line_aside(&mut chip[at..at + 51]);
+        let at = LINES + i * LINE;
+        line_aside(&mut chip[at..at + LINE]);
         i += 1;
     }
 }
@@ -38,7 +43,7 @@ fn line_aside(line: &mut [u32])
 {
     let held = line[1];
     copy_aside(line, (held as usize) * 3);
-    line[26] = held;
+    line[ASIDE] = held;
     line[1] = 0;
 }
 

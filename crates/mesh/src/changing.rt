@@ -6,6 +6,10 @@ use super::refusing::chip_refusal;
 use super::refusing::number_refusal;
 use kept::keeping::empty_registers;
 use links::line::set_state;
+use links::words::CHIP;
+use links::words::HEADER;
+use links::words::LINE;
+use links::words::LINES;
 ghost use mathlib.Core.Path.{_≡_};
 ghost use mathlib.Core.List.{_++_};
 ghost use lib.ListN.{length, drop, replicate};
@@ -26,17 +30,9 @@ pub fn set_link(mesh: &mut [u32], chip: u32, link: u32, up: bool) -> u32
     if refusal != 0 {
         return refusal;
     }
-    let at = 6 + (chip as usize) * 322;
-    link_on_chip(&mut mesh[at..at + 322], link as usize, up);
+    let at = HEADER + (chip as usize) * CHIP;
+    link_on_chip(&mut mesh[at..at + CHIP], link as usize, up);
     0
-}
-
-fn link_on_chip(chip: &mut [u32], link: usize, up: bool)
-    requires { ⌜ (length (now chip) ≡ 322) × (link < 6) ⌝ }
-    ensures { λ _. ⌜ now (chip .exit) ≡ changedOn (stateOn up) (now (chip .entry)) link ⌝ }
-{
-    let at = 16 + link * 51;
-    set_state(&mut chip[at..at + 51], up);
 }
 
 // Hands over a chip's error registers and empties them. Refusals, the first that applies: 8 no mesh, 9 chip.
@@ -51,13 +47,21 @@ pub fn read_registers(mesh: &mut [u32], chip: u32) -> RegistersRead
             registers: empty_registers(),
         };
     }
-    let at = 6 + (chip as usize) * 322;
+    let at = HEADER + (chip as usize) * CHIP;
     let registers = registers_at(&mesh[at..at + 6]);
-    empty_chip(&mut mesh[at..at + 322]);
+    empty_chip(&mut mesh[at..at + CHIP]);
     RegistersRead {
         refusal: 0,
         registers,
     }
+}
+
+fn link_on_chip(chip: &mut [u32], link: usize, up: bool)
+    requires { ⌜ (length (now chip) ≡ 322) × (link < 6) ⌝ }
+    ensures { λ _. ⌜ now (chip .exit) ≡ changedOn (stateOn up) (now (chip .entry)) link ⌝ }
+{
+    let at = LINES + link * LINE;
+    set_state(&mut chip[at..at + LINE], up);
 }
 
 fn empty_chip(chip: &mut [u32])

@@ -5,11 +5,13 @@ use kept::counting::counted_of;
 use kept::keeping::kept_of;
 use links::line::is_ready;
 use links::line::send;
+use links::words::LINE;
+use links::words::LINES;
 use steps::Outcome;
 use steps::errors::flag_of;
 ghost use mathlib.Core.Path.{_≡_};
 ghost use lib.ListN.{length};
-ghost use Prim.Native.Nat.{_+_, _*_, _<_};
+ghost use Prim.Native.Nat.{_<_};
 ghost use Rattle.kept.specs.Keeping.{keptOf};
 ghost use Rattle.kept.specs.Counting.{countedOf};
 ghost use Rattle.mesh.specs.Mesh.{readyOf};
@@ -57,8 +59,8 @@ fn send_on(chip: &mut [u32], o: Outcome, i: u32)
     requires { ⌜ (length (now chip) ≡ 322) × ((i < 6) × Room (part (linePlace i) 51 (now chip)) o i) ⌝ }
     ensures { λ _. ⌜ now (chip .exit) ≡ changedOn (sending o) (now (chip .entry)) i ⌝ }
 {
-    let at = 16 + (i as usize) * 51;
-    send(&mut chip[at..at + 51], o, i);
+    let at = LINES + (i as usize) * LINE;
+    send(&mut chip[at..at + LINE], o, i);
 }
 
 // Keeps a pass's first dropped unit in the six words of the registers.

@@ -3,6 +3,8 @@ use super::opening::rounds_fine;
 use super::opening::words_for;
 use kept::Registers;
 use links::line::packet_at;
+use links::words::CHIP;
+use links::words::HEADER;
 use packet::Packet;
 use packet::control::kind_of;
 use packet::parity::is_odd;
@@ -14,6 +16,37 @@ ghost use lib.ListN.{length, drop};
 ghost use Prim.Native.Nat.{_+_, _*_, _≤_};
 ghost use Rattle.mesh.specs.Layout.{registersIn};
 ghost use Rattle.mesh.specs.Holding.{packetFine, placesFine, lineFine, registersFine, chipFine, chipsFine, headFine, holdsMesh};
+
+// The error registers in their six words.
+pub fn registers_at(words: &[u32]) -> Registers
+    requires { ⌜ length (now words) ≡ 6 ⌝ }
+    ensures { λ r. ⌜ r ≡ registersIn (now (words .entry)) ⌝ }
+{
+    Registers {
+        control: words[0],
+        word: words[1],
+        payload: words[2],
+        link: words[3],
+        leg: words[4],
+        more: words[5],
+    }
+}
+
+// Whether the buffer is long enough and every stored number is in range.
+pub fn holds(mesh: &[u32]) -> bool
+    ensures { λ r. ⌜ r ≡ holdsMesh (now (mesh .entry)) ⌝ }
+{
+    if mesh.len() < 6 {
+        return false;
+    }
+    if !head_fine(mesh) {
+        return false;
+    }
+    if mesh.len() < (words_for(mesh[0], mesh[1]) as usize) {
+        return false;
+    }
+    chips_fine(mesh, chips(mesh[0], mesh[1]))
+}
 
 fn packet_fine(p: Packet) -> bool
     ensures { λ r. ⌜ r ≡ packetFine p ⌝ }
@@ -64,21 +97,6 @@ fn registers_fine(r: Registers) -> bool
             | ((r.link == 0) & (r.leg == 0) & (r.more == 0)))
 }
 
-// The error registers in their six words.
-pub fn registers_at(words: &[u32]) -> Registers
-    requires { ⌜ length (now words) ≡ 6 ⌝ }
-    ensures { λ r. ⌜ r ≡ registersIn (now (words .entry)) ⌝ }
-{
-    Registers {
-        control: words[0],
-        word: words[1],
-        payload: words[2],
-        link: words[3],
-        leg: words[4],
-        more: words[5],
-    }
-}
-
 fn chip_fine(chip: &[u32]) -> bool
     requires { ⌜ length (now chip) ≡ 322 ⌝ }
     ensures { λ r. ⌜ r ≡ chipFine (now (chip .entry)) ⌝ }
@@ -98,8 +116,8 @@ fn chips_fine(mesh: &[u32], count: usize) -> bool
 {
     let mut i = 0;
     while i < count {
-        let at = 6 + i * 322;
-        if !chip_fine(&mesh[at..at + 322]) {
+        let at = HEADER + i * CHIP;
+        if !chip_fine(&mesh[at..at + CHIP]) {
             return false;
         }
         i += 1;
@@ -116,20 +134,4 @@ fn head_fine(mesh: &[u32]) -> bool
         & (mesh[3] <= 19)
         & (mesh[4] <= 3)
         & (mesh[5] < mesh[2])
-}
-
-// Whether the buffer is long enough and every stored number is in range.
-pub fn holds(mesh: &[u32]) -> bool
-    ensures { λ r. ⌜ r ≡ holdsMesh (now (mesh .entry)) ⌝ }
-{
-    if mesh.len() < 6 {
-        return false;
-    }
-    if !head_fine(mesh) {
-        return false;
-    }
-    if mesh.len() < (words_for(mesh[0], mesh[1]) as usize) {
-        return false;
-    }
-    chips_fine(mesh, chips(mesh[0], mesh[1]))
 }

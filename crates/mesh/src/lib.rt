@@ -1,17 +1,17 @@
 // A mesh of routers in a lent buffer of 32-bit words: a header, then a block for each chip. docs/LAYOUT.md has the layout.
-pub mod arriving;
-pub mod aside;
+mod arriving;
+mod aside;
 pub mod changing;
-pub mod chip;
-pub mod flight;
-pub mod going;
-pub mod holding;
-pub mod logging;
+mod chip;
+mod flight;
+mod going;
+mod holding;
+mod logging;
 pub mod looking;
 pub mod moving;
 pub mod opening;
-pub mod passing;
-pub mod refusing;
+mod passing;
+mod refusing;
 
 use kept::Registers;
 

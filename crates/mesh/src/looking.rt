@@ -6,6 +6,11 @@ use super::flight::in_flight;
 use super::holding::holds;
 use super::refusing::number_refusal;
 use links::line::is_ready;
+use links::words::CHIP;
+use links::words::COUNTERS;
+use links::words::HEADER;
+use links::words::LINE;
+use links::words::LINES;
 use router::call::chips;
 use steps::errors::flag_of;
 ghost use mathlib.Core.Path.{_≡_};
@@ -23,7 +28,7 @@ pub fn read_counter(mesh: &[u32], chip: u32, counter: u32) -> CountRead
     if refusal != 0 {
         return CountRead { refusal, count: 0 };
     }
-    let at = 6 + (chip as usize) * 322 + (6 + counter as usize);
+    let at = HEADER + (chip as usize) * CHIP + (COUNTERS + counter as usize);
     CountRead {
         refusal: 0,
         count: mesh[at],
@@ -73,8 +78,8 @@ pub fn look_link(mesh: &[u32], chip: u32, link: u32) -> LinkRead
             ready: 0,
         };
     }
-    let at = 6 + (chip as usize) * 322 + (16 + (link as usize) * 51);
-    look_line(&mesh[at..at + 51])
+    let at = HEADER + (chip as usize) * CHIP + (LINES + (link as usize) * LINE);
+    look_line(&mesh[at..at + LINE])
 }
 
 fn look_line(line: &[u32]) -> LinkRead

@@ -1,6 +1,8 @@
 // One pass at a chip of the mesh: that of the router, with the chip's own ready set.
 use super::chip::after;
 use super::chip::ready_of;
+use links::words::CHIP;
+use links::words::HEADER;
 use packet::Packet;
 use steps::Outcome;
 use steps::Setting;
@@ -21,8 +23,8 @@ pub fn pass_at(
     ensures { λ o. ⌜ o ≡ outcomeOf p source (now (rows .entry)) (now (codes .entry)) (settingIn (now (mesh .entry)) chip) ⌝ }
     ensures { λ o. ⌜ MeshStep (now (mesh .entry)) (now (mesh .exit)) chip o ⌝ }
 {
-    let at = 6 + chip * 322;
-    let ready = ready_of(&mesh[at..at + 322]);
+    let at = HEADER + chip * CHIP;
+    let ready = ready_of(&mesh[at..at + CHIP]);
     let t = Setting {
         width: mesh[0],
         height: mesh[1],
@@ -31,6 +33,6 @@ pub fn pass_at(
         ready,
     };
     let o = outcome_of(p, source, rows, codes, t);
-    after(&mut mesh[at..at + 322], o);
+    after(&mut mesh[at..at + CHIP], o);
     o
 }

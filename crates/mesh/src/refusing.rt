@@ -64,6 +64,33 @@ pub fn round_refusal(mesh: &[u32], room: usize, rows: &[u32], starts: &[u32], co
     0
 }
 
+// A chip's registers: 8 no mesh, 9 chip.
+pub fn chip_refusal(mesh: &[u32], chip: u32) -> u32
+    ensures { λ r. ⌜ r ≡ firstOf (chipRefusals (holdsMesh (now (mesh .entry))) (chipsOf (now (mesh .entry))) chip) ⌝ }
+{
+    if !holds(mesh) {
+        return 8;
+    }
+    if chips(mesh[0], mesh[1]) <= (chip as usize) {
+        return 9;
+    }
+    0
+}
+
+// A link or a counter of a chip: 8 no mesh, 9 chip, link or counter.
+pub fn number_refusal(mesh: &[u32], chip: u32, number: u32, end: u32) -> u32
+    ensures { λ r. ⌜ r ≡ firstOf (numberRefusals (holdsMesh (now (mesh .entry))) (chipsOf (now (mesh .entry))) chip number end) ⌝ }
+{
+    let refusal = chip_refusal(mesh, chip);
+    if refusal != 0 {
+        return refusal;
+    }
+    if end <= number {
+        return 9;
+    }
+    0
+}
+
 fn tables_refusal(rows: &[u32], starts: &[u32], codes: &[u8], chips: usize) -> u32
     requires { ⌜ chips ≤ 144 ⌝ }
     ensures { λ r. ⌜ r ≡ firstOf (tablesRefusals (tablesOf (now (rows .entry)) (now (starts .entry)) (now (codes .entry))) chips) ⌝ }
@@ -96,33 +123,6 @@ fn packet_refusal(bytes: &[u8]) -> u32
     let p = taken.packet;
     if is_direct(p.control) {
         return 4;
-    }
-    0
-}
-
-// A chip's registers: 8 no mesh, 9 chip.
-pub fn chip_refusal(mesh: &[u32], chip: u32) -> u32
-    ensures { λ r. ⌜ r ≡ firstOf (chipRefusals (holdsMesh (now (mesh .entry))) (chipsOf (now (mesh .entry))) chip) ⌝ }
-{
-    if !holds(mesh) {
-        return 8;
-    }
-    if chips(mesh[0], mesh[1]) <= (chip as usize) {
-        return 9;
-    }
-    0
-}
-
-// A link or a counter of a chip: 8 no mesh, 9 chip, link or counter.
-pub fn number_refusal(mesh: &[u32], chip: u32, number: u32, end: u32) -> u32
-    ensures { λ r. ⌜ r ≡ firstOf (numberRefusals (holdsMesh (now (mesh .entry))) (chipsOf (now (mesh .entry))) chip number end) ⌝ }
-{
-    let refusal = chip_refusal(mesh, chip);
-    if refusal != 0 {
-        return refusal;
-    }
-    if end <= number {
-        return 9;
     }
     0
 }

@@ -34,6 +34,19 @@ pub fn bytes_of(p: Packet) -> Packed
     }
 }
 
+// A refusal: its number, and zeros elsewhere.
+pub fn not_taken(refusal: u32) -> Taken
+    ensures { λ r. ⌜ r ≡ notTaken refusal ⌝ }
+{
+    let packet = Packet {
+        control: 0,
+        nine: 0,
+        word: 0,
+        payload: 0,
+    };
+    Taken { refusal, packet }
+}
+
 // A byte as a number.
 fn wide(b: u8) -> u32
     ensures { λ r. ⌜ (r ≡ b) × (r < 256) ⌝ }
@@ -84,19 +97,6 @@ fn used(p: Packet) -> Taken
     } else {
         not_taken(3)
     }
-}
-
-// A refusal: its number, and zeros elsewhere.
-pub fn not_taken(refusal: u32) -> Taken
-    ensures { λ r. ⌜ r ≡ notTaken refusal ⌝ }
-{
-    let packet = Packet {
-        control: 0,
-        nine: 0,
-        word: 0,
-        payload: 0,
-    };
-    Taken { refusal, packet }
 }
 
 // The packet's nine places. Both words are turned first, so that each is stored at once.

@@ -37,6 +37,26 @@ pub fn pass(bytes: &[u8], source: u32, rows: &[u32], codes: &[u8], t: Setting) -
     shown(taken.refusal, o)
 }
 
+pub fn size_fine(width: u32, height: u32) -> bool
+    ensures { λ r. ⌜ r ≡ sizeFine width height ⌝ }
+{
+    (1 <= width) & (width <= 12) & (1 <= height) & (height <= 12)
+}
+
+pub fn is_direct(control: u32) -> bool
+    ensures { λ r. ⌜ r ≡ isDirect control ⌝ }
+{
+    (kind_of(control) == 2) & (direct_of(control) == 1)
+}
+
+// How many chips a mesh of this size has.
+pub fn chips(width: u32, height: u32) -> usize
+    requires { ⌜ sizeFine width height ≡ true ⌝ }
+    ensures { λ r. ⌜ r ≡ height * width ⌝ }
+{
+    (height * width) as usize
+}
+
 // What a pass does, or nothing where it is refused. The steps stand here as in `outcome_of`, which the mesh calls: with two callers
 // the compiler would not put it in place in either.
 fn outcome_unless(
@@ -102,12 +122,6 @@ fn setting_refusal(source: u32, rows: &[u32], codes: &[u8], t: Setting) -> u32
     0
 }
 
-pub fn size_fine(width: u32, height: u32) -> bool
-    ensures { λ r. ⌜ r ≡ sizeFine width height ⌝ }
-{
-    (1 <= width) & (width <= 12) & (1 <= height) & (height <= 12)
-}
-
 fn setting_fine(t: Setting) -> bool
     ensures { λ r. ⌜ r ≡ settingFine t ⌝ }
 {
@@ -118,18 +132,4 @@ fn source_fine(source: u32) -> bool
     ensures { λ r. ⌜ r ≡ sourceFine source ⌝ }
 {
     (source <= 5) | (source == 7)
-}
-
-pub fn is_direct(control: u32) -> bool
-    ensures { λ r. ⌜ r ≡ isDirect control ⌝ }
-{
-    (kind_of(control) == 2) & (direct_of(control) == 1)
-}
-
-// How many chips a mesh of this size has.
-pub fn chips(width: u32, height: u32) -> usize
-    requires { ⌜ sizeFine width height ≡ true ⌝ }
-    ensures { λ r. ⌜ r ≡ height * width ⌝ }
-{
-    (height * width) as usize
 }

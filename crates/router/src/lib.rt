@@ -1,6 +1,6 @@
 // The one-router call: it takes anything, refuses or makes one pass, and shows all of it.
 pub mod call;
-pub mod showing;
+mod showing;
 
 use kept::Counters;
 use kept::Registers;

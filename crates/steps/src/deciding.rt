@@ -86,36 +86,6 @@ pub fn has_link(set: u32, i: u32) -> bool
     (set >> i) % 2 == 1
 }
 
-fn mark_on(o: Outcome, i: u32) -> u32
-    requires { ⌜ i < 6 ⌝ }
-    ensures { λ r. ⌜ r ≡ markOn o i ⌝ }
-{
-    if has_link(o.carried, i) {
-        if has_link(o.wanted % 64, i) { 1 } else { 2 }
-    } else {
-        0
-    }
-}
-
-fn has_leg(errors: u32, p: Packet) -> bool
-    ensures { λ r. ⌜ r ≡ hasLeg errors p ⌝ }
-{
-    (errors == 0)
-        & (kind_of(p.control) == 0)
-        & ((mark_of(p.control) == 1) | (mark_of(p.control) == 2))
-}
-
-fn leg_set(errors: u32, p: Packet, source: u32) -> u32
-    requires { ⌜ source < 8 ⌝ }
-    ensures { λ r. ⌜ (r ≡ legSet errors p source) × (r < 64) ⌝ }
-{
-    if has_leg(errors, p) {
-        bit((source + 5) % 6)
-    } else {
-        0
-    }
-}
-
 // Steps 4 to 7.
 pub fn decide(errors: u32, p: Packet, source: u32, w: Wanted, ready: u32) -> Outcome
     requires { ⌜ (source < 8) × (ready < 64) ⌝ }
@@ -147,5 +117,35 @@ pub fn decide(errors: u32, p: Packet, source: u32, w: Wanted, ready: u32) -> Out
             leg: plain_send_set(leg, ready),
             lost: plain_drop_set(leg, ready),
         }
+    }
+}
+
+fn mark_on(o: Outcome, i: u32) -> u32
+    requires { ⌜ i < 6 ⌝ }
+    ensures { λ r. ⌜ r ≡ markOn o i ⌝ }
+{
+    if has_link(o.carried, i) {
+        if has_link(o.wanted % 64, i) { 1 } else { 2 }
+    } else {
+        0
+    }
+}
+
+fn has_leg(errors: u32, p: Packet) -> bool
+    ensures { λ r. ⌜ r ≡ hasLeg errors p ⌝ }
+{
+    (errors == 0)
+        & (kind_of(p.control) == 0)
+        & ((mark_of(p.control) == 1) | (mark_of(p.control) == 2))
+}
+
+fn leg_set(errors: u32, p: Packet, source: u32) -> u32
+    requires { ⌜ source < 8 ⌝ }
+    ensures { λ r. ⌜ (r ≡ legSet errors p source) × (r < 64) ⌝ }
+{
+    if has_leg(errors, p) {
+        bit((source + 5) % 6)
+    } else {
+        0
     }
 }

@@ -17,6 +17,22 @@ pub fn errors_of(p: Packet, source: u32, phase: u32) -> u32
     flag_of(!is_odd(p), 1) + flag_of(wrong_length(p), 4) + source_errors(p.control, source, phase)
 }
 
+pub fn stamped_of(p: Packet, source: u32, errors: u32, phase: u32) -> Packet
+    ensures { λ r. ⌜ r ≡ stampedOf p source errors phase ⌝ }
+{
+    if (errors == 0) & (source == 7) & (kind_of(p.control) < 2) {
+        with_stamp(p, phase)
+    } else {
+        p
+    }
+}
+
+pub fn flag_of(b: bool, n: u32) -> u32
+    ensures { λ r. ⌜ (r ≡ flag b n) × (r ≤ n) ⌝ }
+{
+    if b { n } else { 0 }
+}
+
 // The errors that only a local packet, or only one from a link, can show.
 fn source_errors(control: u32, source: u32, phase: u32) -> u32
     requires { ⌜ phase ≤ 3 ⌝ }
@@ -26,16 +42,6 @@ fn source_errors(control: u32, source: u32, phase: u32) -> u32
         flag_of(bad_local(control, source), 8)
     } else {
         flag_of(too_old(control, source, phase), 2)
-    }
-}
-
-pub fn stamped_of(p: Packet, source: u32, errors: u32, phase: u32) -> Packet
-    ensures { λ r. ⌜ r ≡ stampedOf p source errors phase ⌝ }
-{
-    if (errors == 0) & (source == 7) & (kind_of(p.control) < 2) {
-        with_stamp(p, phase)
-    } else {
-        p
     }
 }
 
@@ -56,10 +62,4 @@ fn bad_local(control: u32, source: u32) -> bool
     ensures { λ r. ⌜ r ≡ badLocal control source ⌝ }
 {
     (source == 7) & (kind_of(control) == 0) & (mark_of(control) != 0)
-}
-
-pub fn flag_of(b: bool, n: u32) -> u32
-    ensures { λ r. ⌜ (r ≡ flag b n) × (r ≤ n) ⌝ }
-{
-    if b { n } else { 0 }
 }

@@ -1,6 +1,6 @@
 // The steps of one pass: errors and stamping, the wanted set, the second leg, detours and drops.
 pub mod deciding;
-pub mod detour;
+mod detour;
 pub mod errors;
 pub mod wants;
 

@@ -60,6 +60,13 @@ pub fn wanted_given(
     }
 }
 
+pub fn bit(i: u32) -> u32
+    requires { ⌜ i < 26 ⌝ }
+    ensures { λ r. ⌜ r ≡ 2 ^ i ⌝ }
+{
+    1 << i
+}
+
 fn mc_wanted(found: Matched, mark: u32, source: u32, monitor: u32) -> Wanted
     requires { ⌜ (source < 8) × (monitor < 20) ⌝ }
     ensures { λ r. ⌜ r ≡ markWanted found mark source monitor ⌝ }
@@ -139,11 +146,4 @@ fn monitor_bit(monitor: u32) -> u32
     ensures { λ r. ⌜ r ≡ monitorBit monitor ⌝ }
 {
     bit(6 + monitor)
-}
-
-pub fn bit(i: u32) -> u32
-    requires { ⌜ i < 26 ⌝ }
-    ensures { λ r. ⌜ r ≡ 2 ^ i ⌝ }
-{
-    1 << i
 }

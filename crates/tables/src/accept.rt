@@ -10,7 +10,7 @@ ghost use Rattle.tables.specs.Rows.{rowsOf};
 ghost use Rattle.tables.specs.Accept.{allRoutes, routesFine, rowsFine, allCodes, codesFine, aboveSeven, startsFine, SideBySide};
 
 // The most rows that a chip's table has.
-pub const MOST_ROWS: usize = 1024;
+const MOST_ROWS: usize = 1024;
 
 // The lowest route bit that names neither a link nor a processor.
 const ROUTES: u32 = 0x0400_0000;
@@ -49,6 +49,44 @@ pub fn routes_fine(rows: &[u32]) -> bool
     last_routes(rows, joined | other) < ROUTES
 }
 
+// P2P codes: as many as asked for, none above 7. Eight of them a turn, as one number, then what is left of them.
+pub fn codes_fine(codes: &[u8], count: usize) -> bool
+    ensures { λ r. ⌜ r ≡ codesFine (now (codes .entry)) count ⌝ }
+{
+    if codes.len() != count {
+        return false;
+    }
+    let eights = codes.len() / 8;
+    let mut joined = 0;
+    let mut i = 0;
+    while i < eights {
+        joined = joined | eight_codes(codes, i * 8);
+        i += 1;
+    }
+    last_codes(codes, joined) & ABOVE_SEVEN == 0
+}
+
+// Where each chip's rows start: the first at 0, none before the one before it, at most 1,024 rows a chip, the last the number of rows.
+pub fn starts_fine(starts: &[u32], chips: usize, rows: usize) -> bool
+    ensures { λ r. ⌜ r ≡ startsFine (now (starts .entry)) chips rows ⌝ }
+{
+    if starts.len() == 0 {
+        return false;
+    }
+    if starts.len() - 1 != chips {
+        return false;
+    }
+    let mut fine = starts[0] == 0;
+    let mut i = 0;
+    while i < chips {
+        let start = wide(starts[i]);
+        let next = wide(starts[i + 1]);
+        fine = fine & (start <= next) & (next <= start + MOST_ROWS);
+        i += 1;
+    }
+    fine & (wide(starts[chips]) == rows)
+}
+
 // The routes of four rows joined: they are fine where it is below the lowest bit that may not be set.
 fn four_routes(rows: &[u32], i: usize) -> u32
     requires { ⌜ (i + 3) * 3 + 2 < length (now rows) ⌝ }
@@ -69,23 +107,6 @@ fn last_routes(rows: &[u32], so_far: u32) -> u32
         i += 1;
     }
     joined
-}
-
-// P2P codes: as many as asked for, none above 7. Eight of them a turn, as one number, then what is left of them.
-pub fn codes_fine(codes: &[u8], count: usize) -> bool
-    ensures { λ r. ⌜ r ≡ codesFine (now (codes .entry)) count ⌝ }
-{
-    if codes.len() != count {
-        return false;
-    }
-    let eights = codes.len() / 8;
-    let mut joined = 0;
-    let mut i = 0;
-    while i < eights {
-        joined = joined | eight_codes(codes, i * 8);
-        i += 1;
-    }
-    last_codes(codes, joined) & ABOVE_SEVEN == 0
 }
 
 // What is joined so far, with the codes past the last whole eight. Where these start is no parameter: the compiler would not see that at most
@@ -142,25 +163,4 @@ fn wide(start: u32) -> usize
     ensures { λ r. ⌜ r ≡ start ⌝ }
 {
     start as usize
-}
-
-// Where each chip's rows start: the first at 0, none before the one before it, at most 1,024 rows a chip, the last the number of rows.
-pub fn starts_fine(starts: &[u32], chips: usize, rows: usize) -> bool
-    ensures { λ r. ⌜ r ≡ startsFine (now (starts .entry)) chips rows ⌝ }
-{
-    if starts.len() == 0 {
-        return false;
-    }
-    if starts.len() - 1 != chips {
-        return false;
-    }
-    let mut fine = starts[0] == 0;
-    let mut i = 0;
-    while i < chips {
-        let start = wide(starts[i]);
-        let next = wide(starts[i + 1]);
-        fine = fine & (start <= next) & (next <= start + MOST_ROWS);
-        i += 1;
-    }
-    fine & (wide(starts[chips]) == rows)
 }

@@ -48,24 +48,6 @@ pub fn first_match(rows: &[u32], key: u32) -> Found
     }
 }
 
-// The number of the first row that matches, from a row on, row by row; the number of rows where none does.
-fn first_from(rows: &[u32], key: u32, from: usize) -> usize
-    requires { ⌜ from ≤ length (now rows) / 3 ⌝ }
-    ensures { λ r. ⌜ (foundAt (length (now (rows .entry)) / 3) r ≡ foundFrom key (now (rows .entry)) from) × (r ≤ length (now (rows .entry)) / 3) ⌝ }
-{
-    let count = rows.len() / 3;
-    let mut i = from;
-    loop {
-        if i >= count {
-            break count;
-        }
-        if matches_at(rows, i, key) {
-            break i;
-        }
-        i += 1;
-    }
-}
-
 // The same search through a table lent as a slice of rows.
 pub fn first_row(rows: &[Row], key: u32) -> Found
     ensures { λ r. ⌜ r ≡ firstMatch key (rowsOf (numbersOf (now (rows .entry)))) ⌝ }
@@ -88,6 +70,31 @@ pub fn first_of_four(rows: [Row; 4], key: u32) -> Found
     first_row(&rows, key)
 }
 
+pub fn route_at(rows: &[u32], n: usize) -> u32
+    requires { ⌜ n * 3 + 2 < length (now rows) ⌝ }
+    ensures { λ r. ⌜ r ≡ getD (now (rows .entry)) (n * 3 + 2) 0 ⌝ }
+{
+    rows[n * 3 + 2]
+}
+
+// The number of the first row that matches, from a row on, row by row; the number of rows where none does.
+fn first_from(rows: &[u32], key: u32, from: usize) -> usize
+    requires { ⌜ from ≤ length (now rows) / 3 ⌝ }
+    ensures { λ r. ⌜ (foundAt (length (now (rows .entry)) / 3) r ≡ foundFrom key (now (rows .entry)) from) × (r ≤ length (now (rows .entry)) / 3) ⌝ }
+{
+    let count = rows.len() / 3;
+    let mut i = from;
+    loop {
+        if i >= count {
+            break count;
+        }
+        if matches_at(rows, i, key) {
+            break i;
+        }
+        i += 1;
+    }
+}
+
 fn matches_at(rows: &[u32], i: usize, key: u32) -> bool
     requires { ⌜ i * 3 + 2 < length (now rows) ⌝ }
     ensures { λ r. ⌜ r ≡ matches key (getD (now (rows .entry)) (i * 3) 0) (getD (now (rows .entry)) (i * 3 + 1) 0) ⌝ }
@@ -99,11 +106,4 @@ fn matches_row(key: u32, row_key: u32, mask: u32) -> bool
     ensures { λ r. ⌜ r ≡ matches key «row_key» mask ⌝ }
 {
     (key & mask) == (row_key & mask)
-}
-
-pub fn route_at(rows: &[u32], n: usize) -> u32
-    requires { ⌜ n * 3 + 2 < length (now rows) ⌝ }
-    ensures { λ r. ⌜ r ≡ getD (now (rows .entry)) (n * 3 + 2) 0 ⌝ }
-{
-    rows[n * 3 + 2]
 }

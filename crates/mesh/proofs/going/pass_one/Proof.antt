@@ -1,7 +1,6 @@
 use borrow.Author.Needs.{needs}
 use native.Mathlib.Omega.{arith}
 use native.Mathlib.Nat.{add-sub-cancel-left}
-use Prim.Native.Nat.{_-_}
 use Rattle.mesh.proofs.FineSteps.{head-size}
 use Rattle.mesh.proofs.Goings as goings
 use Rattle.mesh.proofs.going.pass_one.Statement.{statement}
