@@ -1,6 +1,6 @@
 -- What holds of every pass, whatever the packet, the tables and the setting. Assumes nothing.
 use mathlib.Core.Path.{_≡_, refl, sym, ap, _∙_}
-use mathlib.Core.Logic.{_⊎_, ⊎-elim}
+use mathlib.Core.Logic.{⊎-elim}
 use mathlib.Core.Bool.{Bool, true, false, cond, _&&_, not, true≢false}
 use mathlib.Core.List.{List}
 use Prim.Native.Nat.{ℕ, _+_, _^_, _≤_, _<_}
@@ -18,15 +18,11 @@ use Rattle.steps.specs.declared.Setting.{Setting}
 use Rattle.steps.specs.Links.{has, linksOf, monitorBit}
 use Rattle.steps.specs.Errors.{errorsOf, stampedOf, tooOld, badLocal, wrongLength, flag}
 use Rattle.steps.specs.Wants.{wantedOf}
-use Rattle.steps.specs.Deciding.{isMc, decided, outcomeOf, markOn, packetOn, legPacket, Checked}
+use Rattle.steps.specs.Deciding.{isMc, decided, outcomeOf, markOn, packetOn, legPacket, Source, Checked}
 use Rattle.kept.specs.Keeping.{dropCount}
 use Rattle.kept.specs.Counting.{delivered, swallowed}
 use Rattle.kept.specs.Units.{weightIn, extra, ended, weightSent}
 use Rattle.kept.proofs.Account.{Consistent, account-decided}
-
--- a link, or local
-abbrev pub Source : ℕ → Type 0
-Source s = (s < 6) ⊎ (s ≡ 7)
 
 -- ---- stamping
 

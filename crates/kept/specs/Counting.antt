@@ -17,7 +17,8 @@ use Rattle.steps.specs.Links.{processorsOf}
 abbrev pub delivered : Outcome → ℕ
 delivered o = cond (eqb (o .errors) 0) (ones (processorsOf (o .wanted))) 0
 
--- "On a pass without error ... one marked 10 has only the leg; every other packet has [its] wanted set. A part with ... b = 0 is swallowed."
+-- "On a pass without error a packet marked 01 has two parts, its wanted set and its second leg; one marked 10 has only the leg; every other packet has only
+-- its wanted set. A part with b branches ...; with b = 0 it is swallowed." The leg is one branch.
 abbrev pub swallows : Outcome → Bool
 swallows o = eqb (o .errors) 0 && eqb (o .wanted) 0 && not (isMc (o .packet) && eqb (markOf (o .packet .control)) 2)
 

@@ -10,7 +10,7 @@ ghost use Prim.Native.Nat.{ℕ, _+_, _/_, _%_, _≤_, _<_};
 ghost use Rattle.router.specs.Call.{sizeFine};
 ghost use Rattle.links.specs.Across.{stepEast, stepNorth, across, asidePlace};
 
-// The place of the count of what was set aside for the chip at x and y on the link that it arrives by.
+// The place of the count of what was set aside for the chip at x and y, on the link opposite to the one that it arrives by.
 pub fn aside_place(width: u32, height: u32, x: u32, y: u32, source: u32) -> usize
     requires { ⌜ (sizeFine width height ≡ true) × ((x < width) × ((y < height) × (source < 6))) ⌝ }
     ensures { λ r. ⌜ ((chip : ℕ) → x ≡ chip % width → y ≡ chip / width → r ≡ asidePlace width height chip source) ⌝ }

@@ -15,7 +15,7 @@ use Rattle.steps.specs.Links.{has, setOf, linksOf}
 use Rattle.steps.specs.Detour.{carries, sends}
 use Rattle.steps.specs.Errors.{errorsOf, stampedOf}
 use Rattle.steps.specs.Wants.{wantedOf}
-use Rattle.steps.specs.Deciding.{isMc, legSet, decided, outcomeOf, packetOn, legPacket, Checked}
+use Rattle.steps.specs.Deciding.{isMc, legSet, decided, outcomeOf, packetOn, legPacket, Source, Checked}
 use Rattle.steps.proofs.Bounds.{outcome-sets}
 use Rattle.kept.proofs.OnePass as pass
 use Rattle.mesh.specs.Mesh.{readyOf}
@@ -28,7 +28,7 @@ use Rattle.mesh.proofs.Ready.{sent-ready, leg-ready, ready-room}
 pub has-none : (i : ℕ) → has 0 i ≡ false
 has-none i = ap (λ (n : ℕ). eqb n 1) (ap (λ (n : ℕ). n % 2) (zero-div (2 ^ i)) ∙ zero-mod 2)
 
-module _ (p : Packet) (s : ℕ) (rows codes : List ℕ) (t : Setting) (h : Checked p s codes t) (from : pass.Source s) where
+module _ (p : Packet) (s : ℕ) (rows codes : List ℕ) (t : Setting) (h : Checked p s codes t) (from : Source s) where
   -- the packet after stamping is right in length where there is no error
   pub stamped-right : errorsOf p s (t .phase) ≡ 0 → Right (outcomeOf p s rows codes t .packet)
   unfolding outcomeOf decided

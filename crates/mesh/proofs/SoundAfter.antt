@@ -11,9 +11,8 @@ use Rattle.packet.specs.declared.Packet.{Packet}
 use Rattle.steps.specs.declared.Outcome.{Outcome}
 use Rattle.steps.specs.declared.Setting.{Setting}
 use Rattle.steps.specs.Links.{has}
-use Rattle.steps.specs.Deciding.{outcomeOf, packetOn, legPacket, Checked}
+use Rattle.steps.specs.Deciding.{outcomeOf, packetOn, legPacket, Source, Checked}
 use Rattle.router.proofs.LowestFirst.{six}
-use Rattle.kept.proofs.OnePass as pass
 use Rattle.links.specs.Line.{Flight, Line, idle, isReady, sent, lineAfter}
 use Rattle.mesh.specs.Mesh.{Chip, readyOf}
 use Rattle.mesh.specs.Steps.{linesAfter, chipAfter}
@@ -64,7 +63,7 @@ module _ {A : Type 0} where
       leb-true _ _ (and-eq-true-iff (getD (c .lines) i idle .up) (leb (length (getD (c .lines) i idle .held)) 6) .0 t .1)
 
   pub sound-after : (c : Chip A) (tag : A) → SoundChip c → (p : Packet) (s : ℕ) (rows codes : List ℕ) (t : Setting) → t .ready ≡ readyOf c → Checked p s codes t
-      → pass.Source s → Passable p → SoundChip (chipAfter (outcomeOf p s rows codes t) tag c)
+      → Source s → Passable p → SoundChip (chipAfter (outcomeOf p s rows codes t) tag c)
   sound-after c tag sound p s rows codes t ready h from passable =
       record {
         six = length-lines-after o tag 0 (c .lines) ∙ sound .six;

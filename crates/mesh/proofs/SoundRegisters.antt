@@ -16,7 +16,7 @@ use Rattle.steps.specs.declared.Setting.{Setting}
 use Rattle.steps.specs.Links.{has, setOf}
 use Rattle.steps.specs.Detour.{drops}
 use Rattle.steps.specs.Errors.{errorsOf, stampedOf}
-use Rattle.steps.specs.Deciding.{isMc, legSet, decided, outcomeOf, Checked}
+use Rattle.steps.specs.Deciding.{isMc, legSet, decided, outcomeOf, Source, Checked}
 use Rattle.kept.specs.Keeping.{isEmpty, dropCount, lowest, firstDrop, withMore, keptOf}
 use Rattle.kept.proofs.OnePass as pass
 use Rattle.mesh.specs.Holding.{registersFine}
@@ -74,7 +74,7 @@ more-fine r fine some =
     let t : _ = simp and-eq-true-iff at fine in
     simp (t .0 .0 .0 .0, t .0 .0 .0 .1, t .0 .0 .1, some)
 
-module _ (p : Packet) (s : ℕ) (rows codes : List ℕ) (t : Setting) (h : Checked p s codes t) (from : pass.Source s) where
+module _ (p : Packet) (s : ℕ) (rows codes : List ℕ) (t : Setting) (h : Checked p s codes t) (from : Source s) where
   -- a packet in error is dropped nowhere
   pub error-drops-none : (errorsOf p s (t .phase) ≡ 0 → ⊥) → dropCount (outcomeOf p s rows codes t) ≡ 0
   unfolding outcomeOf decided ones

@@ -14,7 +14,7 @@ use Rattle.steps.specs.declared.Setting.{Setting}
 use Rattle.steps.specs.Links.{has, link}
 use Rattle.router.specs.Call.{isDirect}
 use Rattle.steps.specs.Errors.{errorsOf, stampedOf}
-use Rattle.steps.specs.Deciding.{isMc, hasLeg, legSet, decided, outcomeOf, packetOn, legPacket, Checked}
+use Rattle.steps.specs.Deciding.{isMc, hasLeg, legSet, decided, outcomeOf, packetOn, legPacket, Source, Checked}
 use Rattle.kept.proofs.OnePass as pass
 use Rattle.links.specs.Lines.{Right}
 use Rattle.mesh.specs.Sound.{Passable, SoundPacket}
@@ -44,7 +44,7 @@ field-passable {p = p} {q = q} f low h =
       absent = λ e. f .payload ∙ h .absent (sym (f .nine) ∙ e);
     }
 
-module _ (p : Packet) (s : ℕ) (rows codes : List ℕ) (t : Setting) (h : Checked p s codes t) (from : pass.Source s) (passable : Passable p) where
+module _ (p : Packet) (s : ℕ) (rows codes : List ℕ) (t : Setting) (h : Checked p s codes t) (from : Source s) (passable : Passable p) where
   -- the packet after stamping
   pub stamped-passable : Passable (outcomeOf p s rows codes t .packet)
   unfolding outcomeOf decided

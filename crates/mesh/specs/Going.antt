@@ -35,7 +35,7 @@ unfoldable pub upTo : {X : Type 0} → (ℕ → List X) → ℕ → List X
 upTo f zero = []
 upTo f (suc k) = upTo f k ++ f k
 
--- What was set aside for a chip on the link opposite to the one that it arrives by; on all six; for the chips below k.
+-- What was set aside for a chip on the link opposite to the one that it arrives by: its words; the packets; those on all six links.
 abbrev pub asideFor : List ℕ → ℕ → ℕ → List ℕ
 asideFor l chip source = lineWords (opposite source) (chipWords (across (getD l 0 0) (getD l 1 0) chip source) l)
 

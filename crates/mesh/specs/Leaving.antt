@@ -13,8 +13,8 @@ use Rattle.mesh.specs.Steps.{Tables}
 use Rattle.mesh.specs.Going.{same}
 use Rattle.mesh.specs.Calls.{Left, injecting, rounding, linking, emptying}
 
--- A mesh buffer before and after a call that leaves r. "A refused call changes nothing"; "each buffer left by ... an accepted call holds [a
--- mesh]"; words past the needed length are never touched.
+-- A mesh buffer before and after a call that leaves r. "A refusal returns its number ..., and lent memory stays as it came." "Each buffer left by opening
+-- or by an accepted call holds one [a mesh]". Words past the needed length are never touched.
 pub record Leaves (before after : List ℕ) (r : Left (Unit {0})) : Type 0 where
   pub refused : (r .refusal ≡ 0 → ⊥) → after ≡ before
   pub mesh : r .refusal ≡ 0 → meshOf after ≡ r .mesh

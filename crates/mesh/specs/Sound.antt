@@ -59,6 +59,6 @@ module _ {A : Type 0} where
     pub many : length (m .chips) ≡ m .height * m .width
     pub chips : All SoundChip (m .chips)
 
--- Every link's state word is 0 or 1.
+-- And of the words, which the mesh read from them does not tell: every link's state word is 0 or 1.
 abbrev pub StatesFine : List ℕ → Type 0
 StatesFine l = (c j : ℕ) → c < getD l 1 0 * getD l 0 0 → j < 6 → getD (lineWords j (chipWords c l)) 0 0 ≤ 1

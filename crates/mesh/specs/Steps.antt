@@ -30,8 +30,8 @@ rowsAt t c = take ((getD (t .starts) (c + 1) 0 - getD (t .starts) c 0) * 3) (dro
 abbrev pub codesAt : Tables → ℕ → ℕ → List ℕ
 codesAt t chips c = take chips (drop (c * chips) (t .codes))
 
--- "A pass that hands a packet to at least one processor adds one log record of six 32-bit numbers: chip, processor set, error flags, control
--- byte, word, payload or 0."
+-- "A pass that hands a packet to at least one processor adds one log record of six 32-bit numbers: chip, processor set (bit k for processor k), error
+-- flags (1 parity, 2 age, 4 length, 8 bad local, added), control byte, word, payload or 0."
 abbrev pub logOf : ℕ → Outcome → List ℕ
 logOf chip o =
     cond (ltb (o .wanted) 64) []

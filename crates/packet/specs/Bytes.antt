@@ -25,7 +25,7 @@ packetAt s =
       payload = cond (eqb (length s) 9) (wordAt s 5) 0;
     }
 
--- "A refusal returns its number and zeros elsewhere."
+-- "A refusal returns its number and zeros elsewhere ..."
 abbrev pub nothing : Packet
 nothing = record { control = 0; nine = 0; word = 0; payload = 0 }
 

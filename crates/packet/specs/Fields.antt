@@ -52,7 +52,7 @@ mcFields p =
       payload = p .payload;
     }
 
--- "The P2P word is source ID in the high half, destination ID in the low."
+-- "The P2P word is source ID in the high half, destination ID in the low ..."
 abbrev pub p2pFields : Packet → Fields
 p2pFields p =
     record {
@@ -124,7 +124,7 @@ readOf s = readFrom (takenOf s)
 
 -- ---- packing
 
--- "A field that the type lacks and a payload that isn't there are in range only as 0."
+-- "... a field that the type lacks and a payload that isn't there are in range only as 0 ..."
 abbrev pub mcInRange : Fields → Bool
 mcInRange f =
     ltb (f .mark) 4 && eqb (f .sequence) 0 && ltb (f .stamp) 4 && eqb (f .direct) 0 && eqb (f .route) 0 && eqb (f .source) 0
@@ -146,7 +146,7 @@ abbrev pub endInRange : Fields → Bool
 endInRange f =
     ltb (f .carries) 2 && ltb (f .parity) 2 && ltb (f .nine) 2 && (eqb (f .nine) 1 || eqb (f .payload) 0)
 
--- "Type 3 is refusal 3, once its other fields pass as MC's would, above 3 is 6."
+-- "... type 3 is refusal 3, once its other fields pass as MC's would, above 3 is 6 ..."
 abbrev pub inRange : Fields → Bool
 inRange f =
     ltb (f .kind) 4 && endInRange f

@@ -9,8 +9,7 @@ use Rattle.packet.specs.declared.Packet.{Packet}
 use Rattle.packet.specs.Control.{kindOf, stampOf}
 use Rattle.steps.specs.declared.Setting.{Setting}
 use Rattle.steps.specs.Errors.{errorsOf}
-use Rattle.steps.specs.Deciding.{outcomeOf, Checked}
-use Rattle.kept.proofs.OnePass as pass
+use Rattle.steps.specs.Deciding.{outcomeOf, Source, Checked}
 use Rattle.links.specs.Line.{Flight}
 use Rattle.promises.specs.History.{Tag, turned}
 use Rattle.promises.specs.Told.{Stamped}
@@ -39,7 +38,7 @@ aged-copy ages low = ages .aged (omega (arith, ages .kind))
 pub aged-crossing : (f n : ℕ) (x : Flight Tag) → Ages f n x → Stamped (x .tag .packet) → x .tag .crossed ≤ span f (x .tag .before) + 1
 aged-crossing f n x ages low = let h = aged-copy ages low in omega (arith, h .crossed, h .due)
 
-module _ (f n : ℕ) (some : 0 < f) (p : Packet) (s : ℕ) (rows codes : List ℕ) (t : Setting) (h : Checked p s codes t) (from : pass.Source s) (phase : t .phase ≡ code (n / f)) (tag : Tag) where
+module _ (f n : ℕ) (some : 0 < f) (p : Packet) (s : ℕ) (rows codes : List ℕ) (t : Setting) (h : Checked p s codes t) (from : Source s) (phase : t .phase ≡ code (n / f)) (tag : Tag) where
   -- what is sent has the type of what arrived
   low-before : (q : Packet) → SameStamp (outcomeOf p s rows codes t .packet) q → Stamped q → Stamped p
   low-before q same low = omega (arith, same .kind, kind-kept p s rows codes t h from)

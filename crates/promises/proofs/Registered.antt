@@ -12,7 +12,7 @@ use Rattle.packet.specs.declared.Packet.{Packet}
 use Rattle.kept.specs.declared.Registers.{Registers}
 use Rattle.steps.specs.declared.Setting.{Setting}
 use Rattle.steps.specs.Errors.{errorsOf}
-use Rattle.steps.specs.Deciding.{Checked, outcomeOf}
+use Rattle.steps.specs.Deciding.{Source, Checked, outcomeOf}
 use Rattle.kept.specs.Keeping.{empty, dropCount, keptOf}
 use Rattle.steps.proofs.Bounds.{outcome-sets}
 use Rattle.kept.proofs.OnePass as pass
@@ -35,7 +35,7 @@ none-some [] e = tt
 none-some (u ∷ us) e = absurd (omega arith)
 
 -- what a pass drops holds something: a packet in error is dropped nowhere, and any other has odd parity
-drops-some : (p : Packet) (s : ℕ) (rows codes : List ℕ) (t : Setting) → Checked p s codes t → pass.Source s → All Some (droppedUnits (outcomeOf p s rows codes t))
+drops-some : (p : Packet) (s : ℕ) (rows codes : List ℕ) (t : Setting) → Checked p s codes t → Source s → All Some (droppedUnits (outcomeOf p s rows codes t))
 drops-some p s rows codes t h from = go (eqb (dropCount (outcomeOf p s rows codes t)) 0) refl (eqb (errorsOf p s (t .phase)) 0) refl
   where
     go : (b : Bool) → eqb (dropCount (outcomeOf p s rows codes t)) 0 ≡ b → (c : Bool) → eqb (errorsOf p s (t .phase)) 0 ≡ c → All Some (droppedUnits (outcomeOf p s rows codes t))

@@ -13,7 +13,7 @@ use Rattle.packet.specs.Parity.{isOdd}
 use Rattle.packet.proofs.Rewrite.{stamp-set}
 use Rattle.steps.specs.declared.Setting.{Setting}
 use Rattle.steps.specs.Errors.{errorsOf, stampedOf, tooOld, wrongLength, badLocal, flag}
-use Rattle.steps.specs.Deciding.{isMc, decided, outcomeOf, packetOn, legPacket, Checked}
+use Rattle.steps.specs.Deciding.{isMc, decided, outcomeOf, packetOn, legPacket, Source, Checked}
 use Rattle.kept.proofs.OnePass as pass
 use Rattle.links.specs.Line.{Flight}
 use Rattle.mesh.proofs.Fitting.{sent-no-error, leg-no-error}
@@ -38,7 +38,7 @@ second-flag : (a b c d : Bool) → (flag a 1 + flag b 2 + flag c 4 + flag d 8) /
 second-flag a true c d e = refl
 second-flag a false c d e = absurd (omega (arith, flag-small a, flag-scaled c 4, flag-scaled d 8))
 
-module _ (p : Packet) (s : ℕ) (rows codes : List ℕ) (t : Setting) (h : Checked p s codes t) (from : pass.Source s) where
+module _ (p : Packet) (s : ℕ) (rows codes : List ℕ) (t : Setting) (h : Checked p s codes t) (from : Source s) where
   sent-kept : (i : ℕ) → SameStamp (outcomeOf p s rows codes t .packet) (packetOn (outcomeOf p s rows codes t) i)
   sent-kept i = go (isMc (outcomeOf p s rows codes t .packet)) refl
     where

@@ -14,7 +14,7 @@ use Rattle.packet.proofs.Small.{every, at}
 use Rattle.steps.specs.declared.Outcome.{Outcome}
 use Rattle.steps.specs.declared.Setting.{Setting}
 use Rattle.steps.specs.Links.{has}
-use Rattle.steps.specs.Deciding.{isMc, decided, outcomeOf, markOn, packetOn, legPacket, Checked}
+use Rattle.steps.specs.Deciding.{isMc, decided, outcomeOf, markOn, packetOn, legPacket, Source, Checked}
 use Rattle.kept.specs.Units.{weight, overLinks, weightSent}
 use Rattle.steps.proofs.Bounds.{outcome-sets}
 use Rattle.router.proofs.LowestFirst.{six}
@@ -71,7 +71,7 @@ over-add f g = omega arith
 weight-of : (q : Packet) (k m : ℕ) → kindOf (q .control) ≡ k → markOf (q .control) ≡ m → weight q ≡ cond (eqb k 0 && eqb m 1) 2 1
 weight-of q k m ek em = λ i. cond (eqb (ek i) 0 && eqb (em i) 1) 2 1
 
-module _ (p : Packet) (s : ℕ) (rows codes : List ℕ) (t : Setting) (h : Checked p s codes t) (from : pass.Source s) where
+module _ (p : Packet) (s : ℕ) (rows codes : List ℕ) (t : Setting) (h : Checked p s codes t) (from : Source s) where
   -- only MC takes detours
   no-detour : isMc (outcomeOf p s rows codes t .packet) ≡ false → outcomeOf p s rows codes t .carried ≡ 0
   unfolding outcomeOf decided

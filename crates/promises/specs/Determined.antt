@@ -3,7 +3,7 @@ use Prim.Native.Nat.{ℕ, _+_, _*_, _≤_, _<_}
 use native.Mathlib.Omega.{arith}
 use lib.ListN.{length, getD, drop}
 use mathlib.Core.Path.{_≡_, sym, ap, _∙_}
-use mathlib.Core.Bool.{Bool}
+use mathlib.Core.Bool.{Bool, true}
 use mathlib.Core.List.{List}
 use Rattle.packet.specs.Refusal.{firstOf}
 use Rattle.packet.proofs.Determined.{determined}
@@ -89,10 +89,9 @@ pub look-link-determined : (mesh : List ℕ) (chip link : ℕ) (a b : LinkRead)
     → a ≡ linkRead (holdsMesh mesh) (meshOf mesh) chip link → b ≡ linkRead (holdsMesh mesh) (meshOf mesh) chip link → a ≡ b
 look-link-determined mesh chip link = determined
 
--- "Every directed link holds at most 8 packets", in every buffer that an accepted call leaves.
-pub no-link-above-8 : (before after : List ℕ) (r : Left (Unit {0})) → Leaves before after r → r .refusal ≡ 0
-    → (chip link : ℕ) → chip < many (meshOf after) → link < 6 → length (lineOf (meshOf after) chip link .held) ≤ 8
-no-link-above-8 before after r x none chip link hc hl =
-    let sound = holds-sound after (x .holds none) in
+-- "Every directed link holds at most 8 packets", in every buffer that holds a mesh, as opening and every accepted call leave one.
+pub no-link-above-8 : (l : List ℕ) → holdsMesh l ≡ true → (chip link : ℕ) → chip < many (meshOf l) → link < 6 → length (lineOf (meshOf l) chip link .held) ≤ 8
+no-link-above-8 l holds chip link hc hl =
+    let sound = holds-sound l holds in
     let c = chip-sound sound chip hc in
-    all-getD SoundLine (chipOf (meshOf after) chip .lines) link idle (c .lines) (omega (arith, c .six)) .few
+    all-getD SoundLine (chipOf (meshOf l) chip .lines) link idle (c .lines) (omega (arith, c .six)) .few

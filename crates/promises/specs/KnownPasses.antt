@@ -72,7 +72,7 @@ pub record Case : Type 0 where
 abbrev packet : ℕ → List ℕ
 packet control = control ∷ 0 ∷ 0 ∷ 0 ∷ 1 ∷ []
 
--- P, from a source, all links ready but those named, phase 00, no rows
+-- a packet from a source, all links ready but those named, phase 00, no rows
 abbrev from : ℕ → List ℕ → ℕ → Given
 from source bytes unready = record { bytes = bytes; source = source; rows = []; phase = 0; ready = 63 - unready }
 

@@ -57,6 +57,6 @@ abbrev pub answer : Taken → ℕ → List ℕ → List ℕ → Setting → Pass
 answer taken source rows codes t =
     cond (eqb (taken .refusal) 0) (passFrom (outcomeOf (taken .packet) source rows codes t)) (noPass (taken .refusal))
 
--- "A refusal returns its number and zeros elsewhere."
+-- "A refusal returns its number and zeros elsewhere ..."
 unfoldable pub passOf : List ℕ → ℕ → List ℕ → List ℕ → Setting → Pass
 passOf bytes source rows codes t = answer (checkedOf bytes source rows codes t) source rows codes t

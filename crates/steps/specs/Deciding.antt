@@ -1,5 +1,7 @@
 -- What a pass does with a packet: steps 1 to 7 put together.
 use Prim.Native.Nat.{ℕ, _+_, _*_, _^_, _≤_, _<_}
+use mathlib.Core.Path.{_≡_}
+use mathlib.Core.Logic.{_⊎_}
 use mathlib.Core.Bool.{Bool, cond, _&&_, _||_}
 use mathlib.Core.List.{List}
 use lib.Dec.{eqb}
@@ -26,7 +28,7 @@ hasLeg errors p = eqb errors 0 && isMc p && (eqb (markOf (p .control)) 1 || eqb 
 abbrev pub legSet : ℕ → Packet → ℕ → ℕ
 legSet errors p source = cond (hasLeg errors p) (2 ^ link (source + 5)) 0
 
--- Steps 5 to 7, from the packet after stamping and its wanted set: MC with detours, P2P and NN without. Step 6: "The second leg is sent with
+-- Steps 4 to 7, from the packet after stamping and its wanted set: MC with detours, P2P and NN without. Step 6: "The second leg is sent with
 -- mark 11 if its link is ready, else dropped."
 unfoldable pub decided : ℕ → Packet → ℕ → Wanted → ℕ → Outcome
 decided errors p source w ready =
@@ -63,6 +65,10 @@ packetOn o i = cond (isMc (o .packet)) (withMark (o .packet) (markOn o i)) (o .p
 -- What the second leg's link sends.
 abbrev pub legPacket : Outcome → Packet
 legPacket o = withMark (o .packet) 3
+
+-- "Its source (0 to 5 a link, 7 local)".
+abbrev pub Source : ℕ → Type 0
+Source s = (s < 6) ⊎ (s ≡ 7)
 
 -- What is checked before a pass.
 pub record Checked (p : Packet) (source : ℕ) (codes : List ℕ) (t : Setting) : Type 0 where

@@ -20,6 +20,6 @@ processorsOf route = route / 64
 abbrev pub monitorBit : ℕ → ℕ
 monitorBit monitor = 2 ^ (6 + monitor)
 
--- The link i further round.
+-- Links go round: link 6 is link 0 again.
 abbrev pub link : ℕ → ℕ
 link i = i % 6
