@@ -21,7 +21,7 @@ pub fn is_ready(line: &[u32]) -> bool
     requires { ⌜ length (now line) ≡ 51 ⌝ }
     ensures { λ r. ⌜ r ≡ isReady (lineIn (now (line .entry))) ⌝ }
 {
-    (line[0] == 0) & (line[1] <= 6)
+    (line[0] == 0) & (held(line) <= 6)
 }
 
 // Sends what a pass has for link i: the packet of step 5 or 7, then the second leg. There is room for both.
@@ -88,4 +88,12 @@ fn send_leg(line: &mut [u32], o: Outcome, i: u32)
     if has_link(o.leg, i) {
         push(line, leg_packet(o));
     }
+}
+
+// How many packets the link holds, not counting those that are set aside.
+fn held(words: &[u32]) -> u32
+    requires { ⌜ length (now words) ≡ 51 ⌝ }
+    ensures { λ r. ⌜ r ≡ getD (now (words .entry)) 1 0 ⌝ }
+{
+    words[1]
 }
