@@ -17,7 +17,8 @@ use Rattle.mesh.specs.Weights.{inFlight}
 use Rattle.mesh.specs.Sound.{Passable}
 use Rattle.mesh.proofs.SoundSteps.{CodesFor}
 use Rattle.mesh.proofs.Accepts.{inject-goes, round-goes}
-use Rattle.promises.specs.History.{Call, inject, round, setLink, readRegisters, readCounter, lookMesh, lookLink, Tag, State, Event, emptied, leftBy, turned, tagOf, tagNow, passages, accepted}
+use Rattle.promises.specs.Asked.{Call, inject, round, setLink, readRegisters, readCounter, lookMesh, lookLink, leftBy}
+use Rattle.promises.specs.History.{Tag, State, Event, emptied, turned, tagOf, tagNow, passages, accepted}
 
 -- ---- the tests that have passed
 

@@ -19,7 +19,8 @@ use Rattle.mesh.specs.Steps.{Going, withChip, injected, rounded}
 use Rattle.mesh.specs.Calls as calls
 use Rattle.mesh.specs.Weights.{inFlight}
 use Rattle.mesh.specs.Going.{same}
-use Rattle.promises.specs.History.{Call, inject, round, setLink, readRegisters, readCounter, lookMesh, lookLink, ofAdded, ofRefusal, ofRegisters, ofCount, ofMesh, ofLink, Tag, leftBy, answerOf, turned, tagNow, State, accepted, after, begun, history, Run, ended, called}
+use Rattle.promises.specs.Asked.{Call, inject, round, setLink, readRegisters, readCounter, lookMesh, lookLink, ofAdded, ofRefusal, ofRegisters, ofCount, ofMesh, ofLink, leftBy, answerOf}
+use Rattle.promises.specs.History.{Tag, turned, tagNow, State, accepted, after, begun, history, Run, ended, called}
 use Rattle.promises.specs.Told.{plainFlight, plainLine, plainChip, plain, plainLeft}
 use Rattle.promises.specs.Demand3.{Forgetting, Program, WholeRun}
 use Rattle.promises.proofs.Plains.{map-set, plainGoing, plain-chip, plain-line, plain-ready, plain-flying, plain-with, plain-pass, plain-rounded}

@@ -16,7 +16,8 @@ use Rattle.mesh.specs.Weights.{inFlight}
 use Rattle.mesh.specs.Sound.{SoundMesh}
 use Rattle.mesh.proofs.SoundChanges.{sound-linked, sound-emptied}
 use Rattle.mesh.proofs.SoundSteps.{CodesFor, sound-opened, sound-injected, sound-rounded}
-use Rattle.promises.specs.History.{Call, inject, round, setLink, readRegisters, readCounter, lookMesh, lookLink, Tag, State, Opens, leftBy, turned, tagNow, accepted, after, begun, history}
+use Rattle.promises.specs.Asked.{Call, inject, round, setLink, readRegisters, readCounter, lookMesh, lookLink, leftBy}
+use Rattle.promises.specs.History.{Tag, State, Opens, turned, tagNow, accepted, after, begun, history}
 use Rattle.promises.specs.Demand3.{Always}
 use Rattle.promises.proofs.Accepts as accepts
 

@@ -17,7 +17,8 @@ use Rattle.mesh.specs.Holding.{holdsMesh}
 use Rattle.mesh.specs.Weights.{onMesh}
 use Rattle.mesh.specs.Going.{same}
 use Rattle.mesh.specs.Leaving.{Leaves}
-use Rattle.promises.specs.History.{Call, State, Opens, leftBy, answerOf, after, history, Run}
+use Rattle.promises.specs.Asked.{Call, leftBy, answerOf}
+use Rattle.promises.specs.History.{State, Opens, after, history, Run}
 use Rattle.promises.specs.Told.{Stamped, EachFlight, EachPass, sumOf, countAt, dropsSince, firstOfUnits, recordsOf, plain, plainLeft}
 
 -- 2F - (r mod F): the further rounds that a packet injected after r rounds has before it is too old.
