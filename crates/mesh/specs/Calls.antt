@@ -7,6 +7,7 @@ use lib.ListN.{length, getD, drop, set}
 use Rattle.packet.specs.Bytes.{packetAt}
 use Rattle.packet.specs.Refusal.{Refusal, firstOf}
 use Rattle.tables.specs.Accept.{routesFine, startsFine, codesFine}
+use Rattle.steps.specs.Errors.{flag}
 use Rattle.kept.specs.Keeping.{empty}
 use Rattle.router.specs.Call.{refuse, packetRefusals}
 use Rattle.mesh.specs.declared.Added.{Added}
@@ -64,9 +65,6 @@ addedOf r = record { refusal = r .refusal; added = length (r .log) / 6 }
 -- "Log beyond the records written is untouched."
 abbrev pub loggedOn : List ℕ → List ℕ → List ℕ
 loggedOn records log = records ++ drop (length records) log
-
-abbrev pub bit : Bool → ℕ
-bit b = cond b 1 0
 
 module _ {A : Type 0} where
   abbrev pub many : Mesh A → ℕ
@@ -147,7 +145,7 @@ module _ {A : Type 0} where
       (record { refusal = 8; width = 0; height = 0; «rounds_per_phase» = 0; monitor = 0; phase = 0; «rounds_in_phase» = 0; «in_flight» = 0 })
 
   abbrev pub lineRead : Line A → LinkRead
-  lineRead l = record { refusal = 0; up = bit (l .up); held = length (l .held); ready = bit (isReady l) }
+  lineRead l = record { refusal = 0; up = flag (l .up) 1; held = length (l .held); ready = flag (isReady l) 1 }
 
   abbrev pub linkRead : Bool → Mesh A → ℕ → ℕ → LinkRead
   linkRead holds m chip link =

@@ -9,7 +9,8 @@ use Rattle.packet.specs.declared.Packed.{Packed}
 use Rattle.packet.specs.declared.Taken.{Taken}
 use Rattle.packet.specs.declared.FieldsRead.{FieldsRead}
 use Rattle.packet.specs.Bytes.{takenOf, packedBytes}
-use Rattle.packet.specs.Fields.{fieldsOf, readOf, packedOf}
+use Rattle.packet.specs.Fields.{fieldsOf, readOf}
+use Rattle.packet.specs.Packing.{packedOf}
 use Rattle.packet.specs.Parity.{isOdd, withMark, withStamp}
 
 -- a contract that is an equation leaves one answer

@@ -9,7 +9,8 @@ use lib.Dec.{eqb, lit<}
 use borrow.Author.Tests.{lt-ltb, eq-eqb, eqb-true}
 use Rattle.packet.specs.declared.Fields.{Fields}
 use Rattle.packet.specs.declared.Packet.{Packet}
-use Rattle.packet.specs.Fields.{mcFields, p2pFields, nnFields, fieldsOf, inRange, controlOf, wordOf, packetOf}
+use Rattle.packet.specs.Fields.{mcFields, p2pFields, nnFields, fieldsOf}
+use Rattle.packet.specs.Packing.{inRange, controlOf, wordOf, packetOf}
 use Rattle.packet.specs.Whole.{Whole}
 use Rattle.packet.proofs.Small.{every, at}
 use Rattle.packet.proofs.Ranges.{EndRanges, McRanges, P2pRanges, NnRanges, end-ranges, mc-ranges, p2p-ranges, nn-ranges, ends, own}

@@ -6,7 +6,7 @@ use native.Mathlib.Omega.{arith}
 use borrow.Author.Tests.{ne-eqb}
 use Rattle.packet.specs.declared.Fields.{Fields}
 use Rattle.packet.specs.Bytes.{packedBytes}
-use Rattle.packet.specs.Fields.{inRange, controlOf, wordOf, packetOf, packedOf}
+use Rattle.packet.specs.Packing.{inRange, controlOf, wordOf, packetOf, packedOf}
 
 -- four digits below 256, the last one first
 module _ (a b c d : ℕ) (ha : a < 256) (hb : b < 256) (hc : c < 256) where

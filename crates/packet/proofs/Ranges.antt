@@ -6,7 +6,7 @@ use native.Mathlib.Omega.{arith}
 use lib.Dec.{eqb}
 use borrow.Author.Tests.{ltb-true, eqb-true}
 use Rattle.packet.specs.declared.Fields.{Fields}
-use Rattle.packet.specs.Fields.{mcInRange, p2pInRange, nnInRange, endInRange, inRange}
+use Rattle.packet.specs.Packing.{mcInRange, p2pInRange, nnInRange, endInRange, inRange}
 
 pub record EndRanges (f : Fields) : Type 0 where
   pub carries : f .carries < 2

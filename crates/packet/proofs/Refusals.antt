@@ -12,7 +12,8 @@ use Rattle.packet.specs.declared.Packed.{Packed}
 use Rattle.packet.specs.declared.Taken.{Taken}
 use Rattle.packet.specs.declared.FieldsRead.{FieldsRead}
 use Rattle.packet.specs.Bytes.{rightLength, usedType, packetAt, notTaken, takenOf, packedAs}
-use Rattle.packet.specs.Fields.{fieldsOf, noFields, readFrom, readOf, inRange, packetOf, notPacked, packedOf}
+use Rattle.packet.specs.Fields.{fieldsOf, noFields, readFrom, readOf}
+use Rattle.packet.specs.Packing.{inRange, packetOf, notPacked, packedOf}
 use Rattle.packet.specs.Refusal.{firstOf, readRefusals, packRefusals}
 
 pub take-refuses : (s : List ℕ) → takenOf s .refusal ≡ firstOf (readRefusals s)

@@ -15,7 +15,8 @@ use Rattle.packet.specs.declared.Packet.{Packet}
 use Rattle.packet.specs.declared.Packed.{Packed}
 use Rattle.packet.specs.declared.FieldsRead.{FieldsRead}
 use Rattle.packet.specs.Bytes.{rightLength, usedType, takenOf, packetAt, bigEndian, packedAs, packedBytes, bytesIn, AllBytes}
-use Rattle.packet.specs.Fields.{fieldsOf, readFrom, readOf, inRange, packetOf, packedOf}
+use Rattle.packet.specs.Fields.{fieldsOf, readFrom, readOf}
+use Rattle.packet.specs.Packing.{inRange, packetOf, packedOf}
 use Rattle.packet.specs.Control.{kindOf}
 use Rattle.packet.specs.Whole.{Whole}
 use Rattle.packet.proofs.Packing.{packs}

@@ -1,17 +1,14 @@
--- Reading and packing: a packet's fields by its type, which fields are in range, and what each of the two calls answers.
-use Prim.Native.Nat.{ℕ, _+_, _*_, _/_, _%_}
-use mathlib.Core.List.{List, [], _∷_}
-use mathlib.Core.Bool.{Bool, cond, _&&_, _||_}
-use lib.Dec.{eqb, ltb}
+-- Reading: a packet's fields by its type, and what the call answers.
+use Prim.Native.Nat.{ℕ, _/_, _%_}
+use mathlib.Core.List.{List}
+use mathlib.Core.Bool.{cond}
+use lib.Dec.{eqb}
 use Rattle.packet.specs.declared.Packet.{Packet}
 use Rattle.packet.specs.declared.Fields.{Fields}
 use Rattle.packet.specs.declared.FieldsRead.{FieldsRead}
-use Rattle.packet.specs.declared.Packed.{Packed}
 use Rattle.packet.specs.declared.Taken.{Taken}
 use Rattle.packet.specs.Control.{kindOf, markOf, sequenceOf, stampOf, directOf, routeOf, carriesOf, parityOf}
-use Rattle.packet.specs.Bytes.{takenOf, packedBytes}
-
--- ---- reading
+use Rattle.packet.specs.Bytes.{takenOf}
 
 -- "The parity bit is a field, and so is, apart from bit 1, whether four more bytes are there": every type has these, and a field that a type
 -- lacks is 0.
@@ -121,54 +118,3 @@ readFrom t =
 
 unfoldable pub readOf : List ℕ → FieldsRead
 readOf s = readFrom (takenOf s)
-
--- ---- packing
-
--- "... a field that the type lacks and a payload that isn't there are in range only as 0 ..."
-abbrev pub mcInRange : Fields → Bool
-mcInRange f =
-    ltb (f .mark) 4 && eqb (f .sequence) 0 && ltb (f .stamp) 4 && eqb (f .direct) 0 && eqb (f .route) 0 && eqb (f .source) 0
-    && eqb (f .destination) 0
-
-abbrev pub p2pInRange : Fields → Bool
-p2pInRange f =
-    eqb (f .mark) 0 && ltb (f .sequence) 4 && ltb (f .stamp) 4 && eqb (f .direct) 0 && eqb (f .route) 0 && eqb (f .word) 0
-    && ltb (f .source) 65536
-    && ltb (f .destination) 65536
-
-abbrev pub nnInRange : Fields → Bool
-nnInRange f =
-    eqb (f .mark) 0 && eqb (f .sequence) 0 && eqb (f .stamp) 0 && ltb (f .direct) 2 && ltb (f .route) 8 && eqb (f .source) 0
-    && eqb (f .destination) 0
-
--- Bits 1 and 0, and the payload, which every type has.
-abbrev pub endInRange : Fields → Bool
-endInRange f =
-    ltb (f .carries) 2 && ltb (f .parity) 2 && ltb (f .nine) 2 && (eqb (f .nine) 1 || eqb (f .payload) 0)
-
--- "... type 3 is refusal 3, once its other fields pass as MC's would, above 3 is 6 ..."
-abbrev pub inRange : Fields → Bool
-inRange f =
-    ltb (f .kind) 4 && endInRange f
-    && cond (eqb (f .kind) 1) (p2pInRange f) (cond (eqb (f .kind) 2) (nnInRange f) (mcInRange f))
-
-abbrev pub controlOf : Fields → ℕ
-controlOf f =
-    f .kind * 64
-    + cond (eqb (f .kind) 1) (f .sequence * 16 + f .stamp * 4)
-    (cond (eqb (f .kind) 2) (f .direct * 32 + f .route * 4) (f .mark * 16 + f .stamp * 4))
-    + f .carries * 2
-    + f .parity
-
-abbrev pub wordOf : Fields → ℕ
-wordOf f = cond (eqb (f .kind) 1) (f .source * 65536 + f .destination) (f .word)
-
-abbrev pub packetOf : Fields → Packet
-packetOf f = record { control = controlOf f; nine = f .nine; word = wordOf f; payload = f .payload }
-
-abbrev pub notPacked : ℕ → Packed
-notPacked n = record { refusal = n; length = 0; bytes = 0 ∷ 0 ∷ 0 ∷ 0 ∷ 0 ∷ 0 ∷ 0 ∷ 0 ∷ 0 ∷ [] }
-
--- Refusal 6, "a field out of range in packing", and then 3, "type 11".
-unfoldable pub packedOf : Fields → Packed
-packedOf f = cond (inRange f) (cond (eqb (f .kind) 3) (notPacked 3) (packedBytes (packetOf f))) (notPacked 6)

@@ -1,6 +1,7 @@
-pub mod Control
 pub mod Bytes
+pub mod Control
 pub mod Fields
+pub mod Packing
 pub mod Parity
 pub mod Refusal
 pub mod Whole

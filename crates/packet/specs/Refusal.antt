@@ -6,7 +6,7 @@ use lib.ListN.{getD}
 use lib.Dec.{eqb}
 use Rattle.packet.specs.declared.Fields.{Fields}
 use Rattle.packet.specs.Bytes.{rightLength, usedType}
-use Rattle.packet.specs.Fields.{inRange}
+use Rattle.packet.specs.Packing.{inRange}
 
 pub record Refusal : Type 0 where
   pub when : Bool

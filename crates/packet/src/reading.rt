@@ -18,7 +18,8 @@ use super::control::sequence_of;
 use super::control::stamp_of;
 ghost use mathlib.Core.Path.{_≡_};
 ghost use mathlib.Core.Bool.{true};
-ghost use Rattle.packet.specs.Fields.{endFields, mcFields, p2pFields, nnFields, fieldsOf, noFields, readFrom, readOf, mcInRange, p2pInRange, nnInRange, endInRange, notPacked, packedOf};
+ghost use Rattle.packet.specs.Fields.{endFields, mcFields, p2pFields, nnFields, fieldsOf, noFields, readFrom, readOf};
+ghost use Rattle.packet.specs.Packing.{mcInRange, p2pInRange, nnInRange, endInRange, notPacked, packedOf};
 
 // The fields of a packet in bytes: 2 for a length other than 5 or 9, then 3 for type 11.
 pub fn read(s: &[u8]) -> FieldsRead

@@ -7,6 +7,7 @@ use Prim.Native.Nat.{ℕ, zero, suc, _*_}
 use lib.Dec.{eqb}
 use lib.ListN.{length, getD, set, replicate, length-map}
 use borrow.Author.Tests.{eqb-true, eqb-false}
+use Rattle.steps.specs.Errors.{flag}
 use Rattle.packet.specs.Bytes.{packetAt}
 use Rattle.packet.specs.Refusal.{firstOf}
 use Rattle.kept.specs.Keeping.{empty}
@@ -58,7 +59,7 @@ module _ {A : Type 0} where
       let l = calls.lineOf m chip link in
       let answer : Bool → ℕ → Bool → LinkRead =
       λ up held ready.
-      cond (eqb n 0) (record { refusal = 0; up = calls.bit up; held = held; ready = calls.bit ready })
+      cond (eqb n 0) (record { refusal = 0; up = flag up 1; held = held; ready = flag ready 1 })
       (record { refusal = n; up = 0; held = 0; ready = 0 }) in
       (λ k. answer (l .up) (sym (length-map (l .held) plainFlight) k) (sym (plain-ready l) k))
       ∙ ap (λ (x : Line (Unit {0})). answer (x .up) (length (x .held)) (isReady x)) (sym (plain-of m chip link))

@@ -51,7 +51,7 @@ pub fn wanted_given(
     if errors == 0 {
         let kind = kind_of(p.control);
         match kind {
-            0 => mc_wanted(found, mark_of(p.control), source, t.monitor),
+            0 => mark_wanted(found, mark_of(p.control), source, t.monitor),
             1 => alone(p2p_wanted(p, codes, t)),
             _ => alone(nn_wanted(p, source, t.monitor)),
         }
@@ -67,7 +67,7 @@ pub fn bit(i: u32) -> u32
     1 << i
 }
 
-fn mc_wanted(found: Matched, mark: u32, source: u32, monitor: u32) -> Wanted
+fn mark_wanted(found: Matched, mark: u32, source: u32, monitor: u32) -> Wanted
     requires { ⌜ (source < 8) × (monitor < 20) ⌝ }
     ensures { λ r. ⌜ r ≡ markWanted found mark source monitor ⌝ }
 {

@@ -1,7 +1,8 @@
 use borrow.Author.Needs.{needs}
 use mathlib.Core.Path.{_∙_, sym, ap}
+use mathlib.Core.Bool.{Bool}
 use lib.ListN.{getD, drop}
-use Rattle.mesh.specs.Calls.{bit}
+use Rattle.steps.specs.Errors.{flag}
 use Rattle.links.proofs.Places.{length-places}
 use Rattle.mesh.proofs.looking.look_line.Statement.{statement}
 use Rattle.mesh.proofs.looking.look_line.Tie as tie
@@ -24,7 +25,7 @@ flag-of-requires-2 c κs = search needs
 returns : tie.Need-returns
 returns c =
     let l = c .before .before .before .before .before .before .args .line .now in
-    λ i. record { refusal = 0; up = c .before .before .before .flag-of .ensures .0 i; held = sym (length-places (getD l 1 0) (drop 2 l)) i; ready = (c .flag-of2 .ensures .0 ∙ ap bit (c .before .is-ready .ensures)) i }
+    λ i. record { refusal = 0; up = c .before .before .before .flag-of .ensures .0 i; held = sym (length-places (getD l 1 0) (drop 2 l)) i; ready = (c .flag-of2 .ensures .0 ∙ ap (λ (b : Bool). flag b 1) (c .before .is-ready .ensures)) i }
 
 pub look-line-spec : {M : Type 1} → statement M
 look-line-spec =

@@ -2,7 +2,7 @@ use borrow.Author.Needs.{needs}
 use borrow.Author.Tests.{not-true, not-false}
 use mathlib.Core.Path.{sym, _∙_}
 use native.Mathlib.Omega.{arith}
-use Rattle.packet.specs.Fields.{packedOf}
+use Rattle.packet.specs.Packing.{packedOf}
 use Rattle.packet.proofs.Packing.{packs-as}
 use Rattle.packet.proofs.Ranges.{end-ranges, p2p-ranges}
 use Rattle.packet.proofs.reading.p2p_packed.Statement.{statement}

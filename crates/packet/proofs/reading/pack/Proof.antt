@@ -3,7 +3,7 @@ use borrow.Author.Tests.{not-true, not-false, le-ltb}
 use mathlib.Core.Bool.{and-false}
 use mathlib.Core.Path.{sym, _∙_}
 use native.Mathlib.Omega.{arith}
-use Rattle.packet.specs.Fields.{packedOf}
+use Rattle.packet.specs.Packing.{packedOf}
 use Rattle.packet.proofs.reading.pack.Statement.{statement}
 use Rattle.packet.proofs.reading.pack.Tie as tie
 

@@ -1,6 +1,6 @@
 use borrow.Author.Needs.{needs}
 use mathlib.Core.Path.{sym, _∙_}
-use Rattle.packet.specs.Fields.{packedOf}
+use Rattle.packet.specs.Packing.{packedOf}
 use Rattle.packet.proofs.reading.unused_packed.Statement.{statement}
 use Rattle.packet.proofs.reading.unused_packed.Tie as tie
 

@@ -12,8 +12,8 @@ kind-of-requires c κs = search needs
 mark-of-requires : tie.Need-mark-of-requires
 mark-of-requires c κs = search needs
 
-mc-wanted-requires : tie.Need-mc-wanted-requires
-mc-wanted-requires c κs = search needs
+mark-wanted-requires : tie.Need-mark-wanted-requires
+mark-wanted-requires c κs = search needs
 
 p2p-wanted-requires : tie.Need-p2p-wanted-requires
 p2p-wanted-requires c κs = search needs
@@ -38,7 +38,7 @@ returns c =
     let a = c .before .before .before .before .before .before .args in
     let none = c .before .before .before .before .if1 .taken in
     let mc = sym (c .before .before .before .kind-of .ensures) ∙ c .before .before .match .keys1 in
-    c .mc-wanted .ensures
+    c .mark-wanted .ensures
     ∙ ap (λ (n : ℕ). markWanted (a .found) n (a .source) (a .t .monitor)) (c .before .mark-of .ensures)
     ∙ simp (eq-eqb _ _ none, eq-eqb _ _ mc)
 
@@ -60,7 +60,7 @@ wanted-given-spec =
     (tie.spec
     kind-of-requires
     mark-of-requires
-    mc-wanted-requires
+    mark-wanted-requires
     p2p-wanted-requires
     alone-requires
     nn-wanted-requires
