@@ -17,6 +17,7 @@ pub mod LinkWords
 pub mod ListsUpTo
 pub mod Logs
 pub mod Looks
+pub mod LooksAtFlights
 pub mod MeshParts
 pub mod Opened
 pub mod Parts

@@ -11,7 +11,13 @@ use Rattle.packet.proofs.First.{first-append}
 use Rattle.packet.proofs.Refusals.{take-refuses}
 use Rattle.router.specs.Call.{isDirect, refuse, packetRefusals}
 use Rattle.mesh.specs.Steps.{Tables}
+use Rattle.mesh.specs.declared.testing.Tested.{Tested}
+use Rattle.mesh.specs.Layout.{meshOf}
+use Rattle.mesh.specs.Weights.{inFlight}
+use Rattle.mesh.specs.Holding.{holdsMesh}
+use Rattle.mesh.specs.Going.{chipsOf}
 use Rattle.mesh.specs.Calls.{tablesRefusals, injectRefusals, roundRefusals, chipRefusals, numberRefusals}
+use Rattle.mesh.specs.Testing.{testedOf, injectNumber, roundNumber}
 
 pub packet-first : (s : List ℕ) → firstOf (packetRefusals s) ≡ cond (eqb (takenOf s .refusal) 0) (cond (isDirect (getD s 0 0)) 4 0) (takenOf s .refusal)
 packet-first s =
@@ -38,3 +44,20 @@ number-first holds chips chip number end = go holds (ltb chip chips) (ltb number
     go true false c = refl
     go true true false = refl
     go true true true = refl
+
+-- ---- where buffer and tables were tested
+
+module _ (l : List ℕ) (t : Tables) (x : Tested) (tested : x ≡ testedOf l t) where
+  pub inject-number : (chip room : ℕ) (bytes : List ℕ) → injectNumber x (chipsOf l) chip room bytes ≡ firstOf (injectRefusals (holdsMesh l) (chipsOf l) chip t room bytes)
+  inject-number chip room bytes = ap (λ (y : Tested). injectNumber y (chipsOf l) chip room bytes) tested ∙ go (holdsMesh l)
+    where
+      go : (b : Bool) → injectNumber (record { holds = b; tables = cond b (firstOf (tablesRefusals t (chipsOf l))) 0 }) (chipsOf l) chip room bytes ≡ firstOf (injectRefusals b (chipsOf l) chip t room bytes)
+      go true = sym (inject-first true (chipsOf l) chip t room bytes)
+      go false = sym (inject-first false (chipsOf l) chip t room bytes)
+
+  pub round-number : (room : ℕ) → roundNumber x (inFlight (meshOf l)) room ≡ firstOf (roundRefusals (holdsMesh l) (chipsOf l) (inFlight (meshOf l)) t room)
+  round-number room = ap (λ (y : Tested). roundNumber y (inFlight (meshOf l)) room) tested ∙ go (holdsMesh l)
+    where
+      go : (b : Bool) → roundNumber (record { holds = b; tables = cond b (firstOf (tablesRefusals t (chipsOf l))) 0 }) (inFlight (meshOf l)) room ≡ firstOf (roundRefusals b (chipsOf l) (inFlight (meshOf l)) t room)
+      go true = sym (round-first true (chipsOf l) (inFlight (meshOf l)) t room)
+      go false = sym (round-first false (chipsOf l) (inFlight (meshOf l)) t room)

@@ -1,10 +1,11 @@
 -- The calls on a mesh: what each refuses, in order; what it answers; the mesh and the records that it leaves.
 use Prim.Native.Nat.{ℕ, _*_, _/_}
 use mathlib.Core.Bool.{Bool, cond, _&&_, not}
-use mathlib.Core.List.{List, [], _∷_, _++_}
+use mathlib.Core.List.{List, [], _∷_, _++_, map}
 use lib.Dec.{eqb, ltb}
 use lib.ListN.{length, getD, drop, set}
-use Rattle.packet.specs.Bytes.{packetAt}
+use Rattle.packet.specs.declared.Packet.{Packet}
+use Rattle.packet.specs.Bytes.{packetAt, nothing}
 use Rattle.packet.specs.Refusal.{Refusal, firstOf}
 use Rattle.tables.specs.Accept.{routesFine, startsFine, codesFine}
 use Rattle.steps.specs.Errors.{flag}
@@ -15,7 +16,8 @@ use Rattle.mesh.specs.declared.RegistersRead.{RegistersRead}
 use Rattle.mesh.specs.declared.CountRead.{CountRead}
 use Rattle.mesh.specs.declared.MeshRead.{MeshRead}
 use Rattle.mesh.specs.declared.LinkRead.{LinkRead}
-use Rattle.links.specs.Line.{Line, idle, isReady}
+use Rattle.mesh.specs.declared.FlightRead.{FlightRead}
+use Rattle.links.specs.Line.{Flight, Line, idle, isReady}
 use Rattle.mesh.specs.Mesh.{Chip, Mesh, fresh}
 use Rattle.mesh.specs.Steps.{Tables, Going, withChip, injected, rounded}
 use Rattle.mesh.specs.Weights.{inFlight}
@@ -65,6 +67,10 @@ addedOf r = record { refusal = r .refusal; added = length (r .log) / 6 }
 -- "Log beyond the records written is untouched."
 abbrev pub loggedOn : List ℕ → List ℕ → List ℕ
 loggedOn records log = records ++ drop (length records) log
+
+-- "A refusal returns its number and zeros elsewhere".
+abbrev pub noFlight : ℕ → FlightRead
+noFlight refusal = record { refusal = refusal; packet = nothing }
 
 module _ {A : Type 0} where
   abbrev pub many : Mesh A → ℕ
@@ -151,3 +157,15 @@ module _ {A : Type 0} where
   linkRead holds m chip link =
       let refusal = firstOf (linkRefusals holds (many m) chip link) in
       cond (eqb refusal 0) (lineRead (lineOf m chip link)) (record { refusal = refusal; up = 0; held = 0; ready = 0 })
+
+  -- The packets of a link, the oldest first, and the one at a place; 9 where the link holds none there.
+  abbrev pub placeRead : Line A → ℕ → FlightRead
+  placeRead l place =
+      cond (ltb place (length (l .held)))
+      (record { refusal = 0; packet = getD (map (λ (f : Flight A). f .packet) (l .held)) place nothing })
+      (noFlight 9)
+
+  abbrev pub flightRead : Bool → Mesh A → ℕ → ℕ → ℕ → FlightRead
+  flightRead holds m chip link place =
+      let refusal = firstOf (linkRefusals holds (many m) chip link) in
+      cond (eqb refusal 0) (placeRead (lineOf m chip link) place) (noFlight refusal)

@@ -12,4 +12,5 @@ pub mod Opening
 pub mod Passing
 pub mod Sound
 pub mod Steps
+pub mod Testing
 pub mod Weights

@@ -1,5 +1,6 @@
 // The calls that change one thing: a link's state, a chip's registers.
 use super::RegistersRead;
+use super::holding::holds;
 use super::holding::registers_at;
 use super::opening::clear;
 use super::refusing::chip_refusal;
@@ -26,7 +27,16 @@ pub fn set_link(mesh: &mut [u32], chip: u32, link: u32, up: bool) -> u32
     ensures { λ r. ⌜ r ≡ linkLeft (now (mesh .entry)) chip link up .refusal ⌝ }
     ensures { λ r. ⌜ Leaves (now (mesh .entry)) (now (mesh .exit)) (linkLeft (now (mesh .entry)) chip link up) ⌝ }
 {
-    let refusal = number_refusal(mesh, chip, link, 6);
+    set_link_tested(mesh, chip, link, up, holds(mesh))
+}
+
+// A link change where the buffer was tested.
+pub fn set_link_tested(mesh: &mut [u32], chip: u32, link: u32, up: bool, held: bool) -> u32
+    requires { ⌜ held ≡ holdsMesh (now mesh) ⌝ }
+    ensures { λ r. ⌜ r ≡ linkLeft (now (mesh .entry)) chip link up .refusal ⌝ }
+    ensures { λ r. ⌜ Leaves (now (mesh .entry)) (now (mesh .exit)) (linkLeft (now (mesh .entry)) chip link up) ⌝ }
+{
+    let refusal = number_refusal(mesh, held, chip, link, 6);
     if refusal != 0 {
         return refusal;
     }
@@ -40,7 +50,16 @@ pub fn read_registers(mesh: &mut [u32], chip: u32) -> RegistersRead
     ensures { λ r. ⌜ r ≡ registersRead (holdsMesh (now (mesh .entry))) (meshOf (now (mesh .entry))) chip ⌝ }
     ensures { λ r. ⌜ Leaves (now (mesh .entry)) (now (mesh .exit)) (registersLeft (now (mesh .entry)) chip) ⌝ }
 {
-    let refusal = chip_refusal(mesh, chip);
+    read_registers_tested(mesh, chip, holds(mesh))
+}
+
+// A read of registers where the buffer was tested.
+pub fn read_registers_tested(mesh: &mut [u32], chip: u32, held: bool) -> RegistersRead
+    requires { ⌜ held ≡ holdsMesh (now mesh) ⌝ }
+    ensures { λ r. ⌜ r ≡ registersRead (holdsMesh (now (mesh .entry))) (meshOf (now (mesh .entry))) chip ⌝ }
+    ensures { λ r. ⌜ Leaves (now (mesh .entry)) (now (mesh .exit)) (registersLeft (now (mesh .entry)) chip) ⌝ }
+{
+    let refusal = chip_refusal(mesh, held, chip);
     if refusal != 0 {
         return RegistersRead {
             refusal,

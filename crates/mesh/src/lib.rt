@@ -12,8 +12,10 @@ pub mod moving;
 pub mod opening;
 mod passing;
 mod refusing;
+pub mod testing;
 
 use kept::Registers;
+use packet::Packet;
 
 // What an injection and a round answer.
 #[repr(C)]
@@ -56,4 +58,11 @@ pub struct LinkRead {
     pub up: u32,
     pub held: u32,
     pub ready: u32,
+}
+
+// What looking at a packet in flight answers.
+#[repr(C)]
+pub struct FlightRead {
+    pub refusal: u32,
+    pub packet: Packet,
 }

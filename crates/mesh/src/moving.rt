@@ -5,6 +5,8 @@ use super::aside::set_aside;
 use super::going::pass_one;
 use super::refusing::inject_refusal;
 use super::refusing::round_refusal;
+use super::testing::Tested;
+use super::testing::test;
 use links::phase::next_phase;
 use packet::bytes::take;
 use router::call::chips;
@@ -14,6 +16,7 @@ ghost use Prim.Native.Nat.{_≤_};
 ghost use Rattle.mesh.specs.Going.{tablesOf};
 ghost use Rattle.mesh.specs.Calls.{addedOf, loggedOn};
 ghost use Rattle.mesh.specs.Leaving.{Leaves, injectLeft, roundLeft, overWords};
+ghost use Rattle.mesh.specs.Testing.{testedOf};
 
 // Passes a local packet at a chip, at once. Refusals, the first that applies: 8 no mesh, 9 chip, 5 rows, 11 codes, 10 log,
 // 2 length, 3 type 11, 4 NN with T = 1.
@@ -30,7 +33,38 @@ pub fn inject(
     ensures { λ r. ⌜ Leaves (now (mesh .entry)) (now (mesh .exit)) (injectLeft (now (mesh .entry)) (tablesOf (now (rows .entry)) (now (starts .entry)) (now (codes .entry))) (length (now (log .entry))) chip (now (bytes .entry))) ⌝ }
     ensures { λ r. ⌜ now (log .exit) ≡ loggedOn (injectLeft (now (mesh .entry)) (tablesOf (now (rows .entry)) (now (starts .entry)) (now (codes .entry))) (length (now (log .entry))) chip (now (bytes .entry)) .log) (now (log .entry)) ⌝ }
 {
-    let refusal = inject_refusal(mesh, log.len(), chip, bytes, rows, starts, codes);
+    let tested = test(mesh, rows, starts, codes);
+    inject_tested(mesh, log, chip, bytes, rows, starts, codes, tested)
+}
+
+// Passes all that is in flight; then, after each F rounds, the phase steps on. Refusals, the first that applies: 8 no mesh,
+// 5 rows, 11 codes, 10 log.
+pub fn round(mesh: &mut [u32], log: &mut [u32], rows: &[u32], starts: &[u32], codes: &[u8]) -> Added
+    ensures { λ r. ⌜ r ≡ addedOf (roundLeft (now (mesh .entry)) (tablesOf (now (rows .entry)) (now (starts .entry)) (now (codes .entry))) (length (now (log .entry)))) ⌝ }
+    ensures { λ r. ⌜ Leaves (now (mesh .entry)) (now (mesh .exit)) (roundLeft (now (mesh .entry)) (tablesOf (now (rows .entry)) (now (starts .entry)) (now (codes .entry))) (length (now (log .entry)))) ⌝ }
+    ensures { λ r. ⌜ now (log .exit) ≡ loggedOn (roundLeft (now (mesh .entry)) (tablesOf (now (rows .entry)) (now (starts .entry)) (now (codes .entry))) (length (now (log .entry))) .log) (now (log .entry)) ⌝ }
+{
+    let tested = test(mesh, rows, starts, codes);
+    round_tested(mesh, log, rows, starts, codes, tested)
+}
+
+// An injection where buffer and tables were tested.
+pub fn inject_tested(
+    mesh: &mut [u32],
+    log: &mut [u32],
+    chip: u32,
+    bytes: &[u8],
+    rows: &[u32],
+    starts: &[u32],
+    codes: &[u8],
+    tested: Tested,
+) -> Added
+    requires { ⌜ tested ≡ testedOf (now mesh) (tablesOf (now rows) (now starts) (now codes)) ⌝ }
+    ensures { λ r. ⌜ r ≡ addedOf (injectLeft (now (mesh .entry)) (tablesOf (now (rows .entry)) (now (starts .entry)) (now (codes .entry))) (length (now (log .entry))) chip (now (bytes .entry))) ⌝ }
+    ensures { λ r. ⌜ Leaves (now (mesh .entry)) (now (mesh .exit)) (injectLeft (now (mesh .entry)) (tablesOf (now (rows .entry)) (now (starts .entry)) (now (codes .entry))) (length (now (log .entry))) chip (now (bytes .entry))) ⌝ }
+    ensures { λ r. ⌜ now (log .exit) ≡ loggedOn (injectLeft (now (mesh .entry)) (tablesOf (now (rows .entry)) (now (starts .entry)) (now (codes .entry))) (length (now (log .entry))) chip (now (bytes .entry)) .log) (now (log .entry)) ⌝ }
+{
+    let refusal = inject_refusal(mesh, tested, log.len(), chip, bytes);
     if refusal != 0 {
         return Added { refusal, added: 0 };
     }
@@ -43,14 +77,21 @@ pub fn inject(
     }
 }
 
-// Passes all that is in flight; then, after each F rounds, the phase steps on. Refusals, the first that applies: 8 no mesh,
-// 5 rows, 11 codes, 10 log.
-pub fn round(mesh: &mut [u32], log: &mut [u32], rows: &[u32], starts: &[u32], codes: &[u8]) -> Added
+// A round where buffer and tables were tested.
+pub fn round_tested(
+    mesh: &mut [u32],
+    log: &mut [u32],
+    rows: &[u32],
+    starts: &[u32],
+    codes: &[u8],
+    tested: Tested,
+) -> Added
+    requires { ⌜ tested ≡ testedOf (now mesh) (tablesOf (now rows) (now starts) (now codes)) ⌝ }
     ensures { λ r. ⌜ r ≡ addedOf (roundLeft (now (mesh .entry)) (tablesOf (now (rows .entry)) (now (starts .entry)) (now (codes .entry))) (length (now (log .entry)))) ⌝ }
     ensures { λ r. ⌜ Leaves (now (mesh .entry)) (now (mesh .exit)) (roundLeft (now (mesh .entry)) (tablesOf (now (rows .entry)) (now (starts .entry)) (now (codes .entry))) (length (now (log .entry)))) ⌝ }
     ensures { λ r. ⌜ now (log .exit) ≡ loggedOn (roundLeft (now (mesh .entry)) (tablesOf (now (rows .entry)) (now (starts .entry)) (now (codes .entry))) (length (now (log .entry))) .log) (now (log .entry)) ⌝ }
 {
-    let refusal = round_refusal(mesh, log.len(), rows, starts, codes);
+    let refusal = round_refusal(mesh, tested, log.len());
     if refusal != 0 {
         return Added { refusal, added: 0 };
     }

@@ -7,11 +7,14 @@ use Rattle.mesh.proofs.Looks.{number-there, link-refused, link-found}
 use Rattle.mesh.proofs.looking.look_link.Statement.{statement}
 use Rattle.mesh.proofs.looking.look_link.Tie as tie
 
+holds-requires : tie.Need-holds-requires
+holds-requires c κs = search needs
+
 number-refusal-requires : tie.Need-number-refusal-requires
 number-refusal-requires c κs = search needs
 
 returns : tie.Need-returns
-returns c = link-refused (c .before .before .before .args .mesh .now) (c .before .before .before .args .chip) (c .before .before .before .args .link) _ (c .before .number-refusal .ensures) (c .if1 .taken)
+returns c = link-refused (c .before .before .before .before .args .mesh .now) (c .before .before .before .before .args .chip) (c .before .before .before .before .args .link) _ (c .before .number-refusal .ensures) (c .if1 .taken)
 
 mul-at : tie.Need-mul-at
 mul-at c = search needs
@@ -42,7 +45,7 @@ part-look-line-start c = search needs
 
 part-look-line-end : tie.Need-part-look-line-end
 part-look-line-end c =
-    let h = number-there (c .before .before .before .args .mesh .now) (c .before .before .before .args .chip) (c .before .before .before .args .link) 6 (sym (c .before .number-refusal .ensures) ∙ c .if1 .left) in
+    let h = number-there (c .before .before .before .before .args .mesh .now) (c .before .before .before .before .args .chip) (c .before .before .before .before .args .link) 6 (sym (c .before .number-refusal .ensures) ∙ c .if1 .left) in
     omega (arith, h .0 .fits, h .1)
 
 look-line-requires : tie.Need-look-line-requires
@@ -50,13 +53,14 @@ look-line-requires c κs = search needs
 
 returns-2 : tie.Need-returns-2
 returns-2 c =
-    let at = 6 + c .before .before .before .before .before .args .chip * 322 + (16 + c .before .before .before .before .before .args .link * 51) in
-    rw (add-sub-cancel-left at 51) at (c .look-line .ensures) ∙ link-found (c .before .before .before .before .before .args .mesh .now) (c .before .before .before .before .before .args .chip) (c .before .before .before .before .before .args .link) _ (c .before .before .before .number-refusal .ensures) (c .before .before .if1 .left)
+    let at = 6 + c .before .before .before .before .before .before .args .chip * 322 + (16 + c .before .before .before .before .before .before .args .link * 51) in
+    rw (add-sub-cancel-left at 51) at (c .look-line .ensures) ∙ link-found (c .before .before .before .before .before .before .args .mesh .now) (c .before .before .before .before .before .before .args .chip) (c .before .before .before .before .before .before .args .link) _ (c .before .before .before .number-refusal .ensures) (c .before .before .if1 .left)
 
 pub look-link-spec : {M : Type 1} → statement M
 look-link-spec =
     tie.close
     (tie.spec
+    holds-requires
     number-refusal-requires
     returns
     mul-at

@@ -6,32 +6,28 @@ use Rattle.mesh.proofs.Counts.{holds-size, words-enough}
 use Rattle.mesh.proofs.refusing.chip_refusal.Statement.{statement}
 use Rattle.mesh.proofs.refusing.chip_refusal.Tie as tie
 
-holds-requires : tie.Need-holds-requires
-holds-requires c κs = search needs
-
 returns : tie.Need-returns
-returns c = simp (sym (c .before .holds .ensures) ∙ not-true _ (c .if1 .taken))
+returns c = search needs
 
 shared-slice-read-chips : tie.Need-shared-slice-read-chips
-shared-slice-read-chips c = omega (arith, words-enough (c .before .before .before .before .args .mesh .now) (sym (c .before .before .holds .ensures) ∙ not-false _ (c .before .if1 .left)))
+shared-slice-read-chips c = omega (arith, words-enough (c .before .before .before .args .mesh .now) (sym (c .before .before .before .pre) ∙ not-false _ (c .before .if1 .left)))
 
 shared-slice-read-chips-2 : tie.Need-shared-slice-read-chips-2
-shared-slice-read-chips-2 c = omega (arith, words-enough (c .before .before .before .before .before .args .mesh .now) (sym (c .before .before .before .holds .ensures) ∙ not-false _ (c .before .before .if1 .left)))
+shared-slice-read-chips-2 c = omega (arith, words-enough (c .before .before .before .before .args .mesh .now) (sym (c .before .before .before .before .pre) ∙ not-false _ (c .before .before .if1 .left)))
 
 chips-requires : tie.Need-chips-requires
-chips-requires c κs = holds-size (c .before .before .before .before .before .args .mesh .now) (sym (c .before .before .before .holds .ensures) ∙ not-false _ (c .before .before .if1 .left))
+chips-requires c κs = holds-size (c .before .before .before .before .args .mesh .now) (sym (c .before .before .before .before .pre) ∙ not-false _ (c .before .before .if1 .left))
 
 returns-2 : tie.Need-returns-2
-returns-2 c = simp (sym (c .before .before .before .before .before .holds .ensures) ∙ not-false _ (c .before .before .before .before .if1 .left), le-ltb _ _ (rw (c .before .chips .ensures) at (c .if2 .taken)))
+returns-2 c = simp ((sym (c .before .before .before .before .before .before .pre) ∙ not-false _ (c .before .before .before .before .if1 .left)), le-ltb _ _ (rw (c .before .chips .ensures) at (c .if2 .taken)))
 
 returns-3 : tie.Need-returns-3
-returns-3 c = simp (sym (c .before .before .before .before .before .holds .ensures) ∙ not-false _ (c .before .before .before .before .if1 .left), lt-ltb _ _ (rw (c .before .chips .ensures) at (c .if2 .left)))
+returns-3 c = simp ((sym (c .before .before .before .before .before .before .pre) ∙ not-false _ (c .before .before .before .before .if1 .left)), lt-ltb _ _ (rw (c .before .chips .ensures) at (c .if2 .left)))
 
 pub chip-refusal-spec : {M : Type 1} → statement M
 chip-refusal-spec =
     tie.close
     (tie.spec
-    holds-requires
     returns
     shared-slice-read-chips
     shared-slice-read-chips-2

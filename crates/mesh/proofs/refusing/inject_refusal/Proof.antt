@@ -1,65 +1,47 @@
 use borrow.Author.Needs.{needs}
 use mathlib.Core.Path.{_∙_, sym}
 use native.Mathlib.Omega.{arith}
-use borrow.Author.Tests.{lt-ltb, le-ltb, eq-eqb, ne-eqb, not-true, not-false}
-use Rattle.router.proofs.Inputs.{chips-small}
-use Rattle.mesh.specs.Holding.{holdsMesh}
-use Rattle.mesh.specs.Going.{tablesOf, chipsOf}
+use borrow.Author.Tests.{lt-ltb, le-ltb, eq-eqb, ne-eqb, not-false}
 use Rattle.mesh.proofs.Counts.{holds-size, words-enough}
-use Rattle.mesh.proofs.Refusals.{inject-first}
 use Rattle.mesh.proofs.refusing.inject_refusal.Statement.{statement}
 use Rattle.mesh.proofs.refusing.inject_refusal.Tie as tie
 
-holds-requires : tie.Need-holds-requires
-holds-requires c κs = search needs
-
 returns : tie.Need-returns
-returns c = simp (sym (c .before .holds .ensures) ∙ not-true _ (c .if1 .taken))
+returns c = search needs
 
 shared-slice-read-chips : tie.Need-shared-slice-read-chips
-shared-slice-read-chips c = omega (arith, words-enough (c .before .before .before .before .before .before .before .before .args .mesh .now) (sym (c .before .before .holds .ensures) ∙ not-false _ (c .before .if1 .left)))
+shared-slice-read-chips c = omega (arith, words-enough (c .before .before .before .before .before .args .mesh .now) (sym (c .before .before .before .before .before .pre) ∙ not-false _ (c .before .if1 .left)))
 
 shared-slice-read-chips-2 : tie.Need-shared-slice-read-chips-2
-shared-slice-read-chips-2 c = omega (arith, words-enough (c .before .before .before .before .before .before .before .before .before .args .mesh .now) (sym (c .before .before .before .holds .ensures) ∙ not-false _ (c .before .before .if1 .left)))
+shared-slice-read-chips-2 c = omega (arith, words-enough (c .before .before .before .before .before .before .args .mesh .now) (sym (c .before .before .before .before .before .before .pre) ∙ not-false _ (c .before .before .if1 .left)))
 
 chips-requires : tie.Need-chips-requires
-chips-requires c κs = holds-size (c .before .before .before .before .before .before .before .before .before .args .mesh .now) (sym (c .before .before .before .holds .ensures) ∙ not-false _ (c .before .before .if1 .left))
+chips-requires c κs = holds-size (c .before .before .before .before .before .before .args .mesh .now) (sym (c .before .before .before .before .before .before .pre) ∙ not-false _ (c .before .before .if1 .left))
 
 returns-2 : tie.Need-returns-2
-returns-2 c = simp (sym (c .before .before .before .before .before .holds .ensures) ∙ not-false _ (c .before .before .before .before .if1 .left), le-ltb _ _ (rw (c .before .chips .ensures) at (c .if2 .taken)))
-
-tables-refusal-requires : tie.Need-tables-refusal-requires
-tables-refusal-requires c κs = rw (c .before .chips .ensures) (chips-small _ _ (holds-size (c .before .before .before .before .before .before .before .before .before .before .before .args .mesh .now) (sym (c .before .before .before .before .before .holds .ensures) ∙ not-false _ (c .before .before .before .before .if1 .left))))
+returns-2 c = simp (not-false (c .before .before .before .before .before .before .before .before .args .tested .holds) (c .before .before .before .before .if1 .left), le-ltb _ _ (rw (c .before .chips .ensures) at (c .if2 .taken)))
 
 returns-3 : tie.Need-returns-3
-returns-3 c =
-    let e = rw (c .before .before .before .chips .ensures) at (sym (c .before .tables-refusal .ensures)) in
-    sym (inject-first (holdsMesh (c .before .before .before .before .before .before .before .before .before .before .before .before .before .args .mesh .now)) (chipsOf (c .before .before .before .before .before .before .before .before .before .before .before .before .before .args .mesh .now)) (c .before .before .before .before .before .before .before .before .before .before .before .before .before .args .chip) (tablesOf (c .before .before .before .before .before .before .before .before .before .before .before .before .before .args .rows .now) (c .before .before .before .before .before .before .before .before .before .before .before .before .before .args .starts .now) (c .before .before .before .before .before .before .before .before .before .before .before .before .before .args .codes .now)) (c .before .before .before .before .before .before .before .before .before .before .before .before .before .args .room) (c .before .before .before .before .before .before .before .before .before .before .before .before .before .args .bytes .now) ∙ simp (sym (c .before .before .before .before .before .before .before .holds .ensures) ∙ not-false _ (c .before .before .before .before .before .before .if1 .left), lt-ltb _ _ (rw (c .before .before .before .chips .ensures) at (c .before .before .if2 .left)), e, ne-eqb _ 0 (c .if3 .taken)))
+returns-3 c = simp (not-false (c .before .before .before .before .before .before .before .before .before .before .args .tested .holds) (c .before .before .before .before .before .before .if1 .left), lt-ltb _ _ (rw (c .before .before .before .chips .ensures) at (c .before .before .if2 .left)), ne-eqb (c .before .before .before .before .before .before .before .before .before .before .args .tested .tables) 0 (c .if3 .taken))
 
 returns-4 : tie.Need-returns-4
-returns-4 c =
-    let e = rw (c .before .before .before .before .chips .ensures) at (sym (c .before .before .tables-refusal .ensures)) in
-    sym (inject-first (holdsMesh (c .before .before .before .before .before .before .before .before .before .before .before .before .before .before .args .mesh .now)) (chipsOf (c .before .before .before .before .before .before .before .before .before .before .before .before .before .before .args .mesh .now)) (c .before .before .before .before .before .before .before .before .before .before .before .before .before .before .args .chip) (tablesOf (c .before .before .before .before .before .before .before .before .before .before .before .before .before .before .args .rows .now) (c .before .before .before .before .before .before .before .before .before .before .before .before .before .before .args .starts .now) (c .before .before .before .before .before .before .before .before .before .before .before .before .before .before .args .codes .now)) (c .before .before .before .before .before .before .before .before .before .before .before .before .before .before .args .room) (c .before .before .before .before .before .before .before .before .before .before .before .before .before .before .args .bytes .now) ∙ simp (sym (c .before .before .before .before .before .before .before .before .holds .ensures) ∙ not-false _ (c .before .before .before .before .before .before .before .if1 .left), lt-ltb _ _ (rw (c .before .before .before .before .chips .ensures) at (c .before .before .before .if2 .left)), e, eq-eqb _ 0 (c .before .if3 .left), lt-ltb _ _ (c .if4 .taken)))
+returns-4 c = simp (not-false (c .before .before .before .before .before .before .before .before .before .before .before .args .tested .holds) (c .before .before .before .before .before .before .before .if1 .left), lt-ltb _ _ (rw (c .before .before .before .before .chips .ensures) at (c .before .before .before .if2 .left)), eq-eqb (c .before .before .before .before .before .before .before .before .before .before .before .args .tested .tables) 0 (c .before .if3 .left), lt-ltb _ _ (c .if4 .taken))
 
 packet-refusal-requires : tie.Need-packet-refusal-requires
 packet-refusal-requires c κs = search needs
 
 returns-5 : tie.Need-returns-5
-returns-5 c =
-    let e = rw (c .before .before .before .before .before .chips .ensures) at (sym (c .before .before .before .tables-refusal .ensures)) in
-    c .packet-refusal .ensures ∙ sym (inject-first (holdsMesh (c .before .before .before .before .before .before .before .before .before .before .before .before .before .before .before .args .mesh .now)) (chipsOf (c .before .before .before .before .before .before .before .before .before .before .before .before .before .before .before .args .mesh .now)) (c .before .before .before .before .before .before .before .before .before .before .before .before .before .before .before .args .chip) (tablesOf (c .before .before .before .before .before .before .before .before .before .before .before .before .before .before .before .args .rows .now) (c .before .before .before .before .before .before .before .before .before .before .before .before .before .before .before .args .starts .now) (c .before .before .before .before .before .before .before .before .before .before .before .before .before .before .before .args .codes .now)) (c .before .before .before .before .before .before .before .before .before .before .before .before .before .before .before .args .room) (c .before .before .before .before .before .before .before .before .before .before .before .before .before .before .before .args .bytes .now) ∙ simp (sym (c .before .before .before .before .before .before .before .before .before .holds .ensures) ∙ not-false _ (c .before .before .before .before .before .before .before .before .if1 .left), lt-ltb _ _ (rw (c .before .before .before .before .before .chips .ensures) at (c .before .before .before .before .if2 .left)), e, eq-eqb _ 0 (c .before .before .if3 .left), le-ltb _ _ (c .before .if4 .left)))
+returns-5 c = simp (not-false (c .before .before .before .before .before .before .before .before .before .before .before .before .args .tested .holds) (c .before .before .before .before .before .before .before .before .if1 .left), lt-ltb _ _ (rw (c .before .before .before .before .before .chips .ensures) at (c .before .before .before .before .if2 .left)), eq-eqb (c .before .before .before .before .before .before .before .before .before .before .before .before .args .tested .tables) 0 (c .before .before .if3 .left), le-ltb _ _ (c .before .if4 .left)) (c .packet-refusal .ensures)
 
 pub inject-refusal-spec : {M : Type 1} → statement M
 inject-refusal-spec =
     tie.close
     (tie.spec
-    holds-requires
     returns
     shared-slice-read-chips
     shared-slice-read-chips-2
     chips-requires
     returns-2
-    tables-refusal-requires
     returns-3
     returns-4
     packet-refusal-requires

@@ -6,8 +6,8 @@ use native.Mathlib.Omega.{arith}
 use Rattle.mesh.proofs.StepAt.{chip-long}
 use Rattle.mesh.proofs.Looks.{number-there}
 use Rattle.mesh.proofs.Changes.{link-refused, link-leaves}
-use Rattle.mesh.proofs.changing.set_link.Statement.{statement}
-use Rattle.mesh.proofs.changing.set_link.Tie as tie
+use Rattle.mesh.proofs.changing.set_link_tested.Statement.{statement}
+use Rattle.mesh.proofs.changing.set_link_tested.Tie as tie
 
 number-refusal-requires : tie.Need-number-refusal-requires
 number-refusal-requires c κs = search needs
@@ -51,8 +51,8 @@ returns-2 c =
     let at = 6 + a .chip * 322 in
     rw (add-sub-cancel-left at 322, rw (add-sub-cancel-left at 322) at (c .before .before .link-on-chip .ensures)) (link-leaves (a .mesh .now) (a .chip) (a .link) (a .up) (sym (c .before .before .before .before .before .number-refusal .ensures) ∙ c .before .before .before .before .if1 .left))
 
-pub set-link-spec : {M : Type 1} → statement M
-set-link-spec =
+pub set-link-tested-spec : {M : Type 1} → statement M
+set-link-tested-spec =
     tie.close
     (tie.spec
     number-refusal-requires

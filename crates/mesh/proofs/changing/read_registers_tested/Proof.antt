@@ -5,8 +5,8 @@ use native.Mathlib.Nat.{add-sub-cancel-left}
 use native.Mathlib.Omega.{arith}
 use Rattle.mesh.proofs.Looks.{chip-there}
 use Rattle.mesh.proofs.RegistersCall.{registers-refused, registers-leave}
-use Rattle.mesh.proofs.changing.read_registers.Statement.{statement}
-use Rattle.mesh.proofs.changing.read_registers.Tie as tie
+use Rattle.mesh.proofs.changing.read_registers_tested.Statement.{statement}
+use Rattle.mesh.proofs.changing.read_registers_tested.Tie as tie
 
 chip-refusal-requires : tie.Need-chip-refusal-requires
 chip-refusal-requires c κs = search needs
@@ -72,8 +72,8 @@ returns-2 c =
     rw (add-sub-cancel-left at 322, rw (add-sub-cancel-left at 322) at (c .before .before .empty-chip .ensures))
     (registers-leave (a .mesh .now) (a .chip) _ (c .before .before .before .before .before .before .before .before .chip-refusal .ensures) (c .before .before .before .before .before .before .before .if1 .left) _ (rw (add-sub-cancel-left at 6) at (c .before .before .before .before .registers-at .ensures)))
 
-pub read-registers-spec : {M : Type 1} → statement M
-read-registers-spec =
+pub read-registers-tested-spec : {M : Type 1} → statement M
+read-registers-tested-spec =
     tie.close
     (tie.spec
     chip-refusal-requires

@@ -2,8 +2,8 @@ use borrow.Author.Needs.{needs}
 use mathlib.Core.Path.{_∙_, sym}
 use mathlib.Core.Bool.{and-true, and-false}
 use borrow.Author.Tests.{not-true, not-false}
-use Rattle.mesh.proofs.refusing.rows_lent.Statement.{statement}
-use Rattle.mesh.proofs.refusing.rows_lent.Tie as tie
+use Rattle.mesh.proofs.testing.rows_lent.Statement.{statement}
+use Rattle.mesh.proofs.testing.rows_lent.Tie as tie
 
 starts-fine-requires : tie.Need-starts-fine-requires
 starts-fine-requires c κs = search needs

@@ -3,8 +3,8 @@ use mathlib.Core.Path.{_∙_, sym}
 use native.Mathlib.Omega.{arith}
 use native.Mathlib.Nat.{mul-le-mul}
 use borrow.Author.Tests.{not-true, not-false}
-use Rattle.mesh.proofs.refusing.tables_refusal.Statement.{statement}
-use Rattle.mesh.proofs.refusing.tables_refusal.Tie as tie
+use Rattle.mesh.proofs.testing.tables_refusal.Statement.{statement}
+use Rattle.mesh.proofs.testing.tables_refusal.Tie as tie
 
 rows-lent-requires : tie.Need-rows-lent-requires
 rows-lent-requires c κs = search needs
