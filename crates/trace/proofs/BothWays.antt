@@ -1,0 +1,71 @@
+-- A written trace reads back as its calls, and a trace that reads as calls is what writing them gives: one record after another. Assumes nothing.
+use mathlib.Core.Path.{_≡_, refl, sym, ap, _∙_, subst}
+use mathlib.Core.Bool.{Bool, true, false}
+use mathlib.Core.List.{List, [], _∷_, _++_}
+use Prim.Native.Nat.{ℕ, _+_}
+use native.Mathlib.Omega.{arith}
+use lib.Dec.{eqb}
+use lib.ListN.{length, drop, take-append-drop}
+use lib.Seq.{drop-append-seam, getD-drop}
+use borrow.Author.Tests.{eqb-true, eqb-false}
+use Rattle.mesh.specs.Sound.{All}
+use Rattle.trace.specs.declared.Call.{Call}
+use Rattle.trace.specs.declared.Record.{Record}
+use Rattle.trace.specs.Records.{recordOf, recordRead}
+use Rattle.trace.specs.Replay.{Trace, over, refused, then, traceOf}
+use Rattle.trace.specs.BothWays.{writtenTrace, keeps, Writable, WrittenReads, ReadsWritten}
+use Rattle.trace.proofs.ReadThenWritten.{record-kept}
+use Rattle.trace.proofs.Traces.{trace-over, trace-step, trace-stop}
+use Rattle.trace.proofs.WrittenThenRead.{record-reads}
+
+pub written-reads : WrittenReads
+unfolding writtenTrace keeps All
+written-reads [] w = trace-over [] refl
+written-reads (c ∷ cs) w =
+    let s = recordOf c ++ writtenTrace cs in
+    let found = record-reads c (w .0) (writtenTrace cs) in
+    trace-step s (omega arith) (ap (λ (r : Record). r .refusal) found)
+    ∙ ap (λ (r : Record). then (r .call) (r .length) (traceOf (drop (r .length) s))) found
+    ∙ ap (then c (length (recordOf c))) (ap traceOf (drop-append-seam (recordOf c) (writtenTrace cs)) ∙ written-reads cs (w .1))
+
+-- The three ways in which a trace begins.
+data Begins (s : List ℕ) : Type 0 where
+  none : s ≡ [] → traceOf s ≡ over → Begins s
+  some : recordRead s .refusal ≡ 0 → traceOf s ≡ then (recordRead s .call) (recordRead s .length) (traceOf (drop (recordRead s .length) s)) → Begins s
+  stop : (n : ℕ) → traceOf s ≡ refused n → Begins s
+
+begins : (s : List ℕ) → Begins s
+begins [] = none refl (trace-over [] refl)
+begins (a ∷ l) = go (eqb (recordRead (a ∷ l) .refusal) 0) refl
+  where
+    go : (b : Bool) → eqb (recordRead (a ∷ l) .refusal) 0 ≡ b → Begins (a ∷ l)
+    go true x = some (eqb-true _ _ x) (trace-step (a ∷ l) (omega arith) (eqb-true _ _ x))
+    go false x = stop _ (trace-stop (a ∷ l) (omega arith) (eqb-false _ _ x))
+
+-- where nothing is kept there are no bytes
+empty-of : {s : List ℕ} → Begins s → traceOf s ≡ over → s ≡ []
+empty-of (none p t) e = p
+empty-of (some p t) e = cc
+empty-of (stop n t) e = cc
+
+-- where a call is kept first, the first record reads as that call
+record First (s : List ℕ) (c : Call) (rest : Trace) : Type 0 where
+  pub read : recordRead s .refusal ≡ 0
+  pub call : recordRead s .call ≡ c
+  pub behind : traceOf (drop (recordRead s .length) s) ≡ rest
+
+first-of : {s : List ℕ} (c : Call) (n : ℕ) (rest : Trace) → Begins s → traceOf s ≡ then c n rest → First s c rest
+first-of c n rest (none p t) e = record { read = cc; call = cc; behind = cc }
+first-of c n rest (some p t) e = record { read = p; call = cc; behind = cc }
+first-of c n rest (stop m t) e = record { read = cc; call = cc; behind = cc }
+
+pub reads-written : ReadsWritten
+unfolding writtenTrace keeps All
+reads-written s bytes [] e = (empty-of (begins s) e, tt)
+reads-written s bytes (c ∷ cs) e =
+    let first = first-of c (length (recordOf c)) (keeps cs) (begins s) e in
+    let n = recordRead s .length in
+    let kept = record-kept s bytes (first .read) in
+    let behind = reads-written (drop n s) (λ i. rw getD-drop (bytes (n + i))) cs (first .behind) in
+    let joined = sym (take-append-drop n s) ∙ (λ i. sym (kept .written) i ++ behind .0 i) in
+    (joined ∙ ap (λ (d : Call). recordOf d ++ writtenTrace cs) (first .call), (subst Writable (first .call) (kept .writable), behind .1))

@@ -1,0 +1,75 @@
+-- One record of a replay: one that is refused, and one whose call is made. Assumes nothing.
+use mathlib.Core.Path.{_≡_, refl, sym, ap, _∙_, subst}
+use mathlib.Core.Bool.{Bool, true, false, cond}
+use mathlib.Core.List.{List, []}
+use Prim.Native.Nat.{ℕ, _+_, _/_, _≤_}
+use native.Mathlib.Omega.{arith}
+use lib.Dec.{eqb, lit≤}
+use lib.ListN.{length, getD}
+use borrow.Author.Tests.{eq-eqb, ne-eqb}
+use Rattle.packet.specs.Refusal.{firstOf}
+use Rattle.mesh.specs.declared.Added.{Added}
+use Rattle.mesh.specs.Layout.{meshOf}
+use Rattle.mesh.specs.Steps.{Tables}
+use Rattle.mesh.specs.Calls.{Left, loggedOn}
+use Rattle.mesh.specs.Leaving.{Leaves}
+use Rattle.trace.specs.declared.Call.{Call}
+use Rattle.trace.specs.declared.Record.{Record}
+use Rattle.trace.specs.Records.{bodyLength, readRefusals, chipAt, fiveAt, nineAt, callOf, callAt, recordRead}
+use Rattle.trace.specs.Replay.{madeLeft, oneLeft, OneDone}
+use Rattle.trace.proofs.MadeCalls.{Gives}
+
+-- a packet that is read has at most nine bytes
+pub read-packet : (s : List ℕ) → recordRead s .call .length ≤ 9
+read-packet s = go (eqb (firstOf (readRefusals s)) 0) (eqb (getD s 3 0) 1) (eqb (getD s 3 0) 2) (eqb (getD s 3 0) 3) (eqb (bodyLength s) 13)
+  where
+    go : (a b c d e : Bool)
+        → cond {A = Record} a
+        (record {
+          refusal = 0;
+          length = 2 + bodyLength s;
+          call = cond {A = Call} b
+              (cond {A = Call} e (record { kind = 1; chip = chipAt s; link = 0; up = 0; length = 9; bytes = nineAt s }) (record { kind = 1; chip = chipAt s; link = 0; up = 0; length = 5; bytes = fiveAt s }))
+              (cond {A = Call} c (callOf 2 0 0 0) (cond {A = Call} d (callOf 3 (chipAt s) (getD s 6 0) (getD s 7 0)) (callOf 4 (chipAt s) 0 0)));
+        })
+        (record { refusal = firstOf (readRefusals s); length = 0; call = callOf 0 0 0 0 })
+        .call
+        .length ≤ 9
+    go false b c d e = lit≤ tt
+    go true true c d true = lit≤ tt
+    go true true c d false = lit≤ tt
+    go true false true d e = lit≤ tt
+    go true false false true e = lit≤ tt
+    go true false false false e = lit≤ tt
+
+module _ (t : Tables) (s l log : List ℕ) (r : Record) (read : r ≡ recordRead s) where
+  refusal : r .refusal ≡ recordRead s .refusal
+  refusal = ap (λ (x : Record). x .refusal) read
+
+  abbrev choice : Bool → Left (Unit {0})
+  choice b = cond b (madeLeft l t (length log) (recordRead s .call)) (record { refusal = recordRead s .refusal; mesh = meshOf l; log = [] })
+
+  pub record-refused : (r .refusal ≡ 0 → ⊥) → OneDone t s l log l log (record { refusal = r .refusal; length = 0; added = 0 })
+  record-refused some =
+      let e : oneLeft t s l (length log) ≡ record { refusal = recordRead s .refusal; mesh = meshOf l; log = [] } = ap choice (ne-eqb (recordRead s .refusal) 0 (λ z. some (refusal ∙ z))) in
+      record {
+        refusal = refusal ∙ sym (ap (λ (x : Left (Unit {0})). x .refusal) e);
+        bytes = λ z. absurd (some z);
+        added = sym (ap (λ (x : Left (Unit {0})). length (x .log) / 6) e);
+        buffer = subst (Leaves l l) (sym e) (record { refused = λ z. refl; mesh = λ z. refl; holds = λ z. absurd (some (refusal ∙ z)); long = refl; past = refl });
+        logged = sym (ap (λ (x : Left (Unit {0})). loggedOn (x .log) log) e);
+      }
+
+  pub record-made : r .refusal ≡ 0 → (a : Added) (l₁ log₁ : List ℕ) → Gives t l log a l₁ log₁ (madeLeft l t (length log) (r .call))
+      → OneDone t s l log l₁ log₁ (record { refusal = a .refusal; length = r .length; added = a .added })
+  record-made none a l₁ log₁ h =
+      let e : oneLeft t s l (length log) ≡ madeLeft l t (length log) (r .call) =
+      ap choice (eq-eqb (recordRead s .refusal) 0 (sym refusal ∙ none)) ∙ ap (λ (x : Record). madeLeft l t (length log) (x .call)) (sym read) in
+      let g = subst (Gives t l log a l₁ log₁) (sym e) h in
+      record {
+        refusal = ap (λ (x : Added). x .refusal) (g .0);
+        bytes = λ z. ap (λ (x : Record). x .length) read;
+        added = ap (λ (x : Added). x .added) (g .0);
+        buffer = g .1 .0;
+        logged = g .1 .1;
+      }

@@ -1,0 +1,111 @@
+-- What every kept call keeps: the mesh's size; records of six numbers; and where one is accepted there is a mesh, where one is refused no record. Assumes nothing.
+use mathlib.Core.Path.{_≡_, refl, sym, ap, _∙_, subst}
+use mathlib.Core.Bool.{Bool, true, false, cond, not}
+use mathlib.Core.List.{List, [], _∷_, _++_, foldl}
+use Prim.Native.Nat.{ℕ, _+_, _*_, _/_, _%_}
+use native.Mathlib.Omega.{arith}
+use lib.Dec.{eqb, ltb}
+use lib.ListN.{length, length-append}
+use borrow.Author.Tests.{eqb-true, not-false}
+use Rattle.packet.specs.Refusal.{Refusal, firstOf}
+use Rattle.packet.specs.Bytes.{packetAt}
+use Rattle.steps.specs.declared.Outcome.{Outcome}
+use Rattle.steps.specs.Links.{processorsOf}
+use Rattle.mesh.specs.Mesh.{Mesh}
+use Rattle.mesh.specs.Steps.{Tables, Arrival, Going, outcomeAt, logOf, setAside, arrivals, passAt, passed, injected, rounded}
+use Rattle.mesh.specs.Weights.{inFlight}
+use Rattle.mesh.specs.Calls.{Left, many, unless, withLink, withEmpty, injectRefusals, roundRefusals, linkRefusals, chipRefusals}
+use Rattle.trace.specs.declared.Call.{Call}
+use Rattle.trace.specs.Records.{byKind, packetOf}
+use Rattle.trace.specs.Replay.{making}
+
+-- What is kept, of a mesh before and what a call leaves.
+pub record Keeps {A : Type 0} (holds : Bool) (m : Mesh A) (x : Left A) : Type 0 where
+  pub width : x .mesh .width ≡ m .width
+  pub height : x .mesh .height ≡ m .height
+  pub sixes : length (x .log) % 6 ≡ 0
+  pub there : x .refusal ≡ 0 → holds ≡ true
+  pub none : (x .refusal ≡ 0 → ⊥) → x .log ≡ []
+
+-- a record has six numbers
+record-six : (chip : ℕ) (o : Outcome) → length (logOf chip o) % 6 ≡ 0
+record-six chip o = go (ltb (o .wanted) 64)
+  where
+    go : (b : Bool) → length (cond b [] (chip ∷ processorsOf (o .wanted) ∷ o .errors ∷ o .packet .control ∷ o .packet .word ∷ o .packet .payload ∷ [])) % 6 ≡ 0
+    go true = refl
+    go false = refl
+
+module _ {A : Type 0} where
+  record Size (m : Mesh A) (g : Going A) : Type 0 where
+    pub width : g .mesh .width ≡ m .width
+    pub height : g .mesh .height ≡ m .height
+    pub sixes : length (g .log) % 6 ≡ 0
+
+  module _ (t : Tables) (turn : A → A) (m : Mesh A) where
+    size-pass : (g : Going A) (a : Arrival A) → Size m g → Size m (passAt t turn g a)
+    size-pass g a h =
+        let o = outcomeAt t (g .mesh) (a .chip) (a .source) (a .flight .packet) in
+        record { width = h .width; height = h .height; sixes = rw (length-append (g .log) (logOf (a .chip) o)) (omega (arith, h .sixes, record-six (a .chip) o)) }
+
+    size-passes : (later : List (Arrival A)) (g : Going A) → Size m g → Size m (foldl (passAt t turn) g later)
+    size-passes [] g h = h
+    size-passes (a ∷ later) g h = size-passes later (passAt t turn g a) (size-pass g a h)
+
+    size-injected : (chip : ℕ) (a : A) (bytes : List ℕ) → Size m (injected t turn m chip (record { packet = packetAt bytes; tag = a }))
+    size-injected chip a bytes =
+        size-pass (record { mesh = m; log = [] }) (record { chip = chip; source = 7; flight = record { packet = packetAt bytes; tag = a } }) (record { width = refl; height = refl; sixes = refl })
+
+    size-rounded : Size m (rounded t turn m)
+    size-rounded =
+        let h = size-passes (arrivals m) (record { mesh = setAside m; log = [] }) (record { width = refl; height = refl; sixes = refl }) in
+        record { width = h .width; height = h .height; sixes = h .sixes }
+
+  -- where a call is accepted there is a mesh
+  module _ (holds : Bool) (n : ℕ) (accepted : n ≡ 0 → holds ≡ true) (m : Mesh A) (g : Going A) (h : Size m g) where
+    keeps-unless : Keeps holds m (unless n m g)
+    keeps-unless = go (eqb n 0) refl
+      where
+        go : (b : Bool) → eqb n 0 ≡ b → Keeps holds m (cond b (record { refusal = 0; mesh = g .mesh; log = g .log }) (record { refusal = n; mesh = m; log = [] }))
+        go true e = record { width = h .width; height = h .height; sixes = h .sixes; there = λ z. accepted (eqb-true n 0 e); none = λ some. absurd (some refl) }
+        go false e = record { width = refl; height = refl; sixes = refl; there = accepted; none = λ some. refl }
+
+  pub keeps-made : (holds : Bool) (t : Tables) (turn : A → A) (tag : A) (m : Mesh A) (room : ℕ) (c : Call) → Keeps holds m (making holds t turn tag m room c)
+  keeps-made holds t turn tag m room c = go (eqb (c .kind) 1) (eqb (c .kind) 2) (eqb (c .kind) 3)
+    where
+      -- the numbers begin with 8 for want of a mesh
+      mesh-there : (b : Bool) (rest : ℕ) → cond (not b) 8 rest ≡ 0 → b ≡ true
+      mesh-there true rest e = refl
+      mesh-there false rest e = absurd (omega arith)
+
+      quiet : (n : Mesh A) → n .width ≡ m .width → n .height ≡ m .height → Size m (record { mesh = n; log = [] })
+      quiet n w h = record { width = w; height = h; sixes = refl }
+
+      one : Keeps holds m (unless (firstOf (injectRefusals holds (many m) (c .chip) t room (packetOf c))) m (injected t turn m (c .chip) (record { packet = packetAt (packetOf c); tag = tag })))
+      one =
+          keeps-unless holds (firstOf (injectRefusals holds (many m) (c .chip) t room (packetOf c))) (mesh-there holds _) m
+          (injected t turn m (c .chip) (record { packet = packetAt (packetOf c); tag = tag }))
+          (size-injected t turn m (c .chip) tag (packetOf c))
+
+      two : Keeps holds m (unless (firstOf (roundRefusals holds (many m) (inFlight m) t room)) m (rounded t turn m))
+      two = keeps-unless holds (firstOf (roundRefusals holds (many m) (inFlight m) t room)) (mesh-there holds _) m (rounded t turn m) (size-rounded t turn m)
+
+      three : Keeps holds m (unless (firstOf (linkRefusals holds (many m) (c .chip) (c .link))) m (record { mesh = withLink m (c .chip) (c .link) (eqb (c .up) 1); log = [] }))
+      three =
+          keeps-unless holds (firstOf (linkRefusals holds (many m) (c .chip) (c .link))) (mesh-there holds _) m (record { mesh = withLink m (c .chip) (c .link) (eqb (c .up) 1); log = [] })
+          (quiet (withLink m (c .chip) (c .link) (eqb (c .up) 1)) refl refl)
+
+      four : Keeps holds m (unless (firstOf (chipRefusals holds (many m) (c .chip))) m (record { mesh = withEmpty m (c .chip); log = [] }))
+      four =
+          keeps-unless holds (firstOf (chipRefusals holds (many m) (c .chip))) (mesh-there holds _) m (record { mesh = withEmpty m (c .chip); log = [] })
+          (quiet (withEmpty m (c .chip)) refl refl)
+
+      go : (x y z : Bool)
+          → Keeps holds m
+          (cond x (unless (firstOf (injectRefusals holds (many m) (c .chip) t room (packetOf c))) m (injected t turn m (c .chip) (record { packet = packetAt (packetOf c); tag = tag })))
+          (cond y (unless (firstOf (roundRefusals holds (many m) (inFlight m) t room)) m (rounded t turn m))
+          (cond z (unless (firstOf (linkRefusals holds (many m) (c .chip) (c .link))) m (record { mesh = withLink m (c .chip) (c .link) (eqb (c .up) 1); log = [] }))
+          (unless (firstOf (chipRefusals holds (many m) (c .chip))) m (record { mesh = withEmpty m (c .chip); log = [] })))))
+      go true y z = one
+      go false true z = two
+      go false false true = three
+      go false false false = four

@@ -1,0 +1,14 @@
+pub mod Bodies
+pub mod BothWays
+pub mod ByKind
+pub mod DoneRecords
+pub mod Keepables
+pub mod KeptSizes
+pub mod MadeCalls
+pub mod ReadRecords
+pub mod ReadThenWritten
+pub mod Replays
+pub mod SoFar
+pub mod Traces
+pub mod WriteRecords
+pub mod WrittenThenRead

@@ -1,0 +1,85 @@
+-- What a call on a mesh gives is what the kept call gives, kind by kind. Assumes nothing.
+use mathlib.Core.Path.{_≡_, refl, sym, ap, _∙_, subst}
+use mathlib.Core.Bool.{Bool, true, false, cond}
+use mathlib.Core.List.{List, []}
+use Prim.Native.Nat.{ℕ}
+use lib.Dec.{eqb}
+use lib.ListN.{length}
+use borrow.Author.Tests.{eqb-true}
+use Rattle.mesh.specs.declared.Added.{Added}
+use Rattle.mesh.specs.declared.RegistersRead.{RegistersRead}
+use Rattle.packet.specs.Refusal.{firstOf}
+use Rattle.mesh.specs.Mesh.{Mesh}
+use Rattle.mesh.specs.Layout.{meshOf}
+use Rattle.mesh.specs.Holding.{holdsMesh}
+use Rattle.mesh.specs.Steps.{Tables, Going}
+use Rattle.mesh.specs.Calls.{Left, many, unless, chipRefusals, linkRefusals, withLink, withEmpty, addedOf, loggedOn, registersRead}
+use Rattle.mesh.specs.Leaving.{Leaves, injectLeft, roundLeft, linkLeft, registersLeft}
+use Rattle.trace.specs.declared.Call.{Call}
+use Rattle.trace.specs.Records.{packetOf}
+use Rattle.trace.specs.Replay.{madeLeft}
+use Rattle.trace.proofs.ByKind.{by-1, by-2, by-3, by-else}
+
+-- ---- refused or not, a call that makes no pass adds no record, and answers its number
+
+module _ (n : ℕ) (m : Mesh (Unit {0})) (g : Going (Unit {0})) where
+  unless-quiet : g .log ≡ [] → unless n m g .log ≡ []
+  unless-quiet e = go (eqb n 0)
+    where
+      go : (b : Bool) → cond {A = Left (Unit {0})} b (record { refusal = 0; mesh = g .mesh; log = g .log }) (record { refusal = n; mesh = m; log = [] }) .log ≡ []
+      go true = e
+      go false = refl
+
+  unless-number : unless n m g .refusal ≡ n
+  unless-number = go (eqb n 0) refl
+    where
+      go : (b : Bool) → eqb n 0 ≡ b → cond {A = Left (Unit {0})} b (record { refusal = 0; mesh = g .mesh; log = g .log }) (record { refusal = n; mesh = m; log = [] }) .refusal ≡ n
+      go true e = sym (eqb-true n 0 e)
+      go false e = refl
+
+module _ (t : Tables) (l log : List ℕ) where
+  -- answer, buffer and log of a call that leaves x
+  abbrev pub Gives : Added → List ℕ → List ℕ → Left (Unit {0}) → Type 0
+  Gives r l₁ log₁ x = (r ≡ addedOf x) × (Leaves l l₁ x × (log₁ ≡ loggedOn (x .log) log))
+
+  quiet : (r : Added) (l₁ : List ℕ) (x : Left (Unit {0})) → x .log ≡ [] → r ≡ record { refusal = x .refusal; added = 0 } → Leaves l l₁ x → Gives r l₁ log x
+  quiet r l₁ x none e h = (e ∙ sym (ap (λ (z : List ℕ). addedOf (record { refusal = x .refusal; mesh = x .mesh; log = z })) none), (h, sym (ap (λ (z : List ℕ). loggedOn z log) none)))
+
+  module _ (c : Call) (r : Added) (l₁ log₁ : List ℕ) where
+    abbrev a : Left (Unit {0})
+    a = injectLeft l t (length log) (c .chip) (packetOf c)
+
+    abbrev b : Left (Unit {0})
+    b = roundLeft l t (length log)
+
+    abbrev d : Left (Unit {0})
+    d = linkLeft l (c .chip) (c .link) (eqb (c .up) 1)
+
+    abbrev e : Left (Unit {0})
+    e = registersLeft l (c .chip)
+
+    pub made-injection : c .kind ≡ 1 → Gives r l₁ log₁ (injectLeft l t (length log) (c .chip) (packetOf c)) → Gives r l₁ log₁ (madeLeft l t (length log) c)
+    made-injection k h = subst (Gives r l₁ log₁) (sym (by-1 a b d e (c .kind) k)) h
+
+    pub made-round : c .kind ≡ 2 → Gives r l₁ log₁ (roundLeft l t (length log)) → Gives r l₁ log₁ (madeLeft l t (length log) c)
+    made-round k h = subst (Gives r l₁ log₁) (sym (by-2 a b d e (c .kind) k)) h
+
+  module _ (c : Call) (l₁ : List ℕ) where
+    pub made-change : c .kind ≡ 3 → (n : ℕ) → n ≡ linkLeft l (c .chip) (c .link) (eqb (c .up) 1) .refusal → Leaves l l₁ (linkLeft l (c .chip) (c .link) (eqb (c .up) 1))
+        → Gives (record { refusal = n; added = 0 }) l₁ log (madeLeft l t (length log) c)
+    made-change k n number h =
+        let x = linkLeft l (c .chip) (c .link) (eqb (c .up) 1) in
+        let none = unless-quiet (firstOf (linkRefusals (holdsMesh l) (many (meshOf l)) (c .chip) (c .link))) (meshOf l) (record { mesh = withLink (meshOf l) (c .chip) (c .link) (eqb (c .up) 1); log = [] }) refl in
+        subst (Gives (record { refusal = n; added = 0 }) l₁ log) (sym (by-3 (a c (record { refusal = n; added = 0 }) l₁ log) (b c (record { refusal = n; added = 0 }) l₁ log) x (registersLeft l (c .chip)) (c .kind) k))
+        (quiet (record { refusal = n; added = 0 }) l₁ x none (λ i. record { refusal = number i; added = 0 }) h)
+
+    pub made-read : (c .kind ≡ 1 → ⊥) → (c .kind ≡ 2 → ⊥) → (c .kind ≡ 3 → ⊥) → (r : RegistersRead) → r ≡ registersRead (holdsMesh l) (meshOf l) (c .chip)
+        → Leaves l l₁ (registersLeft l (c .chip))
+        → Gives (record { refusal = r .refusal; added = 0 }) l₁ log (madeLeft l t (length log) c)
+    made-read x y z r read h =
+        let n = firstOf (chipRefusals (holdsMesh l) (many (meshOf l)) (c .chip)) in
+        let g : Going (Unit {0}) = record { mesh = withEmpty (meshOf l) (c .chip); log = [] } in
+        let number : r .refusal ≡ registersLeft l (c .chip) .refusal = ap (λ (q : RegistersRead). q .refusal) read ∙ sym (unless-number n (meshOf l) g) in
+        let answer : Added = record { refusal = r .refusal; added = 0 } in
+        subst (Gives answer l₁ log) (sym (by-else (a c answer l₁ log) (b c answer l₁ log) (linkLeft l (c .chip) (c .link) (eqb (c .up) 1)) (registersLeft l (c .chip)) (c .kind) x y z))
+        (quiet answer l₁ (registersLeft l (c .chip)) (unless-quiet n (meshOf l) g refl) (λ i. record { refusal = number i; added = 0 }) h)

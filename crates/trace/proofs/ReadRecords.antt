@@ -1,0 +1,53 @@
+-- What is known of bytes that read as a record, and what is answered for those that do not. Assumes nothing.
+use mathlib.Core.Path.{_≡_, refl, sym, ap, _∙_}
+use mathlib.Core.Bool.{Bool, true, false, cond, _||_}
+use mathlib.Core.List.{List}
+use Prim.Native.Nat.{ℕ, _+_}
+use native.Mathlib.Omega.{arith}
+use lib.Dec.{eqb, ltb}
+use lib.ListN.{length, getD}
+use borrow.Author.Tests.{eq-eqb, ne-eqb, ltb-false, eqb-true, not-false}
+use Rattle.packet.specs.Refusal.{firstOf}
+use Rattle.packet.proofs.First.{none-applies}
+use Rattle.trace.specs.declared.Call.{Call}
+use Rattle.trace.specs.declared.Record.{Record}
+use Rattle.trace.specs.Records.{bodyLength, bodyFine, Readable, readRefusals, callOf, callAt, recordRead}
+
+pub record Reads (s : List ℕ) : Type 0 where
+  pub there : Readable s
+  pub version : getD s 2 0 ≡ 1
+  pub fine : bodyFine s ≡ true
+
+or-false : (a b : Bool) → (a || b) ≡ false → (a ≡ false) × (b ≡ false)
+or-false false b e = (refl, e)
+or-false true b e = absurd (mathlib.Core.Bool.false≢true (sym e))
+
+pub reads : (s : List ℕ) → firstOf (readRefusals s) ≡ 0 → Reads s
+reads s e =
+    let off = none-applies (readRefusals s) refl e in
+    let long = or-false (ltb (length s) 2) (ltb (length s) (2 + bodyLength s)) (off .0) in
+    record {
+      there = record { two = ltb-false _ _ (long .0); whole = ltb-false _ _ (long .1) };
+      version = eqb-true _ _ (not-false _ (or-false (eqb (bodyLength s) 0) _ (off .1 .0) .1));
+      fine = not-false _ (off .1 .1 .0);
+    }
+
+module _ (s : List ℕ) where
+  abbrev answer : Bool → Record
+  answer b =
+      cond b (record { refusal = 0; length = 2 + bodyLength s; call = callAt s })
+      (record { refusal = firstOf (readRefusals s); length = 0; call = callOf 0 0 0 0 })
+
+  pub read-refused : (r : ℕ) (c : Call) → r ≡ firstOf (readRefusals s) → (r ≡ 0 → ⊥) → c ≡ callOf 0 0 0 0 → record { refusal = r; length = 0; call = c } ≡ recordRead s
+  read-refused r c e some f = (λ i. record { refusal = e i; length = 0; call = f i }) ∙ sym (ap answer (ne-eqb _ 0 (λ z. some (e ∙ z))))
+
+  pub read-found : (n : ℕ) (c : Call) → firstOf (readRefusals s) ≡ 0 → n ≡ bodyLength s → c ≡ callAt s → record { refusal = 0; length = 2 + n; call = c } ≡ recordRead s
+  read-found n c none e f = (λ i. record { refusal = 0; length = 2 + e i; call = f i }) ∙ sym (ap answer (eq-eqb _ 0 none))
+
+  -- a record that is read is not refused
+  pub read-accepted : recordRead s .refusal ≡ 0 → firstOf (readRefusals s) ≡ 0
+  read-accepted = go (eqb (firstOf (readRefusals s)) 0) refl
+    where
+      go : (b : Bool) → eqb (firstOf (readRefusals s)) 0 ≡ b → answer b .refusal ≡ 0 → firstOf (readRefusals s) ≡ 0
+      go true x e = eqb-true _ _ x
+      go false x e = e

@@ -1,0 +1,130 @@
+use borrow.Author.Needs.{needs}
+use mathlib.Core.Path.{sym, ap}
+use lib.Seq.{length-take-le}
+use Rattle.mesh.specs.declared.testing.Tested.{Tested}
+use Rattle.mesh.specs.Going.{tablesOf}
+use Rattle.trace.specs.Records.{nineOf}
+use Rattle.trace.proofs.MadeCalls.{made-injection, made-round, made-change, made-read}
+use Rattle.trace.proofs.making.make.Statement.{statement}
+use Rattle.trace.proofs.making.make.Tie as tie
+
+array-read-t17 : tie.Need-array-read-t17
+array-read-t17 c = search needs
+
+array-read-t20 : tie.Need-array-read-t20
+array-read-t20 c = search needs
+
+array-read-t23 : tie.Need-array-read-t23
+array-read-t23 c = search needs
+
+array-read-t26 : tie.Need-array-read-t26
+array-read-t26 c = search needs
+
+array-read-t29 : tie.Need-array-read-t29
+array-read-t29 c = search needs
+
+array-read-t32 : tie.Need-array-read-t32
+array-read-t32 c = search needs
+
+array-read-t35 : tie.Need-array-read-t35
+array-read-t35 c = search needs
+
+array-read-t38 : tie.Need-array-read-t38
+array-read-t38 c = search needs
+
+array-read-t41 : tie.Need-array-read-t41
+array-read-t41 c = search needs
+
+cast-size : tie.Need-cast-size
+cast-size c = search needs
+
+array-share-prefix-packet : tie.Need-array-share-prefix-packet
+array-share-prefix-packet c = search needs
+
+slice-aggregate-inject-tested : tie.Need-slice-aggregate-inject-tested
+slice-aggregate-inject-tested c = sym (length-take-le (c .before .before .before .before .before .before .before .before .before .before .before .args .call .length) (nineOf (c .before .before .before .before .before .before .before .before .before .before .before .args .call .bytes)) (c .before .before .before .before .before .before .before .before .before .before .before .pre .0))
+
+inject-tested-requires : tie.Need-inject-tested-requires
+inject-tested-requires c κs = search needs
+
+round-tested-requires : tie.Need-round-tested-requires
+round-tested-requires c κs = search needs
+
+set-link-tested-requires : tie.Need-set-link-tested-requires
+set-link-tested-requires c κs = ap (λ (x : Tested). x .holds) (c .before .before .before .before .before .before .before .before .pre .1)
+
+read-registers-tested-requires : tie.Need-read-registers-tested-requires
+read-registers-tested-requires c κs = ap (λ (x : Tested). x .holds) (c .before .before .before .before .before .before .before .pre .1)
+
+same-length : tie.Need-same-length
+same-length c = search needs
+
+same-length-2 : tie.Need-same-length-2
+same-length-2 c = search needs
+
+returns : tie.Need-returns
+returns c =
+    let s = c .before .before .before .before .before .before .before .before .before .before .before .before .before .before .before .before in
+    let t = tablesOf (s .args .rows .now) (s .args .starts .now) (s .args .codes .now) in
+    made-injection t (s .args .mesh .now) (s .args .log .now) (s .args .call) _ _ _ (c .before .before .before .before .before .before .before .before .before .before .match .keys1) (c .before .before .before .before .inject-tested .ensures)
+
+same-length-3 : tie.Need-same-length-3
+same-length-3 c = search needs
+
+same-length-4 : tie.Need-same-length-4
+same-length-4 c = search needs
+
+returns-2 : tie.Need-returns-2
+returns-2 c =
+    let s = c .before .before .before .before .before .before .before .before .before .before .before .before .before in
+    let t = tablesOf (s .args .rows .now) (s .args .starts .now) (s .args .codes .now) in
+    made-round t (s .args .mesh .now) (s .args .log .now) (s .args .call) _ _ _ (c .before .before .before .before .before .before .before .match .keys2) (c .before .before .before .before .round-tested .ensures)
+
+same-length-5 : tie.Need-same-length-5
+same-length-5 c = search needs
+
+returns-3 : tie.Need-returns-3
+returns-3 c =
+    let s = c .before .before .before .before .before .before .before .before .before .before .before in
+    let t = tablesOf (s .args .rows .now) (s .args .starts .now) (s .args .codes .now) in
+    made-change t (s .args .mesh .now) (s .args .log .now) (s .args .call) _ (c .before .before .before .before .before .match .keys3) _ (c .before .before .set-link-tested .ensures .0) (c .before .before .set-link-tested .ensures .1)
+
+same-length-6 : tie.Need-same-length-6
+same-length-6 c = search needs
+
+returns-4 : tie.Need-returns-4
+returns-4 c =
+    let s = c .before .before .before .before .before .before .before .before .before .before in
+    let t = tablesOf (s .args .rows .now) (s .args .starts .now) (s .args .codes .now) in
+    made-read t (s .args .mesh .now) (s .args .log .now) (s .args .call) _ (c .before .before .before .before .match .rest .0 .0 .1) (c .before .before .before .before .match .rest .0 .1) (c .before .before .before .before .match .rest .1) _ (c .before .before .read-registers-tested .ensures .0) (c .before .before .read-registers-tested .ensures .1)
+
+pub make-spec : {M : Type 1} → statement M
+make-spec =
+    tie.close
+    (tie.spec
+    array-read-t17
+    array-read-t20
+    array-read-t23
+    array-read-t26
+    array-read-t29
+    array-read-t32
+    array-read-t35
+    array-read-t38
+    array-read-t41
+    cast-size
+    array-share-prefix-packet
+    slice-aggregate-inject-tested
+    inject-tested-requires
+    round-tested-requires
+    set-link-tested-requires
+    read-registers-tested-requires
+    same-length
+    same-length-2
+    returns
+    same-length-3
+    same-length-4
+    returns-2
+    same-length-5
+    returns-3
+    same-length-6
+    returns-4)

@@ -1,0 +1,103 @@
+-- A replay is the calls that its trace keeps, made one after another: what it leaves, and what it answers.
+use Prim.Native.Nat.{ℕ, zero, suc, _+_, _-_, _/_}
+use mathlib.Core.Path.{_≡_}
+use mathlib.Core.Bool.{Bool, true, cond}
+use mathlib.Core.List.{List, [], _∷_, _++_}
+use lib.Dec.{eqb}
+use lib.ListN.{length, getD, drop}
+use Rattle.mesh.specs.Mesh.{Mesh}
+use Rattle.mesh.specs.Layout.{meshOf, wordsFor}
+use Rattle.mesh.specs.Holding.{holdsMesh}
+use Rattle.mesh.specs.Steps.{Tables}
+use Rattle.mesh.specs.Going.{same}
+use Rattle.mesh.specs.Calls.{Left, injecting, rounding, linking, emptying, loggedOn}
+use Rattle.mesh.specs.Leaving.{Leaves}
+use Rattle.trace.specs.declared.Call.{Call}
+use Rattle.trace.specs.declared.Replayed.{Replayed}
+use Rattle.trace.specs.declared.replaying.Done.{Done}
+use Rattle.trace.specs.Records.{byKind, packetOf, recordRead}
+
+-- ---- what a trace keeps
+
+-- "A trace is a sequence of records": nothing more; a record that is refused, with its number; or a call, the bytes of its record, and what follows.
+pub data Trace : Type 0 where
+  over : Trace
+  refused : ℕ → Trace
+  then : Call → ℕ → Trace → Trace
+
+-- The records of some bytes, at most n of them.
+unfoldable pub traceFrom : ℕ → List ℕ → Trace
+traceFrom zero s = over
+traceFrom (suc n) s =
+    let r = recordRead s in
+    cond (eqb (length s) 0) over (cond (eqb (r .refusal) 0) (then (r .call) (r .length) (traceFrom n (drop (r .length) s))) (refused (r .refusal)))
+
+-- No record is shorter than a byte.
+abbrev pub traceOf : List ℕ → Trace
+traceOf s = traceFrom (length s) s
+
+-- ---- one call
+
+-- What a kept call leaves, by the definitions that the contracts of the calls cite. What reading registers hands over goes to nobody.
+abbrev pub making : {A : Type 0} → Bool → Tables → (A → A) → A → Mesh A → ℕ → Call → Left A
+making holds t turn tag m room c =
+    byKind (c .kind) (injecting holds t turn m room (c .chip) (packetOf c) tag) (rounding holds t turn m room)
+    (linking holds m (c .chip) (c .link) (eqb (c .up) 1))
+    (emptying holds m (c .chip))
+
+abbrev pub madeLeft : List ℕ → Tables → ℕ → Call → Left (Unit {0})
+madeLeft l t room c = making (holdsMesh l) t same tt (meshOf l) room c
+
+-- ---- all of them
+
+-- The number of the first refusal or 0, where it stopped, the mesh and the records added.
+pub record Replay : Type 0 where
+  pub refusal : ℕ
+  pub at : ℕ
+  pub mesh : Mesh (Unit {0})
+  pub log : List ℕ
+
+-- Stopped at its first byte, with nothing done.
+abbrev pub stopped : ℕ → Mesh (Unit {0}) → Replay
+stopped refusal m = record { refusal = refusal; at = 0; mesh = m; log = [] }
+
+-- The same, behind n bytes and some records of the log.
+abbrev pub behind : ℕ → List ℕ → Replay → Replay
+behind n log r = record { refusal = r .refusal; at = n + r .at; mesh = r .mesh; log = log ++ r .log }
+
+-- "The replay makes these calls on a lent mesh with one set of tables, each with the rest of the log, and stops at the first refusal, giving its number, the
+-- record's first byte and the log records added; what earlier records did stands".
+unfoldable pub replaying : Bool → Tables → Mesh (Unit {0}) → ℕ → Trace → Replay
+replaying holds t m room over = stopped 0 m
+replaying holds t m room (refused n) = stopped n m
+replaying holds t m room (then c n rest) =
+    let r = making holds t same tt m room c in
+    cond (eqb (r .refusal) 0) (behind n (r .log) (replaying holds t (r .mesh) (room - length (r .log)) rest)) (stopped (r .refusal) m)
+
+abbrev pub replayOf : List ℕ → Tables → ℕ → List ℕ → Replay
+replayOf l t room s = replaying (holdsMesh l) t (meshOf l) room (traceOf s)
+
+-- A replay's buffer, log and answer. A replay that stopped at its first record has changed no word; words past the needed length are never touched.
+pub record Replays (before after log written : List ℕ) (answer : Replayed) (r : Replay) : Type 0 where
+  pub answered : answer ≡ record { refusal = r .refusal; at = r .at; added = length (r .log) / 6 }
+  pub logged : written ≡ loggedOn (r .log) log
+  pub mesh : meshOf after ≡ r .mesh
+  pub holds : holdsMesh after ≡ holdsMesh before
+  pub untouched : r .at ≡ 0 → after ≡ before
+  pub long : length after ≡ length before
+  pub past : drop (wordsFor (getD before 0 0) (getD before 1 0)) after ≡ drop (wordsFor (getD before 0 0) (getD before 1 0)) before
+
+-- ---- one record, as the code takes it
+
+-- What the record at the start of s leaves.
+abbrev pub oneLeft : Tables → List ℕ → List ℕ → ℕ → Left (Unit {0})
+oneLeft t s l room =
+    let r = recordRead s in
+    cond (eqb (r .refusal) 0) (madeLeft l t room (r .call)) (record { refusal = r .refusal; mesh = meshOf l; log = [] })
+
+pub record OneDone (t : Tables) (s before log after written : List ℕ) (done : Done) : Type 0 where
+  pub refusal : done .refusal ≡ oneLeft t s before (length log) .refusal
+  pub bytes : done .refusal ≡ 0 → done .length ≡ recordRead s .length
+  pub added : done .added ≡ length (oneLeft t s before (length log) .log) / 6
+  pub buffer : Leaves before after (oneLeft t s before (length log))
+  pub logged : written ≡ loggedOn (oneLeft t s before (length log) .log) log

@@ -1,0 +1,62 @@
+// Making a kept call on a mesh whose buffer and tables were tested.
+use super::Call;
+use mesh::Added;
+use mesh::changing::read_registers_tested;
+use mesh::changing::set_link_tested;
+use mesh::moving::inject_tested;
+use mesh::moving::round_tested;
+use mesh::testing::Tested;
+ghost use mathlib.Core.Path.{_≡_};
+ghost use lib.ListN.{length};
+ghost use Prim.Native.Nat.{_≤_};
+ghost use Rattle.mesh.specs.Going.{tablesOf};
+ghost use Rattle.mesh.specs.Calls.{addedOf, loggedOn};
+ghost use Rattle.mesh.specs.Leaving.{Leaves};
+ghost use Rattle.mesh.specs.Testing.{testedOf};
+ghost use Rattle.trace.specs.Replay.{madeLeft};
+
+pub fn make(
+    mesh: &mut [u32],
+    log: &mut [u32],
+    call: Call,
+    rows: &[u32],
+    starts: &[u32],
+    codes: &[u8],
+    tested: Tested,
+) -> Added
+    requires { ⌜ (call .length ≤ 9) × (tested ≡ testedOf (now mesh) (tablesOf (now rows) (now starts) (now codes))) ⌝ }
+    ensures { λ r. ⌜ r ≡ addedOf (madeLeft (now (mesh .entry)) (tablesOf (now (rows .entry)) (now (starts .entry)) (now (codes .entry))) (length (now (log .entry))) call) ⌝ }
+    ensures { λ r. ⌜ Leaves (now (mesh .entry)) (now (mesh .exit)) (madeLeft (now (mesh .entry)) (tablesOf (now (rows .entry)) (now (starts .entry)) (now (codes .entry))) (length (now (log .entry))) call) ⌝ }
+    ensures { λ r. ⌜ now (log .exit) ≡ loggedOn (madeLeft (now (mesh .entry)) (tablesOf (now (rows .entry)) (now (starts .entry)) (now (codes .entry))) (length (now (log .entry))) call .log) (now (log .entry)) ⌝ }
+{
+    let kind = call.kind;
+    match kind {
+        1 => {
+            let b = call.bytes;
+            let packet = [b[0], b[1], b[2], b[3], b[4], b[5], b[6], b[7], b[8]];
+            let size = call.length as usize;
+            inject_tested(
+                mesh,
+                log,
+                call.chip,
+                &packet[..size],
+                rows,
+                starts,
+                codes,
+                tested,
+            )
+        }
+        2 => round_tested(mesh, log, rows, starts, codes, tested),
+        3 => {
+            let refusal = set_link_tested(mesh, call.chip, call.link, call.up == 1, tested.holds);
+            Added { refusal, added: 0 }
+        }
+        _ => {
+            let read = read_registers_tested(mesh, call.chip, tested.holds);
+            Added {
+                refusal: read.refusal,
+                added: 0,
+            }
+        }
+    }
+}

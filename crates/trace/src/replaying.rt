@@ -1,0 +1,90 @@
+// Replaying a trace: its calls, one after another, on one mesh with one set of tables, each with the rest of the log.
+use super::Replayed;
+use super::making::make;
+use super::reading::read_record;
+use mesh::testing::Tested;
+use mesh::testing::test;
+ghost use mathlib.Core.Path.{_≡_};
+ghost use lib.ListN.{length};
+ghost use Rattle.mesh.specs.Going.{tablesOf};
+ghost use Rattle.mesh.specs.Testing.{testedOf};
+ghost use Rattle.trace.specs.Replay.{replayOf, Replays, OneDone};
+
+// Replays a trace up to its end or to the first refusal, a record's or a call's; what earlier records did stands. Buffer and tables are tested
+// once: no accepted call makes them worse.
+pub fn replay(
+    mesh: &mut [u32],
+    log: &mut [u32],
+    trace: &[u8],
+    rows: &[u32],
+    starts: &[u32],
+    codes: &[u8],
+) -> Replayed
+    ensures { λ r. ⌜ Replays (now (mesh .entry)) (now (mesh .exit)) (now (log .entry)) (now (log .exit)) r (replayOf (now (mesh .entry)) (tablesOf (now (rows .entry)) (now (starts .entry)) (now (codes .entry))) (length (now (log .entry))) (now (trace .entry))) ⌝ }
+{
+    let tested = test(mesh, rows, starts, codes);
+    let mut at = 0;
+    let mut added = 0;
+    while at < trace.len() {
+        let from = added * 6;
+        let done = replay_one(
+            mesh,
+            &mut log[from..],
+            &trace[at..],
+            rows,
+            starts,
+            codes,
+            tested,
+        );
+        if done.refusal != 0 {
+            return Replayed {
+                refusal: done.refusal,
+                at,
+                added,
+            };
+        }
+        at += done.length;
+        added += done.added as usize;
+    }
+    Replayed {
+        refusal: 0,
+        at,
+        added,
+    }
+}
+
+// What one record of a replay does: a refusal, or the bytes of the record and the log records added.
+struct Done {
+    refusal: u32,
+    length: usize,
+    added: u32,
+}
+
+fn replay_one(
+    mesh: &mut [u32],
+    log: &mut [u32],
+    trace: &[u8],
+    rows: &[u32],
+    starts: &[u32],
+    codes: &[u8],
+    tested: Tested,
+) -> Done
+    requires { ⌜ tested ≡ testedOf (now mesh) (tablesOf (now rows) (now starts) (now codes)) ⌝ }
+    ensures { λ r. ⌜ OneDone (tablesOf (now (rows .entry)) (now (starts .entry)) (now (codes .entry))) (now (trace .entry)) (now (mesh .entry)) (now (log .entry)) (now (mesh .exit)) (now (log .exit)) r ⌝ }
+{
+    let record = read_record(trace);
+    if record.refusal != 0 {
+        return Done {
+            refusal: record.refusal,
+            length: 0,
+            added: 0,
+        };
+    }
+    let call = record.call;
+    let made = make(mesh, log, call, rows, starts, codes, tested);
+    Done {
+        refusal: made.refusal,
+        length: record.length,
+        added: made.added,
+    }
+}
