@@ -1,6 +1,7 @@
 // The C interface: thin exports over the crates below. include/yagbolshen.h declares them.
 use mesh::Added;
 use mesh::CountRead;
+use mesh::FlightRead;
 use mesh::LinkRead;
 use mesh::MeshRead;
 use mesh::RegistersRead;
@@ -10,6 +11,10 @@ use packet::FieldsRead;
 use packet::Packed;
 use router::Pass;
 use steps::Setting;
+use trace::Call;
+use trace::Record;
+use trace::Replayed;
+use trace::Written;
 ghost use mathlib.Core.Path.{_≡_};
 ghost use lib.ListN.{length};
 ghost use Rattle.packet.specs.Fields.{readOf};
@@ -20,8 +25,10 @@ ghost use Rattle.mesh.specs.Opening.{sizeOf, openRefusals, opening};
 ghost use Rattle.mesh.specs.Layout.{meshOf};
 ghost use Rattle.mesh.specs.Holding.{holdsMesh};
 ghost use Rattle.mesh.specs.Going.{tablesOf};
-ghost use Rattle.mesh.specs.Calls.{addedOf, loggedOn, registersRead, countRead, meshRead, linkRead};
+ghost use Rattle.mesh.specs.Calls.{addedOf, loggedOn, registersRead, countRead, meshRead, linkRead, flightRead};
 ghost use Rattle.mesh.specs.Leaving.{Leaves, injectLeft, roundLeft, linkLeft, registersLeft};
+ghost use Rattle.trace.specs.Records.{recordRead, writtenOf, writtenOn};
+ghost use Rattle.trace.specs.Replay.{replayOf, Replays};
 ghost use Rattle.yagbolshen.specs.Settings.{settingOf};
 
 // The fields of a packet in bytes.
@@ -162,4 +169,44 @@ pub extern "C" fn yagbolshen_link(mesh: &[u32], chip: u32, link: u32) -> LinkRea
     ensures { λ r. ⌜ r ≡ linkRead (holdsMesh (now (mesh .entry))) (meshOf (now (mesh .entry))) chip link ⌝ }
 {
     mesh::looking::look_link(mesh, chip, link)
+}
+
+// The packet at a place of a directed link, 0 the oldest.
+#[no_mangle]
+pub extern "C" fn yagbolshen_flight(mesh: &[u32], chip: u32, link: u32, place: u32) -> FlightRead
+    ensures { λ r. ⌜ r ≡ flightRead (holdsMesh (now (mesh .entry))) (meshOf (now (mesh .entry))) chip link place ⌝ }
+{
+    mesh::looking::look_flight(mesh, chip, link, place)
+}
+
+// Writes the record of a call at the start of a trace's room.
+#[no_mangle]
+pub extern "C" fn yagbolshen_write_record(trace: &mut [u8], call: Call) -> Written
+    ensures { λ r. ⌜ r ≡ writtenOf (length (now (trace .entry))) call ⌝ }
+    ensures { λ r. ⌜ now (trace .exit) ≡ writtenOn call (now (trace .entry)) ⌝ }
+{
+    trace::writing::write_record(trace, call)
+}
+
+// The record at the start of a trace.
+#[no_mangle]
+pub extern "C" fn yagbolshen_read_record(trace: &[u8]) -> Record
+    ensures { λ r. ⌜ r ≡ recordRead (now (trace .entry)) ⌝ }
+{
+    trace::reading::read_record(trace)
+}
+
+// Makes the calls that a trace keeps, up to the first refusal.
+#[no_mangle]
+pub extern "C" fn yagbolshen_replay(
+    mesh: &mut [u32],
+    log: &mut [u32],
+    trace: &[u8],
+    rows: &[u32],
+    starts: &[u32],
+    codes: &[u8],
+) -> Replayed
+    ensures { λ r. ⌜ Replays (now (mesh .entry)) (now (mesh .exit)) (now (log .entry)) (now (log .exit)) r (replayOf (now (mesh .entry)) (tablesOf (now (rows .entry)) (now (starts .entry)) (now (codes .entry))) (length (now (log .entry))) (now (trace .entry))) ⌝ }
+{
+    trace::replaying::replay(mesh, log, trace, rows, starts, codes)
 }
