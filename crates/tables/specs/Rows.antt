@@ -1,6 +1,6 @@
 -- "An MC table is a run of rows, each with key, mask and route. ... A row matches when packet key AND mask equals row key AND mask; the search
 -- stops at the first row that matches."
-use Prim.Native.Nat.{ℕ, suc, _+_, _*_}
+use Prim.Native.Nat.{ℕ, suc, _+_, _*_, _%_, _^_}
 use mathlib.Core.Bool.{Bool, cond}
 use mathlib.Core.List.{List, [], _∷_}
 use lib.Bits.{bitAnd}
@@ -11,6 +11,7 @@ use Rattle.tables.specs.declared.Found.the-variants.{At, Nothing}
 use Rattle.tables.specs.declared.Matched.{Matched}
 use Rattle.tables.specs.declared.Matched.the-variants.{Route, Missed}
 use Rattle.tables.specs.declared.Row.{Row}
+use Rattle.tables.specs.declared.RowFound.{RowFound}
 
 pub record Entry : Type 0 where
   pub key : ℕ
@@ -67,3 +68,16 @@ routeOf rows Nothing = Missed
 
 abbrev pub routeFor : ℕ → List Entry → Matched
 routeFor key rows = routeOf rows (firstMatch key rows)
+
+-- What stands past the end of a slice of row structs.
+abbrev pub blankRow : Row
+blankRow = record { key = 0; mask = 0; route = 0 }
+
+-- What a search through row structs answers of what it finds. The number has 32 bits: it is the row's own in every table of up to 48 GiB.
+abbrev pub rowFound : Found → List Row → RowFound
+rowFound (At n) rows = record { found = 1; row = n % 2 ^ 32; route = getD rows n blankRow .route }
+rowFound Nothing rows = record { found = 0; row = 0; route = 0 }
+
+-- "One thin lookup over a lent slice of row structs."
+abbrev pub foundIn : ℕ → List Row → RowFound
+foundIn key rows = rowFound (firstMatch key (rowsOf (numbersOf rows))) rows

@@ -17,6 +17,14 @@ pub enum Found {
     Nothing,
 }
 
+// What a search through row structs answers: whether a row matches, its number, its route; zeros where none does.
+#[repr(C)]
+pub struct RowFound {
+    pub found: u32,
+    pub row: u32,
+    pub route: u32,
+}
+
 // What a key's table says of it: the route of the first matching row, or that no row matches.
 pub enum Matched {
     Route(u32),

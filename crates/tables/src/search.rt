@@ -2,10 +2,11 @@
 use super::Found;
 use super::Matched;
 use super::Row;
+use super::RowFound;
 ghost use mathlib.Core.Path.{_≡_};
 ghost use lib.ListN.{length, getD};
 ghost use Prim.Native.Nat.{_+_, _*_, _/_, _≤_, _<_};
-ghost use Rattle.tables.specs.Rows.{matches, rowsOf, numbersOf, firstMatch, foundFrom, foundAt, routeFor};
+ghost use Rattle.tables.specs.Rows.{matches, rowsOf, firstMatch, foundFrom, foundAt, routeFor, foundIn};
 
 // The route of the first row that matches the key.
 pub fn route_for(rows: &[u32], key: u32) -> Matched
@@ -48,26 +49,27 @@ pub fn first_match(rows: &[u32], key: u32) -> Found
     }
 }
 
-// The same search through a table lent as a slice of rows.
-pub fn first_row(rows: &[Row], key: u32) -> Found
-    ensures { λ r. ⌜ r ≡ firstMatch key (rowsOf (numbersOf (now (rows .entry)))) ⌝ }
+// The same search through a table lent as a slice of rows. The number of a row is given modulo 2^32.
+pub fn find(rows: &[Row], key: u32) -> RowFound
+    ensures { λ r. ⌜ r ≡ foundIn key (now (rows .entry)) ⌝ }
 {
     let mut i = 0;
     while i < rows.len() {
         let row = rows[i];
         if matches_row(key, row.key, row.mask) {
-            return Found::At(i);
+            return RowFound {
+                found: 1,
+                row: (i % 4294967296) as u32,
+                route: row.route,
+            };
         }
         i += 1;
     }
-    Found::Nothing
-}
-
-// The same search through four rows, passed by value: a caller with rows of its own lends nothing.
-pub fn first_of_four(rows: [Row; 4], key: u32) -> Found
-    ensures { λ r. ⌜ r ≡ firstMatch key (rowsOf (numbersOf rows)) ⌝ }
-{
-    first_row(&rows, key)
+    RowFound {
+        found: 0,
+        row: 0,
+        route: 0,
+    }
 }
 
 pub fn route_at(rows: &[u32], n: usize) -> u32
