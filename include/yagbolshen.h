@@ -76,6 +76,16 @@ typedef struct {
     yb_counters counters;   /* begun from zeros */
 } yb_pass;
 
+/* One row of a table in structs. */
+typedef struct {
+    uint32_t key, mask, route;
+} yb_row;
+
+/* found: 1 where a row matches, else 0 and zeros; `row` is its number, from 0. */
+typedef struct {
+    uint32_t found, row, route;
+} yb_found;
+
 typedef struct {
     uint32_t refusal, words;
 } yb_size;
@@ -114,6 +124,10 @@ yb_packed yagbolshen_pack(yb_fields fields);
 yb_pass yagbolshen_pass(const uint8_t *packet, size_t packet_len, uint32_t source, uint32_t width, uint32_t height,
                         const uint32_t *rows, size_t rows_len, const uint8_t *codes, size_t codes_len,
                         uint32_t monitor, uint32_t phase, uint32_t ready);
+
+/* Finds the first row that takes a key: key AND mask is the row's key AND mask. `rows_len` counts rows. Takes any number of
+ * rows and any routes, and never refuses; the number of a row past 4,294,967,295 is given modulo 4,294,967,296. */
+yb_found yagbolshen_find(const yb_row *rows, size_t rows_len, uint32_t key);
 
 /* A mesh lives in a buffer of 32-bit words that the caller lends to every call; words past the needed length are never
  * touched. Tables are lent to each injection and round: `rows` has the rows of all chips, three words a row, and `starts`

@@ -4,14 +4,18 @@
 
 mod busy_mesh;
 mod growth;
+// Not every call is timed.
 #[path = "../../tests/compare/src/interface.rs"]
+#[allow(dead_code)]
 mod interface;
 #[path = "../../tests/compare/src/lib_calls.rs"]
+#[allow(dead_code)]
 mod lib_calls;
 #[path = "../../tests/compare/src/mesh_calls.rs"]
 mod mesh_calls;
 mod mesh_times;
 #[path = "../../tests/compare/src/model.rs"]
+#[allow(dead_code)]
 mod model;
 mod packet_times;
 mod pass_times;

@@ -11,6 +11,8 @@ use packet::FieldsRead;
 use packet::Packed;
 use router::Pass;
 use steps::Setting;
+use tables::Row;
+use tables::RowFound;
 use trace::Call;
 use trace::Record;
 use trace::Replayed;
@@ -20,6 +22,7 @@ ghost use lib.ListN.{length};
 ghost use Rattle.packet.specs.Fields.{readOf};
 ghost use Rattle.packet.specs.Packing.{packedOf};
 ghost use Rattle.packet.specs.Refusal.{firstOf};
+ghost use Rattle.tables.specs.Rows.{foundIn};
 ghost use Rattle.router.specs.Call.{passOf};
 ghost use Rattle.mesh.specs.Opening.{sizeOf, openRefusals, opening};
 ghost use Rattle.mesh.specs.Layout.{meshOf};
@@ -70,6 +73,14 @@ pub extern "C" fn yagbolshen_pass(
         ready,
     };
     router::call::pass(packet, source, rows, codes, t)
+}
+
+// The first row of a table in row structs that takes a key.
+#[no_mangle]
+pub extern "C" fn yagbolshen_find(rows: &[Row], key: u32) -> RowFound
+    ensures { λ r. ⌜ r ≡ foundIn key (now (rows .entry)) ⌝ }
+{
+    tables::search::find(rows, key)
 }
 
 // The words that opening a mesh needs.

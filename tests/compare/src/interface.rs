@@ -78,6 +78,22 @@ pub struct Pass {
     pub counters: Counters,
 }
 
+#[repr(C)]
+#[derive(Clone, Copy, Debug, Default, PartialEq, Eq)]
+pub struct Row {
+    pub key: u32,
+    pub mask: u32,
+    pub route: u32,
+}
+
+#[repr(C)]
+#[derive(Clone, Copy, Debug, Default, PartialEq, Eq)]
+pub struct RowFound {
+    pub found: u32,
+    pub row: u32,
+    pub route: u32,
+}
+
 /// The arguments of `yagbolshen_pass`.
 #[derive(Clone, Copy, Debug)]
 pub struct PassCall<'a> {

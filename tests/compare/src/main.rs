@@ -14,7 +14,7 @@ mod random;
 mod systematic;
 mod tally;
 
-use interface::Fields;
+use interface::{Fields, Row};
 use mesh::MeshTally;
 use pass_case::{PassCase, DAMAGES};
 use random::Random;
@@ -23,6 +23,7 @@ use tally::Tally;
 const PASSES: f64 = 8e6;
 const READS: f64 = 2e6;
 const PACKS: f64 = 4e6;
+const FINDS: f64 = 2e6;
 const SEQUENCES: f64 = 3e5;
 
 fn main() {
@@ -41,6 +42,7 @@ fn main() {
     random_reads(&mut tally, &mut random, (READS * scale) as u64);
     random_packs(&mut tally, &mut random, (PACKS * scale) as u64);
     random_passes(&mut tally, &mut random, (PASSES * scale) as u64);
+    random_finds(&mut tally, &mut random, (FINDS * scale) as u64);
     mesh::systematic(&mut mesh_tally, seed);
     for number in 0..(SEQUENCES * scale) as u64 {
         mesh::run(&mut mesh_tally, seed, number, false);
@@ -124,5 +126,16 @@ fn random_passes(tally: &mut Tally, random: &mut Random, count: u64) {
             DAMAGES[random.below(DAMAGES.len() as u32) as usize](&mut case, random);
         }
         compare::pass(tally, &case);
+    }
+}
+
+/// The tables of such inputs as row structs, with any routes, searched for the key that some of their rows were made for.
+fn random_finds(tally: &mut Tally, random: &mut Random, count: u64) {
+    let mut case = PassCase::default();
+    for _ in 0..count {
+        case.fill(random);
+        let rows = case.rows.chunks_exact(3).map(|row| Row { key: row[0], mask: row[1], route: random.word() });
+        let key = u32::from_be_bytes([case.packet[1], case.packet[2], case.packet[3], case.packet[4]]);
+        compare::find(tally, &rows.collect::<Vec<Row>>(), key);
     }
 }
