@@ -7,6 +7,9 @@ use mathlib.Core.Bool.{Bool, true}
 use mathlib.Core.List.{List}
 use Rattle.packet.specs.Refusal.{firstOf}
 use Rattle.packet.proofs.Determined.{determined}
+use Rattle.tables.specs.declared.Row.{Row}
+use Rattle.tables.specs.declared.RowFound.{RowFound}
+use Rattle.tables.specs.Rows.{foundIn}
 use Rattle.router.specs.declared.Pass.{Pass}
 use Rattle.steps.specs.declared.Setting.{Setting}
 use Rattle.router.specs.Call.{passOf}
@@ -30,6 +33,9 @@ use Rattle.mesh.proofs.SoundWords.{holds-sound}
 pub pass-determined : (bytes : List ℕ) (source : ℕ) (rows codes : List ℕ) (t : Setting) (a b : Pass)
     → a ≡ passOf bytes source rows codes t → b ≡ passOf bytes source rows codes t → a ≡ b
 pass-determined bytes source rows codes t = determined
+
+pub find-determined : (key : ℕ) (rows : List Row) (a b : RowFound) → a ≡ foundIn key rows → b ≡ foundIn key rows → a ≡ b
+find-determined key rows = determined
 
 pub size-determined : (width height : ℕ) (a b : SizeRead) → a ≡ sizeOf width height → b ≡ sizeOf width height → a ≡ b
 size-determined width height = determined
