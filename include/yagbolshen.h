@@ -1,9 +1,10 @@
 /* The C interface of libyagbolshen, a proved model of the SpiNNaker router.
  *
  * Every function takes any input and answers, or refuses with a number: `refusal` is 0 for an accepted call, and a
- * refused one answers zeros in every other field and leaves lent memory as it came. A slice is a pointer and a count; an
- * empty one may be NULL. Memory that is lent to be written, mesh and log, overlaps no other memory lent to the same call.
- * Nothing is kept between calls. A phase is a code, and phases follow each other as 0, 1, 3, 2.
+ * refused one answers zeros in every other field and leaves lent memory as it came; a replay, which is many calls, says
+ * what it does instead. A slice is a pointer and a count; an empty one may be NULL. Memory that is lent to be written
+ * overlaps no other memory lent to the same call. Nothing is kept between calls. A phase is a code, and phases follow
+ * each other as 0, 1, 3, 2.
  *
  *  1  source 6 or above 7                   7  width or height not 1 to 12, or rounds in a phase not 1 to 65,535
  *  2  packet length not 5 or 9              8  mesh buffer too short on opening, or later not holding a mesh
@@ -13,6 +14,11 @@
  *     for a chip, or route bit 26 to 31
  *     set; starts that do not fit
  *  6  phase above 3, ready set above 63, monitor above 19, or a field out of range in packing
+ * 12  record of a trace cut short
+ * 13  record with an empty body, or of a version other than 1
+ * 14  record of no kind 1 to 4, of a length that is not its kind's, or with a link state above 1; in writing, a call
+ *     that cannot be kept as it is
+ * 27  room shorter than the record to be written
  */
 #ifndef YAGBOLSHEN_H
 #define YAGBOLSHEN_H
@@ -112,6 +118,39 @@ typedef struct {
     uint32_t refusal, up, held, ready;
 } yb_link;
 
+typedef struct {
+    uint32_t refusal;
+    yb_packet packet;
+} yb_flight;
+
+/* One call as a trace keeps it. kind: 1 injection, with chip and packet; 2 round; 3 link change, with chip, link and
+ * `up`, which is 1 or 0; 4 read of error registers, with chip. `length`, 5 or 9, and `bytes` are the packet's. A
+ * field that the kind lacks is 0, and so are bytes past `length`. */
+typedef struct {
+    uint32_t kind, chip, link, up, length;
+    uint8_t bytes[9];
+} yb_call;
+
+/* length: the bytes of the record, its two length bytes among them */
+typedef struct {
+    uint32_t refusal;
+    size_t length;
+} yb_written;
+
+/* length: as in yb_written */
+typedef struct {
+    uint32_t refusal;
+    size_t length;
+    yb_call call;
+} yb_record;
+
+/* at: where the replay stopped, which is the first byte of the record that was refused, or the length of the trace
+ * where none was. added: the log records of all calls that were made. Both are given beside a refusal too. */
+typedef struct {
+    uint32_t refusal;
+    size_t at, added;
+} yb_replayed;
+
 /* Reads the bytes of a packet into fields. Refuses 2, 3, the first that applies. */
 yb_read yagbolshen_read(const uint8_t *packet, size_t packet_len);
 
@@ -130,10 +169,10 @@ yb_pass yagbolshen_pass(const uint8_t *packet, size_t packet_len, uint32_t sourc
 yb_found yagbolshen_find(const yb_row *rows, size_t rows_len, uint32_t key);
 
 /* A mesh lives in a buffer of 32-bit words that the caller lends to every call; words past the needed length are never
- * touched. Tables are lent to each injection and round: `rows` has the rows of all chips, three words a row, and `starts`
- * the number of the row where each chip's rows start and, last, how many rows there are (width * height + 1 numbers);
- * `codes` has width * height P2P codes for each chip, chip after chip. `log` takes six words for each pass that hands a
- * packet to a processor: chip, processor set, error flags, control byte, word, payload or 0. Chips are numbered
+ * touched. Tables are lent to each injection, round and replay: `rows` has the rows of all chips, three words a row, and
+ * `starts` the number of the row where each chip's rows start and, last, how many rows there are (width * height + 1
+ * numbers); `codes` has width * height P2P codes for each chip, chip after chip. `log` takes six words for each pass that
+ * hands a packet to a processor: chip, processor set, error flags, control byte, word, payload or 0. Chips are numbered
  * y * width + x; links 0 to 5 lead east, north-east, north, west, south-west, south. */
 
 /* The words that a mesh needs. Refuses 7. */
@@ -171,6 +210,34 @@ yb_mesh yagbolshen_mesh(const uint32_t *mesh, size_t mesh_len);
 /* One directed link of a chip: whether it is up, how many packets it holds, whether it is ready. Refuses 8, 9, the first
  * that applies. */
 yb_link yagbolshen_link(const uint32_t *mesh, size_t mesh_len, uint32_t chip, uint32_t link);
+
+/* The packet at a place of a directed link of a chip, place 0 the oldest. Refuses 8, 9, the first that applies; 9
+ * also where the link holds none at that place. */
+yb_flight yagbolshen_flight(const uint32_t *mesh, size_t mesh_len, uint32_t chip, uint32_t link, uint32_t place);
+
+/* A trace keeps calls on a mesh as records, one after another. A record is the length of its body in two bytes, then
+ * the body: a version byte 1, a kind byte, and for an injection two bytes of chip and the packet, for a link change
+ * two bytes of chip, the link and 1 for up or 0 for down, for a read of error registers two bytes of chip. All
+ * numbers are big-endian. What a mesh would say of the call is asked neither in writing nor in reading: link 200 is
+ * written and read. */
+
+/* Writes a call as a record, at the start of the room that is lent; bytes past the record stay as they were. Refuses
+ * 14, 27, the first that applies: 14 exactly where the kind is not 1 to 4, an injection's packet length is not 5 or
+ * 9, the chip is above 65,535, the link above 255, `up` above 1, or where a field that the kind lacks, or a byte
+ * past `length`, is not 0. */
+yb_written yagbolshen_write_record(uint8_t *trace, size_t trace_len, yb_call call);
+
+/* Reads the record at the start of a trace. Refuses 12, 13, 14, the first that applies; an empty trace is 12. */
+yb_record yagbolshen_read_record(const uint8_t *trace, size_t trace_len);
+
+/* Reads the records of a trace one after another and makes their calls on the mesh, each with the rest of the log,
+ * and stops at the first refusal. What earlier records did stands, and the call that was refused changes neither
+ * mesh nor log. Refuses a record by 12, 13, 14, the first that applies, and then by what its call refuses: tables
+ * are looked at by records that pass packets alone. A trace of no bytes makes no call and is accepted, whatever is
+ * lent with it. Registers that a replay reads are emptied, and handed to nobody. */
+yb_replayed yagbolshen_replay(uint32_t *mesh, size_t mesh_len, uint32_t *log, size_t log_len, const uint8_t *trace,
+                              size_t trace_len, const uint32_t *rows, size_t rows_len, const uint32_t *starts,
+                              size_t starts_len, const uint8_t *codes, size_t codes_len);
 
 #ifdef __cplusplus
 }

@@ -1,7 +1,7 @@
 //! Meshes that stay as busy as they are: the mesh wraps, so that what keeps its direction never ends. F is the most
 //! there is, and no packet grows too old while it is timed.
 
-use crate::interface::{Added, LentTables};
+use crate::interface::{Added, LentTables, Replayed};
 use crate::mesh_calls;
 
 const LINKS: u32 = 6;
@@ -109,6 +109,15 @@ impl BusyMesh {
         let chip = self.chip;
         self.chip = if chip as usize + 2 < self.starts.len() { chip + 1 } else { 0 };
         call(&mut self.words, &mut self.log, chip, packet, &tables)
+    }
+
+    pub fn replay_by(
+        &mut self,
+        call: fn(&mut [u32], &mut [u32], &[u8], &LentTables) -> Replayed,
+        trace: &[u8],
+    ) -> Replayed {
+        let tables = LentTables { rows: &self.rows, starts: &self.starts, codes: &self.codes };
+        call(&mut self.words, &mut self.log, trace, &tables)
     }
 
     fn open(width: u32, height: u32) -> BusyMesh {

@@ -4,24 +4,26 @@
 
 mod busy_mesh;
 mod growth;
-// Not every call is timed.
 #[path = "../../tests/compare/src/interface.rs"]
-#[allow(dead_code)]
 mod interface;
+mod kept_trace;
 #[path = "../../tests/compare/src/lib_calls.rs"]
-#[allow(dead_code)]
 mod lib_calls;
 #[path = "../../tests/compare/src/mesh_calls.rs"]
 mod mesh_calls;
 mod mesh_times;
 #[path = "../../tests/compare/src/model.rs"]
-#[allow(dead_code)]
 mod model;
 mod packet_times;
 mod pass_times;
 mod plain_mesh;
+#[path = "../../tests/compare/src/random.rs"]
+mod random;
+mod replay_times;
 mod stack;
 mod timing;
+#[path = "../../tests/compare/src/trace_calls.rs"]
+mod trace_calls;
 
 fn main() {
     let rounds: usize = std::env::args().nth(1).map_or(300, |text| text.parse().expect("the rounds are a number"));
@@ -29,6 +31,7 @@ fn main() {
     pass_times::all(rounds);
     packet_times::all(rounds);
     mesh_times::all(rounds);
+    replay_times::all(rounds);
     growth::all(rounds);
     stack::print_use();
 }

@@ -2,8 +2,8 @@
 //! The figure includes what the function that makes the call needs itself.
 
 use crate::busy_mesh::{bytes, BusyMesh};
-use crate::interface::Fields;
-use crate::{lib_calls, mesh_calls, pass_times};
+use crate::interface::{Fields, KeptCall, Row};
+use crate::{lib_calls, mesh_calls, pass_times, trace_calls};
 use std::arch::asm;
 use std::cell::RefCell;
 use std::hint::black_box;
@@ -11,16 +11,19 @@ use std::hint::black_box;
 const STACK_BYTES: usize = 1 << 20;
 const PAINT: u8 = 0xa5;
 const MOST: usize = 64 << 10;
+/// A trace: an injection, a round, a link change and a read of registers.
+const EACH_KIND: [u8; 29] = [0, 9, 1, 1, 0, 0, 0, 0, 0, 0, 2, 0, 2, 1, 2, 0, 6, 1, 3, 0, 1, 5, 1, 0, 4, 1, 4, 0, 1];
 
 thread_local! {
     /// The mesh that calls on a mesh are measured with, with detours and deliveries.
     static MESH: RefCell<BusyMesh> = RefCell::new(BusyMesh::mixed(12, 12, 4));
 }
 
-const CALLS: [(&str, extern "C" fn()); 12] = [
+const CALLS: [(&str, extern "C" fn()); 17] = [
     ("read", read),
     ("pack", pack),
     ("pass", pass),
+    ("find", find),
     ("size", size),
     ("inject", inject),
     ("round", round),
@@ -29,6 +32,10 @@ const CALLS: [(&str, extern "C" fn()); 12] = [
     ("read counter", read_counter),
     ("look at the mesh", look),
     ("look at link", look_at_link),
+    ("flight", flight),
+    ("write record", write_record),
+    ("read record", read_record),
+    ("replay", replay),
     ("open", open),
 ];
 
@@ -51,6 +58,10 @@ extern "C" fn pack() {
 
 extern "C" fn pass() {
     black_box(lib_calls::pass(black_box(&pass_times::call(black_box(&[0; 3 * 1024])))));
+}
+
+extern "C" fn find() {
+    black_box(lib_calls::find(black_box(&[Row { key: 1, mask: 1, route: 0 }; 64]), 0));
 }
 
 extern "C" fn size() {
@@ -87,6 +98,22 @@ extern "C" fn look() {
 
 extern "C" fn look_at_link() {
     MESH.with_borrow(|mesh| black_box(mesh_calls::look_at_link(&mesh.words, 143, 5)));
+}
+
+extern "C" fn flight() {
+    MESH.with_borrow(|mesh| black_box(mesh_calls::flight(&mesh.words, 143, 5, 0)));
+}
+
+extern "C" fn write_record() {
+    black_box(trace_calls::write_record(black_box(&mut [0; 15]), &KeptCall { kind: 2, ..KeptCall::default() }));
+}
+
+extern "C" fn read_record() {
+    black_box(trace_calls::read_record(black_box(&EACH_KIND)));
+}
+
+extern "C" fn replay() {
+    MESH.with_borrow_mut(|mesh| black_box(mesh.replay_by(trace_calls::replay, black_box(&EACH_KIND))));
 }
 
 fn stack_use(caller: extern "C" fn()) -> usize {

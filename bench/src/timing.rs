@@ -61,7 +61,8 @@ pub fn nanoseconds(name: &str, turns: usize, start: &BusyMesh, call: fn(&mut Bus
     println!("{name:<44} {:>14.0}", 1e9 / best);
 }
 
-fn print_rates<const VERSIONS: usize>(name: &str, turns: &[[f64; VERSIONS]]) {
+/// `turns` has a rate of each version in each turn.
+pub fn print_rates<const VERSIONS: usize>(name: &str, turns: &[[f64; VERSIONS]]) {
     let best = |version: usize| turns.iter().map(|rates| rates[version]).fold(0.0, f64::max);
     print!("{name:<34} {:>14.0}", best(0));
     for plain in 1..VERSIONS {

@@ -3,7 +3,8 @@
 BEGIN {
     RS = ";"
     type["uint8_t"] = "u8"; type["uint32_t"] = "u32"; type["size_t"] = "usize"; type["bool"] = "bool"
-    type["const uint8_t *"] = "*const u8"; type["const uint32_t *"] = "*const u32"; type["uint32_t *"] = "*mut u32"
+    type["const uint8_t *"] = "*const u8"; type["const uint32_t *"] = "*const u32"
+    type["uint8_t *"] = "*mut u8"; type["uint32_t *"] = "*mut u32"
     for (k = split(ENVIRON["structs"], name); k > 1; k -= 2) {
         type[name[k]] = name[k - 1]
         type["const " name[k] " *"] = "*const " name[k - 1]

@@ -1,13 +1,13 @@
-//! What injection and round refuse, the first number that applies.
+//! What injection, round and replay refuse, the first number that applies.
 
 use super::holding::holds;
 use super::{chips_of, link_at, HELD, RECORD};
-use crate::interface::LentTables;
+use crate::interface::{LentTables, Packet};
 use crate::model::{codes_fit, direct_of, kind, kind_of, refusal, routes_fit, take, LINKS, MOST_ROWS};
 
-const NO_MESH: u32 = 8;
-const NOT_THERE: u32 = 9;
-const LOG: u32 = 10;
+pub const NO_MESH: u32 = 8;
+pub const NOT_THERE: u32 = 9;
+pub const LOG: u32 = 10;
 
 /// 8, 9, 5, 11, 10, 2, 3, 4.
 pub fn inject<const JOINED: bool>(
@@ -27,11 +27,16 @@ pub fn inject<const JOINED: bool>(
     if log.len() < RECORD {
         return Err(LOG);
     }
+    packet(bytes).map(|_| ())
+}
+
+/// 2, 3, 4.
+pub fn packet(bytes: &[u8]) -> Result<Packet, u32> {
     let packet = take(bytes)?;
     if kind_of(packet.control) == kind::NN && direct_of(packet.control) == 1 {
         return Err(refusal::DIRECT);
     }
-    Ok(())
+    Ok(packet)
 }
 
 /// 8, 5, 11, 10.
@@ -46,7 +51,8 @@ pub fn round<const JOINED: bool>(mesh: &[u32], log: &[u32], tables: &LentTables)
     Ok(())
 }
 
-fn check_tables<const JOINED: bool>(chips: usize, tables: &LentTables) -> Result<(), u32> {
+/// 5, 11.
+pub fn check_tables<const JOINED: bool>(chips: usize, tables: &LentTables) -> Result<(), u32> {
     let starts = tables.starts;
     let starts_fit = starts.len() == chips + 1
         && starts[0] == 0
@@ -61,7 +67,7 @@ fn check_tables<const JOINED: bool>(chips: usize, tables: &LentTables) -> Result
     Ok(())
 }
 
-fn in_flight(mesh: &[u32]) -> usize {
+pub fn in_flight(mesh: &[u32]) -> usize {
     let mut packets = 0;
     for chip in 0..chips_of(mesh) {
         for link in 0..LINKS as usize {

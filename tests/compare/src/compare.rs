@@ -1,6 +1,6 @@
 //! One call of the library beside one of the model. The first difference ends the program.
 
-use crate::interface::{Fields, Row};
+use crate::interface::Fields;
 use crate::pass_case::PassCase;
 use crate::tally::Tally;
 use crate::{lib_calls, model};
@@ -24,13 +24,7 @@ pub fn pass(tally: &mut Tally, case: &PassCase) {
     tally.pass(&answer);
 }
 
-pub fn find(tally: &mut Tally, rows: &[Row], key: u32) {
-    let answer = model::find(rows, key);
-    same("find", &(rows, key), &answer, &lib_calls::find(rows, key));
-    tally.find(&answer);
-}
-
-fn same<Input: Debug, Answer: Debug + PartialEq>(call: &str, input: &Input, model: &Answer, library: &Answer) {
+pub fn same<Input: Debug, Answer: Debug + PartialEq>(call: &str, input: &Input, model: &Answer, library: &Answer) {
     if model != library {
         println!("{call} differs; numbers in hexadecimal");
         println!("input   {input:x?}");

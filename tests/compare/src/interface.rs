@@ -78,22 +78,6 @@ pub struct Pass {
     pub counters: Counters,
 }
 
-#[repr(C)]
-#[derive(Clone, Copy, Debug, Default, PartialEq, Eq)]
-pub struct Row {
-    pub key: u32,
-    pub mask: u32,
-    pub route: u32,
-}
-
-#[repr(C)]
-#[derive(Clone, Copy, Debug, Default, PartialEq, Eq)]
-pub struct RowFound {
-    pub found: u32,
-    pub row: u32,
-    pub route: u32,
-}
-
 /// The arguments of `yagbolshen_pass`.
 #[derive(Clone, Copy, Debug)]
 pub struct PassCall<'a> {
@@ -158,7 +142,69 @@ pub struct LinkLook {
     pub ready: u32,
 }
 
-/// The tables that are lent to an injection or a round.
+/// The packet at a place of a directed link, 0 the oldest.
+#[repr(C)]
+#[derive(Clone, Copy, Debug, Default, PartialEq, Eq)]
+pub struct Flight {
+    pub refusal: u32,
+    pub packet: Packet,
+}
+
+#[repr(C)]
+#[derive(Clone, Copy, Debug, Default, PartialEq, Eq)]
+pub struct Row {
+    pub key: u32,
+    pub mask: u32,
+    pub route: u32,
+}
+
+/// `row` is its number modulo 2^32; both are 0 where `found` is.
+#[repr(C)]
+#[derive(Clone, Copy, Debug, Default, PartialEq, Eq)]
+pub struct Found {
+    pub found: u32,
+    pub row: u32,
+    pub route: u32,
+}
+
+/// One call as a trace keeps it. A field that the kind lacks is 0, and so are bytes past `length`.
+#[repr(C)]
+#[derive(Clone, Copy, Debug, Default, PartialEq, Eq)]
+pub struct KeptCall {
+    pub kind: u32,
+    pub chip: u32,
+    pub link: u32,
+    pub up: u32,
+    pub length: u32,
+    pub bytes: [u8; 9],
+}
+
+/// `length` counts the record's bytes, its two length bytes among them.
+#[repr(C)]
+#[derive(Clone, Copy, Debug, Default, PartialEq, Eq)]
+pub struct Written {
+    pub refusal: u32,
+    pub length: usize,
+}
+
+#[repr(C)]
+#[derive(Clone, Copy, Debug, Default, PartialEq, Eq)]
+pub struct RecordRead {
+    pub refusal: u32,
+    pub length: usize,
+    pub call: KeptCall,
+}
+
+/// `at` and `added` are given beside a refusal too.
+#[repr(C)]
+#[derive(Clone, Copy, Debug, Default, PartialEq, Eq)]
+pub struct Replayed {
+    pub refusal: u32,
+    pub at: usize,
+    pub added: usize,
+}
+
+/// The tables that are lent to an injection, a round or a replay.
 #[derive(Clone, Copy, Debug)]
 pub struct LentTables<'a> {
     pub rows: &'a [u32],

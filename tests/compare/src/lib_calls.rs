@@ -1,7 +1,7 @@
 //! The static library's functions as safe calls. The library takes any input, so a slice or a number is all it needs.
 //! An empty slice is lent as NULL, as a C program would.
 
-use crate::interface::{Fields, Packed, Pass, PassCall, Read, Row, RowFound};
+use crate::interface::{Fields, Found, Packed, Pass, PassCall, Read, Row};
 
 extern "C" {
     fn yagbolshen_read(packet: *const u8, packet_len: usize) -> Read;
@@ -20,7 +20,7 @@ extern "C" {
         phase: u32,
         ready: u32,
     ) -> Pass;
-    fn yagbolshen_find(rows: *const Row, rows_len: usize, key: u32) -> RowFound;
+    fn yagbolshen_find(rows: *const Row, rows_len: usize, key: u32) -> Found;
 }
 
 pub fn read(bytes: &[u8]) -> Read {
@@ -50,7 +50,7 @@ pub fn pass(call: &PassCall) -> Pass {
     }
 }
 
-pub fn find(rows: &[Row], key: u32) -> RowFound {
+pub fn find(rows: &[Row], key: u32) -> Found {
     unsafe { yagbolshen_find(pointer(rows), rows.len(), key) }
 }
 

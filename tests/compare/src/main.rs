@@ -1,8 +1,9 @@
 //! Compares the static library with the model, every field of every answer, and counts what was reached. Arguments: how
 //! many times the usual count (1), the seed (1), and at choice the number of one sequence of calls on a mesh: that one
-//! alone is then run, and its calls are printed.
+//! alone is then run, with the kept trace of that number, and the calls are printed.
 
 mod compare;
+mod finding;
 mod interface;
 mod known;
 mod lib_calls;
@@ -11,20 +12,26 @@ mod mesh_calls;
 mod model;
 mod pass_case;
 mod random;
+mod records;
 mod systematic;
 mod tally;
+mod trace_calls;
 
-use interface::{Fields, Row};
+use finding::FindTally;
+use interface::Fields;
 use mesh::MeshTally;
 use pass_case::{PassCase, DAMAGES};
 use random::Random;
+use records::RecordTally;
 use tally::Tally;
 
 const PASSES: f64 = 8e6;
 const READS: f64 = 2e6;
 const PACKS: f64 = 4e6;
 const FINDS: f64 = 2e6;
+const RECORDS: f64 = 4e6;
 const SEQUENCES: f64 = 3e5;
+const TRACES: f64 = 1e5;
 
 fn main() {
     let arguments: Vec<String> = std::env::args().collect();
@@ -32,23 +39,31 @@ fn main() {
     let seed: u64 = arguments.get(2).map_or(1, |text| text.parse().expect("the seed is a number"));
     let only: Option<u64> = arguments.get(3).map(|text| text.parse().expect("the sequence is a number"));
     let (mut tally, mut random) = (Tally::default(), Random::new(seed));
+    let (mut record_tally, mut find_tally) = (RecordTally::default(), FindTally::default());
     let mut mesh_tally = MeshTally::default();
 
     if let Some(number) = only {
-        return mesh::run(&mut mesh_tally, seed, number, true);
+        mesh::run(&mut mesh_tally, seed, number, true);
+        return mesh::run_trace(&mut mesh_tally, seed, number, true);
     }
     known::all();
     systematic::all(&mut tally, &mut random);
     random_reads(&mut tally, &mut random, (READS * scale) as u64);
     random_packs(&mut tally, &mut random, (PACKS * scale) as u64);
     random_passes(&mut tally, &mut random, (PASSES * scale) as u64);
-    random_finds(&mut tally, &mut random, (FINDS * scale) as u64);
+    finding::systematic(&mut find_tally, &mut random);
+    finding::random(&mut find_tally, &mut random, (FINDS * scale) as u64);
+    records::systematic(&mut record_tally, &mut random);
+    records::random(&mut record_tally, &mut random, (RECORDS * scale) as u64);
     mesh::systematic(&mut mesh_tally, seed);
     for number in 0..(SEQUENCES * scale) as u64 {
         mesh::run(&mut mesh_tally, seed, number, false);
     }
+    for number in 0..(TRACES * scale) as u64 {
+        mesh::run_trace(&mut mesh_tally, seed, number, false);
+    }
 
-    if !(tally.print() & mesh_tally.print()) {
+    if !(tally.print() & find_tally.print() & record_tally.print() & mesh_tally.print()) {
         std::process::exit(1);
     }
     println!("no difference (scale {scale}, seed {seed})");
@@ -126,16 +141,5 @@ fn random_passes(tally: &mut Tally, random: &mut Random, count: u64) {
             DAMAGES[random.below(DAMAGES.len() as u32) as usize](&mut case, random);
         }
         compare::pass(tally, &case);
-    }
-}
-
-/// The tables of such inputs as row structs, with any routes, searched for the key that some of their rows were made for.
-fn random_finds(tally: &mut Tally, random: &mut Random, count: u64) {
-    let mut case = PassCase::default();
-    for _ in 0..count {
-        case.fill(random);
-        let rows = case.rows.chunks_exact(3).map(|row| Row { key: row[0], mask: row[1], route: random.word() });
-        let key = u32::from_be_bytes([case.packet[1], case.packet[2], case.packet[3], case.packet[4]]);
-        compare::find(tally, &rows.collect::<Vec<Row>>(), key);
     }
 }

@@ -1,6 +1,6 @@
 //! The static library's calls on a mesh, made safe as in lib_calls.rs.
 
-use crate::interface::{Added, CountRead, LentTables, LinkLook, MeshLook, RegistersRead, Size};
+use crate::interface::{Added, CountRead, Flight, LentTables, LinkLook, MeshLook, RegistersRead, Size};
 use crate::lib_calls::pointer;
 
 extern "C" {
@@ -45,6 +45,7 @@ extern "C" {
     fn yagbolshen_read_counter(mesh: *const u32, mesh_len: usize, chip: u32, counter: u32) -> CountRead;
     fn yagbolshen_mesh(mesh: *const u32, mesh_len: usize) -> MeshLook;
     fn yagbolshen_link(mesh: *const u32, mesh_len: usize, chip: u32, link: u32) -> LinkLook;
+    fn yagbolshen_flight(mesh: *const u32, mesh_len: usize, chip: u32, link: u32, place: u32) -> Flight;
 }
 
 pub fn size(width: u32, height: u32) -> Size {
@@ -112,7 +113,11 @@ pub fn look_at_link(mesh: &[u32], chip: u32, link: u32) -> LinkLook {
     unsafe { yagbolshen_link(pointer(mesh), mesh.len(), chip, link) }
 }
 
-fn pointer_mut<T>(slice: &mut [T]) -> *mut T {
+pub fn flight(mesh: &[u32], chip: u32, link: u32, place: u32) -> Flight {
+    unsafe { yagbolshen_flight(pointer(mesh), mesh.len(), chip, link, place) }
+}
+
+pub fn pointer_mut<T>(slice: &mut [T]) -> *mut T {
     if slice.is_empty() {
         std::ptr::null_mut()
     } else {

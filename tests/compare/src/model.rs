@@ -1,7 +1,7 @@
-//! The rules of the model in plain Rust: reading, packing, one pass and a search. Written from the rules alone, not from the
+//! The rules of the model in plain Rust: reading, packing and one pass. Written from the rules alone, not from the
 //! Rattle sources, so that a mistake would have to be made twice to go unseen.
 
-use crate::interface::{Counters, Fields, Packed, Packet, Pass, PassCall, Read, Registers, Row, RowFound};
+use crate::interface::{Counters, Fields, Packed, Packet, Pass, PassCall, Read, Registers};
 
 pub const LINKS: u32 = 6;
 pub const LOCAL: u32 = 7;
@@ -74,14 +74,6 @@ pub fn pass<const JOINED: bool>(call: &PassCall) -> Pass {
             0 => sound_pass(call, packet),
             errors => error_pass(call, packet, errors),
         },
-    }
-}
-
-/// The first row that takes a key, of a table in row structs.
-pub fn find(rows: &[Row], key: u32) -> RowFound {
-    match rows.iter().position(|row| key & row.mask == row.key & row.mask) {
-        Some(at) => RowFound { found: 1, row: at as u32, route: rows[at].route },
-        None => RowFound::default(),
     }
 }
 

@@ -1,9 +1,9 @@
 //! How often each thing that a call can do was reached.
 
-use crate::interface::{Packed, Packet, Pass, Read, RowFound};
+use crate::interface::{Packed, Packet, Pass, Read};
 use crate::model::{error, kind, kind_of, mark, mark_of, refusal};
 
-type Events<Answer> = &'static [(&'static str, fn(&Answer) -> bool)];
+pub type Events<Answer> = &'static [(&'static str, fn(&Answer) -> bool)];
 
 const READ: Events<Read> = &[
     ("read accepted", |read| read.refusal == 0),
@@ -27,12 +27,6 @@ const PASS_CALL: Events<Pass> = &[
     ("pass refusal 2, length", |pass| pass.refusal == refusal::LENGTH),
     ("pass refusal 3, type 11", |pass| pass.refusal == refusal::TYPE),
     ("pass refusal 4, NN with T = 1", |pass| pass.refusal == refusal::DIRECT),
-];
-
-const FIND: Events<RowFound> = &[
-    ("find, row 0", |answer| answer.found == 1 && answer.row == 0),
-    ("find, a later row", |answer| answer.found == 1 && answer.row != 0),
-    ("find, no row", |answer| answer.found == 0),
 ];
 
 /// What a pass does, in the one-router call and in a mesh.
@@ -63,7 +57,6 @@ pub struct Tally {
     read: [u64; READ.len()],
     pack: [u64; PACK.len()],
     pass_call: [u64; PASS_CALL.len()],
-    find: [u64; FIND.len()],
     passes: PassTally,
 }
 
@@ -81,15 +74,10 @@ impl Tally {
         self.passes.pass(answer);
     }
 
-    pub fn find(&mut self, answer: &RowFound) {
-        count(FIND, &mut self.find, answer);
-    }
-
     /// Prints a line for each, and answers whether all were reached.
     pub fn print(&self) -> bool {
         let calls = print_all("", READ, &self.read) & print_all("", PACK, &self.pack);
-        let calls = calls & print_all("", PASS_CALL, &self.pass_call) & print_all("", FIND, &self.find);
-        calls & self.passes.print("")
+        calls & print_all("", PASS_CALL, &self.pass_call) & self.passes.print("")
     }
 }
 
@@ -106,13 +94,14 @@ impl PassTally {
     }
 }
 
-fn count<Answer>(events: Events<Answer>, counts: &mut [u64], answer: &Answer) {
+pub fn count<Answer>(events: Events<Answer>, counts: &mut [u64], answer: &Answer) {
     for ((_, reached), count) in events.iter().zip(counts) {
         *count += u64::from(reached(answer));
     }
 }
 
-fn print_all<Answer>(before: &str, events: Events<Answer>, counts: &[u64]) -> bool {
+/// Prints a line for each, and answers whether all were reached.
+pub fn print_all<Answer>(before: &str, events: Events<Answer>, counts: &[u64]) -> bool {
     events.iter().zip(counts).fold(true, |all, ((name, _), &count)| all & print_line(&format!("{before}{name}"), count))
 }
 

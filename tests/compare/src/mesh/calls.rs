@@ -5,7 +5,7 @@ use super::model::{Done, Mesh};
 use super::pair::Pair;
 use super::refusals;
 use super::tally::{Call, MeshTally};
-use crate::interface::{CountRead, LentTables, LinkLook, MeshLook, RegistersRead, Size};
+use crate::interface::{Added, CountRead, Flight, LentTables, LinkLook, MeshLook, Packet, RegistersRead, Size};
 use crate::mesh_calls;
 
 impl Pair {
@@ -30,8 +30,15 @@ impl Pair {
         tally.refusal(Call::Open, refusal);
     }
 
-    /// Answers the refusal. `room` words of the log are lent.
-    pub fn inject(&mut self, tally: &mut MeshTally, room: usize, chip: u32, packet: &[u8], tables: &LentTables) -> u32 {
+    /// `room` words of the log are lent.
+    pub fn inject(
+        &mut self,
+        tally: &mut MeshTally,
+        room: usize,
+        chip: u32,
+        packet: &[u8],
+        tables: &LentTables,
+    ) -> Added {
         self.begin("inject", || format!("at {chip:x}, log {room:x}, {packet:x?}, {tables:x?}"));
         let refusal = refusals::inject(self.mesh.as_ref(), room, chip, packet, tables);
         let done = match &mut self.mesh {
@@ -43,10 +50,10 @@ impl Pair {
         self.settle_moved(refusal, &done, answer);
         tally.refusal(Call::Inject, refusal);
         tally.moved(&done, self.mesh.as_ref());
-        refusal
+        answer
     }
 
-    pub fn round(&mut self, tally: &mut MeshTally, room: usize, tables: &LentTables) -> u32 {
+    pub fn round(&mut self, tally: &mut MeshTally, room: usize, tables: &LentTables) -> Added {
         self.begin("round", || format!("log {room:x}, {tables:x?}"));
         let refusal = refusals::round(self.mesh.as_ref(), room, tables);
         let done = match &mut self.mesh {
@@ -64,10 +71,11 @@ impl Pair {
         if refusal == 0 {
             tally.round_over(self.mesh.as_ref());
         }
-        refusal
+        answer
     }
 
-    pub fn set_link(&mut self, tally: &mut MeshTally, chip: u32, link: u32, up: bool) {
+    /// Answers the refusal, or 0.
+    pub fn set_link(&mut self, tally: &mut MeshTally, chip: u32, link: u32, up: bool) -> u32 {
         self.begin("set link", || format!("{link:x} of {chip:x}, up {up}"));
         let refusal = refusals::link(self.mesh.as_ref(), chip, link);
         let answer = mesh_calls::set_link(&mut self.words[..self.lent], chip, link, up);
@@ -81,9 +89,11 @@ impl Pair {
         }
         self.settle(refusal);
         tally.refusal(Call::SetLink, refusal);
+        refusal
     }
 
-    pub fn read_registers(&mut self, tally: &mut MeshTally, chip: u32) {
+    /// Answers the refusal, or 0.
+    pub fn read_registers(&mut self, tally: &mut MeshTally, chip: u32) -> u32 {
         self.begin("read registers", || format!("of {chip:x}"));
         let refusal = refusals::read_registers(self.mesh.as_ref(), chip);
         let registers = match &mut self.mesh {
@@ -100,6 +110,7 @@ impl Pair {
         }
         self.settle(refusal);
         tally.refusal(Call::ReadRegisters, refusal);
+        refusal
     }
 
     pub fn read_counter(&mut self, tally: &mut MeshTally, chip: u32, counter: u32) {
@@ -131,5 +142,31 @@ impl Pair {
         };
         self.same("answer", &look, &mesh_calls::look_at_link(&self.words[..self.lent], chip, link));
         tally.refusal(Call::Link, refusal);
+    }
+
+    pub fn flight(&mut self, tally: &mut MeshTally, chip: u32, link: u32, place: u32) {
+        self.begin("flight", || format!("at place {place:x} of link {link:x} of {chip:x}"));
+        let refusal = refusals::flight(self.mesh.as_ref(), chip, link, place);
+        let packet = match &self.mesh {
+            Some(mesh) if refusal == 0 => mesh.chips[chip as usize].links[link as usize].held[place as usize],
+            _ => Packet::default(),
+        };
+        let answer = mesh_calls::flight(&self.words[..self.lent], chip, link, place);
+        self.same("answer", &Flight { refusal, packet }, &answer);
+        tally.refusal(Call::Flight, refusal);
+        if refusal == 0 {
+            tally.flight(place, &packet);
+        }
+    }
+
+    /// Every packet on a link, the oldest first, and the place behind them.
+    pub fn flights(&mut self, tally: &mut MeshTally, chip: u32, link: u32) {
+        let held = match &self.mesh {
+            Some(mesh) if refusals::link(Some(mesh), chip, link) == 0 => {
+                mesh.chips[chip as usize].links[link as usize].held.len() as u32
+            }
+            _ => 0,
+        };
+        (0..=held).for_each(|place| self.flight(tally, chip, link, place));
     }
 }

@@ -10,9 +10,10 @@ pub const HEADER: usize = 6;
 pub const CHIP: usize = 322;
 pub const LINK: usize = 51;
 pub const PLACE: usize = 3;
-/// Where counters and links begin in a chip, and places in a link.
+/// Where counters and links begin in a chip, and a link's count and places in a link.
 pub const COUNTERS_AT: usize = 6;
 pub const LINKS_AT: usize = 16;
+pub const HELD: usize = 1;
 pub const PLACES_AT: usize = 2;
 /// The most packets that a link holds.
 pub const MOST_HELD: u32 = 8;
@@ -72,7 +73,7 @@ fn registers_in(words: &[u32]) -> Option<Option<Registers>> {
 }
 
 fn link_in(words: &[u32]) -> Option<Link> {
-    let (down, count) = (words[0], words[1]);
+    let (down, count) = (words[0], words[HELD]);
     if down > 1 || count > MOST_HELD {
         return None;
     }

@@ -1,8 +1,11 @@
-//! Whole sequences of calls on a mesh, the library's beside those of a mesh in plain Rust.
+//! Whole sequences of calls on a mesh, and replays of them, the library's beside those of a mesh in plain Rust.
 
+mod bad_records;
 mod calls;
 mod damage;
+mod every_byte;
 mod every_word;
+mod kept;
 mod known;
 mod layout;
 mod model;
@@ -11,16 +14,22 @@ mod pair;
 mod passing;
 mod refusals;
 mod refused_steps;
+mod replay;
+mod replay_tally;
+mod replaying;
 mod sequence;
 mod steps;
 mod tables;
 mod tally;
+mod traces;
 
 pub use sequence::run;
 pub use tally::MeshTally;
+pub use traces::run as run_trace;
 
-/// What is no sequence of random calls: the known passes, and every word of some buffers.
+/// What is no sequence of random calls: the known passes, every word of some buffers, and every byte of some traces.
 pub fn systematic(tally: &mut MeshTally, seed: u64) {
     known::all();
     every_word::all(tally, seed);
+    every_byte::all(tally, seed);
 }

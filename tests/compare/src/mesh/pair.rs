@@ -45,7 +45,7 @@ impl Pair {
         }
     }
 
-    pub fn same<Answer: Debug + PartialEq>(&self, what: &str, model: &Answer, library: &Answer) {
+    pub fn same<Answer: Debug + PartialEq + ?Sized>(&self, what: &str, model: &Answer, library: &Answer) {
         if model != library {
             self.differs(what, &format!("model   {model:x?}\nlibrary {library:x?}"));
         }
@@ -54,10 +54,15 @@ impl Pair {
     /// After an injection or a round.
     pub fn settle_moved(&mut self, refusal: u32, done: &Done, answer: Added) {
         self.same("answer", &Added { refusal, added: done.records.len() as u32 }, &answer);
-        for (place, record) in self.log_before.chunks_mut(6).zip(&done.records) {
+        self.logs(&done.records);
+        self.settle(refusal);
+    }
+
+    /// The log has to begin with these records now.
+    pub fn logs(&mut self, records: &[[u32; 6]]) {
+        for (place, record) in self.log_before.chunks_mut(6).zip(records) {
             place.copy_from_slice(record);
         }
-        self.settle(refusal);
     }
 
     /// After every call: log and buffer are what they have to be. An accepted call leaves the words of the model's mesh, and
@@ -82,7 +87,7 @@ impl Pair {
         self.same_words("buffer", &self.before, &self.words);
     }
 
-    fn same_words(&self, what: &str, model: &[u32], library: &[u32]) {
+    pub fn same_words(&self, what: &str, model: &[u32], library: &[u32]) {
         if model != library {
             let at = model.iter().zip(library).position(|(model, library)| model != library);
             let at = at.unwrap_or(model.len().min(library.len()));

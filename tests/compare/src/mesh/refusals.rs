@@ -40,6 +40,15 @@ pub fn link(mesh: Option<&Mesh>, chip: u32, link: u32) -> u32 {
     first(&[read_registers(mesh, chip), number(link >= LINKS, NOT_THERE)])
 }
 
+/// 9 "also where the link holds none there".
+pub fn flight(mesh: Option<&Mesh>, chip: u32, at_link: u32, place: u32) -> u32 {
+    let held = |mesh: &Mesh| mesh.chips[chip as usize].links[at_link as usize].held.len();
+    match (link(mesh, chip, at_link), mesh) {
+        (0, Some(mesh)) => number(place as usize >= held(mesh), NOT_THERE),
+        (refusal, _) => refusal,
+    }
+}
+
 pub fn read_counter(mesh: Option<&Mesh>, chip: u32, counter: u32) -> u32 {
     first(&[read_registers(mesh, chip), number(counter >= COUNTERS, NOT_THERE)])
 }
@@ -65,7 +74,7 @@ fn no_chip(mesh: &Mesh, chip: u32) -> u32 {
     number(chip as usize >= mesh.chips.len(), NOT_THERE)
 }
 
-fn of_tables(mesh: &Mesh, tables: &LentTables) -> u32 {
+pub fn of_tables(mesh: &Mesh, tables: &LentTables) -> u32 {
     let chips = mesh.chips.len();
     let rows_fit = routes_fit(tables.rows) && starts_fit(tables.starts, chips, tables.rows.len() / ROW);
     let codes_fit = tables.codes.len() == chips * chips && tables.codes.iter().all(|&code| code <= MOST_CODE);

@@ -61,11 +61,14 @@ impl Sequence<'_> {
         let wrong_chip = self.wrong_chip();
         let chip = if self.random.one_in(2) { wrong_chip } else { self.any_chip() };
         let wrong = self.random.pick(&[6, 7, 10, 11, 255, 0x8000_0000, u32::MAX]);
-        match self.random.below(4) {
-            0 => self.pair.set_link(self.tally, chip, wrong, true),
-            1 => self.pair.read_registers(self.tally, wrong_chip),
+        let (link, place) = (self.random.below(6), self.random.pick(&[8, 9, 0x8000_0000, u32::MAX]));
+        match self.random.below(6) {
+            0 => assert_ne!(self.pair.set_link(self.tally, chip, wrong, true), 0),
+            1 => assert_ne!(self.pair.read_registers(self.tally, wrong_chip), 0),
             2 => self.pair.read_counter(self.tally, chip, wrong.max(10)),
-            _ => self.pair.look_at_link(self.tally, chip, wrong),
+            3 => self.pair.look_at_link(self.tally, chip, wrong),
+            4 => self.pair.flight(self.tally, chip, wrong, 0),
+            _ => self.pair.flight(self.tally, chip, link, place),
         }
     }
 

@@ -8,7 +8,7 @@ use super::tally::MeshTally;
 use crate::random::Random;
 
 /// Words behind what is lent, which no call may touch.
-const CANARY: usize = 16;
+pub const CANARY: usize = 16;
 /// The log words for all that a chip's links can hold.
 const RECORDS: usize = 6 * 6 * 8;
 
@@ -66,7 +66,7 @@ pub fn run(tally: &mut MeshTally, seed: u64, number: u64, prints: bool) {
 }
 
 /// Mostly small meshes, on which links fill soon.
-fn random_size(random: &mut Random) -> (u32, u32) {
+pub fn random_size(random: &mut Random) -> (u32, u32) {
     let any = |random: &mut Random, most| 1 + random.below(most);
     match random.below(256) {
         0 => (12, 12),
@@ -80,7 +80,7 @@ fn random_size(random: &mut Random) -> (u32, u32) {
 }
 
 /// Buffer and log full of anything, the words at times zeros: a larger mesh may then fit where a side is changed.
-fn new_pair(random: &mut Random, name: String, prints: bool, width: u32, height: u32) -> Pair {
+pub fn new_pair(random: &mut Random, name: String, prints: bool, width: u32, height: u32) -> Pair {
     let lent = words_for(width, height) + random.pick(&[0, 0, 1, 5, 322, 2000]) as usize;
     let mut words: Vec<u32> = (0..lent + CANARY).map(|_| random.word()).collect();
     if random.one_in(4) {
@@ -111,10 +111,13 @@ impl Sequence<'_> {
         }
     }
 
-    /// The mesh, a chip's links and its counters.
+    /// The mesh, a chip's links with what is in flight on them, and its counters.
     pub fn look_at(&mut self, chip: u32) {
         self.pair.look(self.tally);
-        (0..6).for_each(|link| self.pair.look_at_link(self.tally, chip, link));
+        for link in 0..6 {
+            self.pair.look_at_link(self.tally, chip, link);
+            self.pair.flights(self.tally, chip, link);
+        }
         (0..10).for_each(|counter| self.pair.read_counter(self.tally, chip, counter));
         self.pair.settle_exactly();
     }

@@ -2,7 +2,8 @@
 
 use super::layout::MOST_HELD;
 use super::model::{Done, Mesh};
-use crate::interface::Registers;
+use super::replay_tally::ReplayTally;
+use crate::interface::{Packet, Registers};
 use crate::tally::{print_line, PassTally};
 
 #[derive(Clone, Copy)]
@@ -16,10 +17,12 @@ pub enum Call {
     ReadCounter,
     Mesh,
     Link,
+    Flight,
+    Replay,
 }
 
 /// Each call's name, and what it refuses, in order. 0 is a call that is accepted.
-const CALLS: [(&str, &[u32]); 9] = [
+const CALLS: [(&str, &[u32]); 11] = [
     ("size", &[0, 7]),
     ("open", &[0, 7, 6, 8]),
     ("inject", &[0, 8, 9, 5, 11, 10, 2, 3, 4]),
@@ -29,8 +32,10 @@ const CALLS: [(&str, &[u32]); 9] = [
     ("read counter", &[0, 8, 9]),
     ("look at the mesh", &[0, 8]),
     ("look at link", &[0, 8, 9]),
+    ("flight", &[0, 8, 9]),
+    ("replay", &[0, 12, 13, 14, 8, 9, 5, 11, 10, 3, 4]),
 ];
-const NUMBERS: usize = 12;
+const NUMBERS: usize = 15;
 
 #[derive(Default)]
 pub struct MeshTally {
@@ -59,6 +64,10 @@ pub struct MeshTally {
     changed_holds_none: u64,
     pub cut_short: u64,
     pub reopened: u64,
+    flights_of_five: u64,
+    flights_of_nine: u64,
+    flights_at_last: u64,
+    pub replays: ReplayTally,
 }
 
 impl MeshTally {
@@ -106,6 +115,12 @@ impl MeshTally {
         self.registers_leg += u64::from(registers.leg == 1);
     }
 
+    pub fn flight(&mut self, place: u32, packet: &Packet) {
+        self.flights_of_five += u64::from(packet.nine == 0);
+        self.flights_of_nine += u64::from(packet.nine == 1);
+        self.flights_at_last += u64::from(place + 1 == MOST_HELD);
+    }
+
     /// A word of a buffer was changed.
     pub fn changed_word(&mut self, holds: bool) {
         self.changed_holds += u64::from(holds);
@@ -127,12 +142,13 @@ impl MeshTally {
         for (name, count) in self.events() {
             all &= print_line(&format!("mesh, {name}"), count);
         }
+        all &= self.replays.print();
         println!("{:>12}  mesh, most packets in flight", self.most_in_flight);
         println!("{:>12}  mesh, calls", self.refusals.iter().flatten().sum::<u64>());
         all
     }
 
-    fn events(&self) -> [(&'static str, u64); 22] {
+    fn events(&self) -> [(&'static str, u64); 25] {
         [
             ("sequences", self.sequences),
             ("sequences on one chip", self.one_chip),
@@ -156,6 +172,9 @@ impl MeshTally {
             ("changed word, buffer holds none", self.changed_holds_none),
             ("buffer cut short", self.cut_short),
             ("buffer opened again", self.reopened),
+            ("flight of five bytes", self.flights_of_five),
+            ("flight of nine bytes", self.flights_of_nine),
+            ("flight at the last of eight places", self.flights_at_last),
         ]
     }
 }

@@ -1,0 +1,83 @@
+//! A replay in plain Rust, written from the rules, without sight of the Rattle sources: records are read one after another
+//! and their calls made on the model's mesh, "each with the rest of the log", up to the first refusal.
+
+use super::model::{Done, Mesh};
+use super::refusals;
+use crate::interface::{KeptCall, LentTables, Registers, Replayed};
+use crate::records::model::{kind, take};
+
+const LOG_RECORD: usize = 6;
+
+/// What a replay did.
+#[derive(Default)]
+pub struct Played {
+    pub answer: Replayed,
+    /// The calls that were made, in order, and what they did, joined.
+    pub calls: Vec<KeptCall>,
+    pub done: Done,
+    /// What the registers held that were read, and that nobody got.
+    pub registers: Vec<Registers>,
+    /// The call that was refused, unless its record was.
+    pub refused: Option<KeptCall>,
+}
+
+pub fn replay(mesh: &mut Option<Mesh>, room: usize, trace: &[u8], tables: &LentTables) -> Played {
+    let mut played = Played::default();
+    while played.answer.at < trace.len() {
+        match played.next(mesh, room, &trace[played.answer.at..], tables) {
+            Ok(length) => played.answer.at += length,
+            Err(refusal) => {
+                played.answer.refusal = refusal;
+                break;
+            }
+        }
+    }
+    played.answer.added = played.done.records.len();
+    played
+}
+
+impl Played {
+    /// Makes the call at the start of what is left of the trace, and answers how long its record is.
+    fn next(&mut self, mesh: &mut Option<Mesh>, room: usize, left: &[u8], tables: &LentTables) -> Result<usize, u32> {
+        let (length, call) = take(left)?;
+        let rest = room - LOG_RECORD * self.done.records.len();
+        match (refusal_of(mesh.as_ref(), rest, &call, tables), mesh) {
+            (0, Some(mesh)) => self.make(mesh, &call, tables),
+            (refusal, _) => {
+                self.refused = Some(call);
+                return Err(refusal);
+            }
+        }
+        Ok(length)
+    }
+
+    fn make(&mut self, mesh: &mut Mesh, call: &KeptCall, tables: &LentTables) {
+        match call.kind {
+            kind::INJECTION => self.did(mesh.inject(call.chip, packet_of(call), tables)),
+            kind::ROUND => self.did(mesh.round(tables)),
+            kind::LINK_CHANGE => mesh.set_link(call.chip, call.link, call.up == 1),
+            _ => self.registers.push(mesh.read_registers(call.chip)),
+        }
+        self.calls.push(*call);
+    }
+
+    fn did(&mut self, done: Done) {
+        self.done.records.extend(done.records);
+        self.done.passes.extend(done.passes);
+        self.done.wraps += done.wraps;
+    }
+}
+
+/// The tables are looked at by calls that pass packets alone.
+fn refusal_of(mesh: Option<&Mesh>, rest: usize, call: &KeptCall, tables: &LentTables) -> u32 {
+    match call.kind {
+        kind::INJECTION => refusals::inject(mesh, rest, call.chip, packet_of(call), tables),
+        kind::ROUND => refusals::round(mesh, rest, tables),
+        kind::LINK_CHANGE => refusals::link(mesh, call.chip, call.link),
+        _ => refusals::read_registers(mesh, call.chip),
+    }
+}
+
+fn packet_of(call: &KeptCall) -> &[u8] {
+    &call.bytes[..call.length as usize]
+}

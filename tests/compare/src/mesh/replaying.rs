@@ -1,0 +1,39 @@
+//! A replay by the library beside one by the model: answer, mesh and log are compared as after every call. What a refused
+//! record came after has to stand, word for word, as if the trace had ended there.
+
+use super::pair::Pair;
+use super::replay::{replay, Played};
+use super::replay_tally::ReplayCase;
+use super::tally::{Call, MeshTally};
+use crate::interface::{LentTables, Replayed};
+use crate::trace_calls;
+
+impl Pair {
+    /// `room` words of the log are lent.
+    pub fn replay(&mut self, tally: &mut MeshTally, room: usize, trace: &[u8], tables: &LentTables) -> Played {
+        self.begin("replay", || format!("log {room:x}, {trace:x?}, {tables:x?}"));
+        let begun = ReplayCase::begun(self.mesh.as_ref(), room, trace, tables);
+        let phase = self.mesh.as_ref().map(|mesh| mesh.phase);
+        let (mut words, mut log) = (self.words.clone(), self.log.clone());
+        let played = replay(&mut self.mesh, room, trace, tables);
+        let answer = trace_calls::replay(&mut self.words[..self.lent], &mut self.log[..room], trace, tables);
+        self.same("answer", &played.answer, &answer);
+        self.logs(&played.done.records);
+        if played.calls.is_empty() {
+            self.settle_exactly();
+        } else {
+            self.settle(0);
+        }
+        if answer.refusal != 0 {
+            let until = trace_calls::replay(&mut words[..self.lent], &mut log[..room], &trace[..answer.at], tables);
+            self.same("answer of the trace up to there", &Replayed { refusal: 0, ..answer }, &until);
+            self.same_words("buffer beside that of the trace up to there", &words, &self.words);
+            self.same_words("log beside that of the trace up to there", &log, &self.log);
+        }
+        tally.refusal(Call::Replay, answer.refusal);
+        tally.moved(&played.done, self.mesh.as_ref());
+        let phase_steps = phase != self.mesh.as_ref().map(|mesh| mesh.phase);
+        tally.replays.count(&begun.over(&played, phase_steps));
+        played
+    }
+}
