@@ -17,7 +17,7 @@ use Rattle.mesh.specs.Weights.{inFlight}
 use Rattle.mesh.specs.Sound.{Passable}
 use Rattle.mesh.proofs.SoundSteps.{CodesFor}
 use Rattle.mesh.proofs.Accepts.{inject-goes, round-goes}
-use Rattle.promises.specs.Asked.{Call, inject, round, setLink, readRegisters, readCounter, lookMesh, lookLink, leftBy}
+use Rattle.promises.specs.Asked.{Call, inject, round, setLink, readRegisters, readCounter, lookMesh, lookLink, lookFlight, leftBy}
 use Rattle.promises.specs.History.{Tag, State, Event, emptied, turned, tagOf, tagNow, passages, accepted}
 
 -- ---- the tests that have passed
@@ -145,3 +145,6 @@ module _ (s : State) where
 
   pub look-leaves : (chip link : ℕ) → accepted s (here (lookLink chip link)) (lookLink chip link) ≡ s
   look-leaves chip link = quiet (s .mesh)
+
+  pub flight-leaves : (chip link place : ℕ) → accepted s (here (lookFlight chip link place)) (lookFlight chip link place) ≡ s
+  flight-leaves chip link place = quiet (s .mesh)

@@ -13,7 +13,8 @@ use Rattle.mesh.specs.Steps.{Tables, Arrival, Going, codesAt, settingAt, setAsi
 use Rattle.mesh.specs.Sound.{All, Arrives, SoundMesh}
 use Rattle.mesh.proofs.SoundArrivals.{sound-arrivals}
 use Rattle.mesh.proofs.SoundSteps.{CodesFor, checked, sound-aside, pass-head, passed-head}
-use Rattle.promises.specs.History.{Tag, Passage, State, turned, tagOf, passages, history}
+use Rattle.promises.specs.History.{Tag, Passage, State, turned, tagOf, passages}
+use Rattle.promises.specs.Sequence.{sequence}
 use Rattle.promises.specs.Told.{Stamped, EachFlight, EachPass}
 use Rattle.promises.specs.Demand3.{Always, span, LinksCrossed, GoneInTime, NotBeforeItsTime}
 use Rattle.promises.proofs.Told.{each-append}
@@ -125,15 +126,15 @@ ages-always : Always Ageing
 ages-always = always-kept Ageing ageing-kept
 
 pub links-crossed : LinksCrossed
-links-crossed w h f monitor o cs =
-    let s = history w h f monitor cs in
-    let a = ages-always w h f monitor o cs in
+links-crossed w h f monitor o xs =
+    let s = sequence w h f monitor xs in
+    let a = ages-always w h f monitor o xs in
     (each-weaken (Ages f (s .rounds)) _ (λ x ages. aged-crossing f (s .rounds) x ages) (s .mesh) (a .flights), a .crossings)
 
 pub gone-in-time : GoneInTime
-gone-in-time w h f monitor o cs =
-    let s = history w h f monitor cs in
-    each-weaken (Ages f (s .rounds)) _ (λ x ages low. omega (arith, aged-copy ages low .due)) (s .mesh) (ages-always w h f monitor o cs .flights)
+gone-in-time w h f monitor o xs =
+    let s = sequence w h f monitor xs in
+    each-weaken (Ages f (s .rounds)) _ (λ x ages low. omega (arith, aged-copy ages low .due)) (s .mesh) (ages-always w h f monitor o xs .flights)
 
 pub not-before-its-time : NotBeforeItsTime
-not-before-its-time w h f monitor o cs = ages-always w h f monitor o cs .times
+not-before-its-time w h f monitor o xs = ages-always w h f monitor o xs .times

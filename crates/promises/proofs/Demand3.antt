@@ -1,11 +1,13 @@
 -- Demand 3, proved: each statement of specs/Demand3.antt, and where its proof stands. Assumes nothing.
-use Rattle.promises.specs.Demand3.{Forgetting, Program, WholeRun, LinksCrossed, GoneInTime, NotBeforeItsTime, Account, Counts, Registers, Log, NoStaleBlock}
+use Rattle.promises.specs.Demand3.{Forgetting, Program, ReplayIsItsCalls, SequenceIsCalls, WholeRun, LinksCrossed, GoneInTime, NotBeforeItsTime, Account, Counts, Registers, Log, NoStaleBlock}
 use Rattle.promises.proofs.Forgets as forgets
 use Rattle.promises.proofs.Ages as ages
 use Rattle.promises.proofs.Accounts as accounts
 use Rattle.promises.proofs.Owned as owned
 use Rattle.promises.proofs.Registered as registered
 use Rattle.promises.proofs.Records as records
+use Rattle.promises.proofs.Sequences as sequences
+use Rattle.promises.proofs.WholeRuns as whole-runs
 
 pub forgetting : Forgetting
 forgetting = forgets.forgetting
@@ -13,8 +15,14 @@ forgetting = forgets.forgetting
 pub program : Program
 program = forgets.program
 
+pub replay-is-its-calls : ReplayIsItsCalls
+replay-is-its-calls = sequences.replay-is-its-calls
+
+pub sequence-is-calls : SequenceIsCalls
+sequence-is-calls = sequences.sequence-is-calls
+
 pub whole-run : WholeRun
-whole-run = forgets.whole-run
+whole-run = whole-runs.whole-run
 
 pub links-crossed : LinksCrossed
 links-crossed = ages.links-crossed

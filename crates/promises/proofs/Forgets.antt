@@ -4,26 +4,28 @@ use mathlib.Core.Path.{_≡_, refl, sym, ap, _∙_}
 use mathlib.Core.Bool.{Bool, true, false, cond}
 use mathlib.Core.List.{List, [], _∷_, map, foldl}
 use Prim.Native.Nat.{ℕ, zero, suc, _*_}
-use lib.Dec.{eqb}
+use lib.Dec.{eqb, ltb}
 use lib.ListN.{length, getD, set, replicate, length-map}
 use borrow.Author.Tests.{eqb-true, eqb-false}
 use Rattle.steps.specs.Errors.{flag}
-use Rattle.packet.specs.Bytes.{packetAt}
+use Rattle.packet.specs.declared.Packet.{Packet}
+use Rattle.packet.specs.Bytes.{packetAt, nothing}
 use Rattle.packet.specs.Refusal.{firstOf}
 use Rattle.kept.specs.Keeping.{empty}
 use Rattle.mesh.specs.declared.LinkRead.{LinkRead}
+use Rattle.mesh.specs.declared.FlightRead.{FlightRead}
 use Rattle.links.specs.Line.{Flight, Line, idle, isReady}
-use Rattle.mesh.specs.Mesh.{Chip, Mesh, fresh, opened}
+use Rattle.mesh.specs.Mesh.{Chip, Mesh, fresh}
 use Rattle.mesh.specs.Layout.{meshOf}
 use Rattle.mesh.specs.Holding.{holdsMesh}
 use Rattle.mesh.specs.Steps.{Going, withChip, injected, rounded}
 use Rattle.mesh.specs.Calls as calls
 use Rattle.mesh.specs.Weights.{inFlight}
 use Rattle.mesh.specs.Going.{same}
-use Rattle.promises.specs.Asked.{Call, inject, round, setLink, readRegisters, readCounter, lookMesh, lookLink, ofAdded, ofRefusal, ofRegisters, ofCount, ofMesh, ofLink, leftBy, answerOf}
-use Rattle.promises.specs.History.{Tag, turned, tagNow, State, accepted, after, begun, history, Run, ended, called}
+use Rattle.promises.specs.Asked.{Call, inject, round, setLink, readRegisters, readCounter, lookMesh, lookLink, lookFlight, ofAdded, ofRefusal, ofRegisters, ofCount, ofMesh, ofLink, ofFlight, leftBy, answerOf}
+use Rattle.promises.specs.History.{Tag, turned, tagNow, State, accepted, after}
 use Rattle.promises.specs.Told.{plainFlight, plainLine, plainChip, plain, plainLeft}
-use Rattle.promises.specs.Demand3.{Forgetting, Program, WholeRun}
+use Rattle.promises.specs.Demand3.{Forgetting, Program}
 use Rattle.promises.proofs.Plains.{map-set, plainGoing, plain-chip, plain-line, plain-ready, plain-flying, plain-with, plain-pass, plain-rounded}
 
 module _ {A : Type 0} where
@@ -64,6 +66,20 @@ module _ {A : Type 0} where
       (λ k. answer (l .up) (sym (length-map (l .held) plainFlight) k) (sym (plain-ready l) k))
       ∙ ap (λ (x : Line (Unit {0})). answer (x .up) (length (x .held)) (isReady x)) (sym (plain-of m chip link))
 
+  plain-packets : (fs : List (Flight A)) → map (λ (f : Flight A). f .packet) fs ≡ map (λ (f : Flight (Unit {0})). f .packet) (map plainFlight fs)
+  plain-packets [] = refl
+  plain-packets (f ∷ fs) = ap (λ (ps : List Packet). f .packet ∷ ps) (plain-packets fs)
+
+  plain-seen : (m : Mesh A) (chip link place : ℕ) → calls.flightRead true m chip link place ≡ calls.flightRead true (plain m) chip link place
+  plain-seen m chip link place =
+      let n = firstOf (calls.linkRefusals true (calls.many m) chip link) in
+      let l = calls.lineOf m chip link in
+      let answer : ℕ → List Packet → FlightRead =
+      λ held packets.
+      cond (eqb n 0) (cond (ltb place held) (record { refusal = 0; packet = getD packets place nothing }) (calls.noFlight 9)) (calls.noFlight n) in
+      (λ k. answer (sym (length-map (l .held) plainFlight) k) (plain-packets (l .held) k))
+      ∙ ap (λ (x : Line (Unit {0})). answer (length (x .held)) (map (λ (f : Flight (Unit {0})). f .packet) (x .held))) (sym (plain-of m chip link))
+
   module _ (turn : A → A) (tag : A) (m : Mesh A) where
     forgets-left : (c : Call) → plainLeft (leftBy turn tag m c) ≡ leftBy same tt (plain m) c
     forgets-left (inject chip bytes t room) =
@@ -86,6 +102,7 @@ module _ {A : Type 0} where
     forgets-left (readCounter chip counter) = refl
     forgets-left lookMesh = refl
     forgets-left (lookLink chip link) = ap (λ (r : LinkRead). record { refusal = r .refusal; mesh = plain m; log = [] }) (plain-looked m chip link)
+    forgets-left (lookFlight chip link place) = ap (λ (r : FlightRead). record { refusal = r .refusal; mesh = plain m; log = [] }) (plain-seen m chip link place)
 
     forgets-answer : (c : Call) → answerOf turn tag m c ≡ answerOf same tt (plain m) c
     forgets-answer (inject chip bytes t room) = ap (λ (r : calls.Left (Unit {0})). ofAdded (calls.addedOf r)) (forgets-left (inject chip bytes t room))
@@ -100,6 +117,7 @@ module _ {A : Type 0} where
     forgets-answer lookMesh =
         ap (λ (flying : ℕ). ofMesh (calls.meshShown m flying)) (sym (plain-flying m))
     forgets-answer (lookLink chip link) = ap ofLink (plain-looked m chip link)
+    forgets-answer (lookFlight chip link place) = ap ofFlight (plain-seen m chip link place)
 
 pub forgetting : Forgetting
 forgetting A turn tag m c = (forgets-left turn tag m c, forgets-answer turn tag m c)
@@ -125,24 +143,3 @@ program s c before after′ holds e leaves = go (eqb (r .refusal) 0) refl
     go false z =
         let kept : after′ ≡ before = leaves .refused (λ none. eqb-false _ _ z (sym refusal ∙ none)) in
         (ap holdsMesh kept ∙ holds, ap meshOf kept ∙ e)
-
--- ---- whole runs
-
-map-replicate : {X Y : Type 0} (f : X → Y) (n : ℕ) (x : X) → map f (replicate n x) ≡ replicate n (f x)
-map-replicate f zero x = refl
-map-replicate f (suc n) x = ap (λ (l : List _). f x ∷ l) (map-replicate f n x)
-
-plain-opened : (w h f monitor : ℕ) → plain (begun w h f monitor .mesh) ≡ opened w h f monitor
-plain-opened w h f monitor =
-    λ i. record { width = w; height = h; rounds = f; monitor = monitor; phase = 0; elapsed = 0; chips = map-replicate (plainChip {A = Tag}) (h * w) fresh i }
-
-pub whole-run : WholeRun
-unfolding history
-whole-run w h f monitor before behind cs holds e run = go (begun w h f monitor) before cs holds (e ∙ sym (plain-opened w h f monitor)) run
-  where
-    go : (s : State) (l : List ℕ) (calls : List Call) → holdsMesh l ≡ true → meshOf l ≡ plain (s .mesh) → Run l calls behind
-        → (holdsMesh behind ≡ true) × (meshOf behind ≡ plain (foldl after s calls .mesh))
-    go s l [] held m ended = (held, m)
-    go s l (c ∷ later) held m (called {between} leaves rest) =
-        let next = program s c l between held m leaves in
-        go (after s c) between later (next .0) (next .1) rest

@@ -16,9 +16,11 @@ use Rattle.mesh.specs.Weights.{inFlight}
 use Rattle.mesh.specs.Sound.{SoundMesh}
 use Rattle.mesh.proofs.SoundChanges.{sound-linked, sound-emptied}
 use Rattle.mesh.proofs.SoundSteps.{CodesFor, sound-opened, sound-injected, sound-rounded}
-use Rattle.promises.specs.Asked.{Call, inject, round, setLink, readRegisters, readCounter, lookMesh, lookLink, leftBy}
+use Rattle.promises.specs.Asked.{Call, inject, round, setLink, readRegisters, readCounter, lookMesh, lookLink, lookFlight, leftBy}
 use Rattle.promises.specs.History.{Tag, State, Opens, turned, tagNow, accepted, after, begun, history}
+use Rattle.promises.specs.Sequence.{madeIn}
 use Rattle.promises.specs.Demand3.{Always}
+use Rattle.promises.proofs.Sequences.{sequence-is-calls}
 use Rattle.promises.proofs.Accepts as accepts
 
 -- What a call answers in a state.
@@ -38,7 +40,9 @@ module _ (P : ℕ → State → Type 0) where
       → ((f : ℕ) (s : State) (c : Call) → answered s c .refusal ≡ 0 → P f s → P f (accepted s (answered s c) c))
       → Always P
   unfolding history
-  always opens step w h f monitor o cs = go cs (begun w h f monitor) (opens w h f monitor o)
+  always opens step w h f monitor o xs =
+      let start = begun w h f monitor in
+      subst (P f) (sym (sequence-is-calls w h f monitor xs)) (go (madeIn start xs) start (opens w h f monitor o))
     where
       go : (cs : List Call) (s : State) → P f s → P f (foldl after s cs)
       go [] s p = p
@@ -67,12 +71,13 @@ module _ {A : Type 0} {m : Mesh A} (sound : SoundMesh m) where
   sound-left turn tag (readCounter chip counter) e = sound
   sound-left turn tag lookMesh e = sound
   sound-left turn tag (lookLink chip link) e = sound
+  sound-left turn tag (lookFlight chip link place) e = sound
 
 module _ (P : ℕ → State → Type 0) where
   pub always-sound : ((w h f monitor : ℕ) → Opens w h f monitor → P f (begun w h f monitor))
       → ((f : ℕ) (s : State) (c : Call) → SoundMesh (s .mesh) → answered s c .refusal ≡ 0 → P f s → P f (accepted s (answered s c) c))
       → Always P
-  always-sound opens step w h f monitor o cs =
+  always-sound opens step w h f monitor o xs =
       always (λ f s. SoundMesh (s .mesh) × P f s)
       (λ w h f monitor o. (sound-opened w h f monitor (o .size) (o .phases) (o .monitored), opens w h f monitor o))
       (λ f s c e p. (sound-left (p .0) turned (tagNow s c) c e, step f s c (p .0) e (p .1)))
@@ -81,7 +86,7 @@ module _ (P : ℕ → State → Type 0) where
       f
       monitor
       o
-      cs
+      xs
       .1
 
 -- ---- by the kind of the call
@@ -118,6 +123,7 @@ module _ (P : ℕ → State → Type 0) (kept : Kept P) where
   kept-step f s (readCounter chip counter) sound e p = subst (P f) (sym (accepts.count-leaves s chip counter)) p
   kept-step f s lookMesh sound e p = subst (P f) (sym (accepts.mesh-leaves s)) p
   kept-step f s (lookLink chip link) sound e p = subst (P f) (sym (accepts.look-leaves s chip link)) p
+  kept-step f s (lookFlight chip link place) sound e p = subst (P f) (sym (accepts.flight-leaves s chip link place)) p
 
   pub always-kept : Always P
   always-kept = always-sound P (kept .opens) kept-step

@@ -14,6 +14,8 @@ pub mod Plains
 pub mod Records
 pub mod Registered
 pub mod Runs
+pub mod Sequences
 pub mod Stamps
 pub mod Told
 pub mod Weighs
+pub mod WholeRuns

@@ -1,10 +1,10 @@
 -- Demand 3, and what goes with it: nothing wanders, every unit is accounted for. Each is said of every history: a mesh just opened, with F rounds
--- to a phase, and any list of calls, whatever tables, packets and logs they hand in.
+-- to a phase, and any sequence of calls and replays, whatever tables, packets, traces and logs they hand in.
 use Prim.Native.Nat.{ℕ, _+_, _-_, _*_, _/_, _%_, _^_, _≤_, _<_}
 use mathlib.Core.Path.{_≡_}
 use mathlib.Core.Bool.{true}
-use mathlib.Core.List.{List}
-use lib.ListN.{getD}
+use mathlib.Core.List.{List, _++_}
+use lib.ListN.{length, getD}
 use Rattle.steps.specs.Links.{has}
 use Rattle.steps.specs.Deciding.{outcomeOf}
 use Rattle.kept.specs.Counting.{delivered, swallowed}
@@ -14,11 +14,15 @@ use Rattle.links.specs.Line.{idle, isReady}
 use Rattle.mesh.specs.Mesh.{Mesh, fresh, opened}
 use Rattle.mesh.specs.Layout.{meshOf}
 use Rattle.mesh.specs.Holding.{holdsMesh}
+use Rattle.mesh.specs.Steps.{Tables}
 use Rattle.mesh.specs.Weights.{onMesh}
 use Rattle.mesh.specs.Going.{same}
 use Rattle.mesh.specs.Leaving.{Leaves}
 use Rattle.promises.specs.Asked.{Call, leftBy, answerOf}
-use Rattle.promises.specs.History.{State, Opens, after, history, Run}
+use Rattle.trace.specs.declared.Replayed.{Replayed}
+use Rattle.trace.specs.Replay.{replayOf, Replays}
+use Rattle.promises.specs.History.{State, Opens, after, begun, history}
+use Rattle.promises.specs.Sequence.{Step, replay, stepped, sequence, madeIn, Run}
 use Rattle.promises.specs.Told.{Stamped, EachFlight, EachPass, sumOf, countAt, dropsSince, firstOfUnits, recordsOf, plain, plainLeft}
 
 -- 2F - (r mod F): the further rounds that a packet injected after r rounds has before it is too old.
@@ -35,14 +39,25 @@ abbrev pub Program : Type 0
 Program = (s : State) (c : Call) (before after′ : List ℕ) → holdsMesh before ≡ true → meshOf before ≡ plain (s .mesh)
     → Leaves before after′ (leftBy same tt (meshOf before) c) → (holdsMesh after′ ≡ true) × (meshOf after′ ≡ plain (after s c .mesh))
 
--- So a buffer that was opened holds, after any run of calls, the mesh of the history of those calls.
-abbrev pub WholeRun : Type 0
-WholeRun = (w h f monitor : ℕ) (before behind : List ℕ) (cs : List Call) → holdsMesh before ≡ true → meshOf before ≡ opened w h f monitor → Run before cs behind
-    → (holdsMesh behind ≡ true) × (meshOf behind ≡ plain (history w h f monitor cs .mesh))
+-- The same of a replay: it leaves a buffer that holds the mesh of the state after the calls that it makes, and its log is theirs, joined.
+abbrev pub ReplayIsItsCalls : Type 0
+ReplayIsItsCalls = (s : State) (trace : List ℕ) (t : Tables) (before after′ log written : List ℕ) (answer : Replayed) → holdsMesh before ≡ true → meshOf before ≡ plain (s .mesh)
+    → Replays before after′ log written answer (replayOf before t (length log) trace)
+    → (holdsMesh after′ ≡ true) × ((meshOf after′ ≡ plain (stepped s (replay trace t (length log)) .mesh))
+    × (stepped s (replay trace t (length log)) .log ≡ s .log ++ replayOf before t (length log) trace .log))
 
--- What a theorem over histories says of one.
+-- A sequence of calls and replays is the history of the calls that are made in it.
+abbrev pub SequenceIsCalls : Type 0
+SequenceIsCalls = (w h f monitor : ℕ) (xs : List Step) → sequence w h f monitor xs ≡ history w h f monitor (madeIn (begun w h f monitor) xs)
+
+-- So a buffer that was opened holds, after any run of calls and replays, the mesh of their sequence.
+abbrev pub WholeRun : Type 0
+WholeRun = (w h f monitor : ℕ) (before behind : List ℕ) (xs : List Step) → holdsMesh before ≡ true → meshOf before ≡ opened w h f monitor → Run before xs behind
+    → (holdsMesh behind ≡ true) × (meshOf behind ≡ plain (sequence w h f monitor xs .mesh))
+
+-- What a theorem over histories says of one: a sequence of calls and replays, refused ones among them.
 abbrev pub Always : (ℕ → State → Type 0) → Type 0
-Always P = (w h f monitor : ℕ) → Opens w h f monitor → (cs : List Call) → P f (history w h f monitor cs)
+Always P = (w h f monitor : ℕ) → Opens w h f monitor → (xs : List Step) → P f (sequence w h f monitor xs)
 
 -- 1. An MC or P2P packet injected after r rounds crosses at most 2F-(r mod F)+1 links: every copy, in flight or where it passed.
 abbrev pub LinksCrossed : Type 0

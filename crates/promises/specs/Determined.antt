@@ -19,13 +19,20 @@ use Rattle.mesh.specs.declared.RegistersRead.{RegistersRead}
 use Rattle.mesh.specs.declared.CountRead.{CountRead}
 use Rattle.mesh.specs.declared.MeshRead.{MeshRead}
 use Rattle.mesh.specs.declared.LinkRead.{LinkRead}
+use Rattle.mesh.specs.declared.FlightRead.{FlightRead}
 use Rattle.mesh.specs.declared.opening.SizeRead.{SizeRead}
 use Rattle.mesh.specs.Layout.{meshOf, wordsFor}
 use Rattle.mesh.specs.Opening.{sizeOf, openRefusals, opening}
 use Rattle.mesh.specs.Holding.{holdsMesh}
 use Rattle.mesh.specs.Sound.{SoundLine}
-use Rattle.mesh.specs.Calls.{Left, addedOf, loggedOn, many, chipOf, lineOf, registersRead, countRead, meshRead, linkRead}
+use Rattle.mesh.specs.Calls.{Left, addedOf, loggedOn, many, chipOf, lineOf, registersRead, countRead, meshRead, linkRead, flightRead}
 use Rattle.mesh.specs.Leaving.{Leaves, linkLeft}
+use Rattle.trace.specs.declared.Call.{Call}
+use Rattle.trace.specs.declared.Written.{Written}
+use Rattle.trace.specs.declared.Record.{Record}
+use Rattle.trace.specs.Records.{writtenOf, writtenOn, recordRead}
+use Rattle.trace.specs.Directly.{OneReplay}
+use Rattle.trace.proofs.Directly.{one-replay}
 use Rattle.mesh.proofs.Alls.{all-getD}
 use Rattle.mesh.proofs.SoundChanges.{chip-sound}
 use Rattle.mesh.proofs.SoundWords.{holds-sound}
@@ -94,6 +101,23 @@ look-mesh-determined mesh = determined
 pub look-link-determined : (mesh : List ℕ) (chip link : ℕ) (a b : LinkRead)
     → a ≡ linkRead (holdsMesh mesh) (meshOf mesh) chip link → b ≡ linkRead (holdsMesh mesh) (meshOf mesh) chip link → a ≡ b
 look-link-determined mesh chip link = determined
+
+pub look-flight-determined : (mesh : List ℕ) (chip link place : ℕ) (a b : FlightRead)
+    → a ≡ flightRead (holdsMesh mesh) (meshOf mesh) chip link place → b ≡ flightRead (holdsMesh mesh) (meshOf mesh) chip link place → a ≡ b
+look-flight-determined mesh chip link place = determined
+
+-- A record: what writing answers, and every byte of the room; what reading answers.
+pub write-record-determined : (room : List ℕ) (c : Call) (a b : Written) (x y : List ℕ) → a ≡ writtenOf (length room) c → b ≡ writtenOf (length room) c
+    → x ≡ writtenOn c room → y ≡ writtenOn c room
+    → (a ≡ b) × (x ≡ y)
+write-record-determined room c a b x y e f g h = (determined a b e f, determined x y g h)
+
+pub read-record-determined : (s : List ℕ) (a b : Record) → a ≡ recordRead s → b ≡ recordRead s → a ≡ b
+read-record-determined s = determined
+
+-- A replay: its answer, its log, the mesh; and every word where it stopped at its first record.
+pub replay-determined : OneReplay
+replay-determined = one-replay
 
 -- "Every directed link holds at most 8 packets", in every buffer that holds a mesh, as opening and every accepted call leave one.
 pub no-link-above-8 : (l : List ℕ) → holdsMesh l ≡ true → (chip link : ℕ) → chip < many (meshOf l) → link < 6 → length (lineOf (meshOf l) chip link .held) ≤ 8

@@ -15,11 +15,8 @@ use Rattle.router.specs.Call.{sizeFine}
 use Rattle.mesh.specs.Mesh.{Chip, Mesh, fresh, opened}
 use Rattle.mesh.specs.Opening.{roundsFine}
 use Rattle.mesh.specs.Steps.{Tables, Arrival, Going, rowsAt, codesAt, settingAt, outcomeAt, setAside, arrivals, passAt}
-use Rattle.mesh.specs.Layout.{meshOf}
-use Rattle.mesh.specs.Going.{same}
-use Rattle.mesh.specs.Leaving.{Leaves}
 use Rattle.mesh.specs.Calls as calls
-use Rattle.promises.specs.Asked.{Call, inject, round, setLink, readRegisters, readCounter, lookMesh, lookLink, leftBy, isInjection, isRound, handedIn}
+use Rattle.promises.specs.Asked.{Call, inject, round, setLink, readRegisters, readCounter, lookMesh, lookLink, lookFlight, leftBy, isInjection, isRound, handedIn}
 
 -- ---- what a history remembers
 
@@ -87,6 +84,7 @@ eventsOf s tag (setLink chip link up) = []
 eventsOf s tag (readCounter chip counter) = []
 eventsOf s tag lookMesh = []
 eventsOf s tag (lookLink chip link) = []
+eventsOf s tag (lookFlight chip link place) = []
 
 -- The tag of a packet that is injected now.
 abbrev pub tagOf : State → Packet → Tag
@@ -122,9 +120,3 @@ begun width height rounds monitor = record { mesh = opened width height rounds m
 
 unfoldable pub history : ℕ → ℕ → ℕ → ℕ → List Call → State
 history width height rounds monitor cs = foldl after (begun width height rounds monitor) cs
-
--- A run of the program: a buffer before, some calls, and a buffer that they may leave, each call by its contract.
-pub data Run : List ℕ → List Call → List ℕ → Type 0 where
-  ended : {l : List ℕ} → Run l [] l
-  called : {before between behind : List ℕ} {c : Call} {cs : List Call} → Leaves before between (leftBy same tt (meshOf before) c) → Run between cs behind
-      → Run before (c ∷ cs) behind

@@ -6,4 +6,5 @@ pub mod History
 pub mod KnownPasses
 pub mod NoStaleBlock
 pub mod OnePass
+pub mod Sequence
 pub mod Told

@@ -1,6 +1,7 @@
 pub mod Bodies
 pub mod BothWays
 pub mod ByKind
+pub mod Directly
 pub mod DoneRecords
 pub mod Keepables
 pub mod KeptSizes

@@ -1,3 +1,4 @@
 pub mod BothWays
+pub mod Directly
 pub mod Records
 pub mod Replay

@@ -1,0 +1,51 @@
+-- "Mesh and joined log equal those of the calls made directly": the calls of a trace made one after another, and what a replay has in common with them.
+use Prim.Native.Nat.{ℕ, _+_, _*_}
+use mathlib.Core.Path.{_≡_}
+use mathlib.Core.List.{List, _++_}
+use lib.ListN.{length, take, drop}
+use Rattle.mesh.specs.declared.Added.{Added}
+use Rattle.mesh.specs.Layout.{meshOf}
+use Rattle.mesh.specs.Holding.{holdsMesh}
+use Rattle.mesh.specs.Steps.{Tables}
+use Rattle.mesh.specs.Calls.{addedOf, loggedOn}
+use Rattle.mesh.specs.Leaving.{Leaves}
+use Rattle.trace.specs.declared.Call.{Call}
+use Rattle.trace.specs.declared.Replayed.{Replayed}
+use Rattle.trace.specs.Replay.{Trace, over, refused, then, traceOf, madeLeft, replayOf, Replays}
+
+-- One call made by itself, by its contract: its number, the records added, buffer and log. A link change and a read of registers are lent no log
+-- and add no record.
+pub record Made (t : Tables) (before log : List ℕ) (c : Call) (answer : Added) (after written : List ℕ) : Type 0 where
+  pub answered : answer ≡ addedOf (madeLeft before t (length log) c)
+  pub buffer : Leaves before after (madeLeft before t (length log) c)
+  pub logged : written ≡ loggedOn (madeLeft before t (length log) c .log) log
+
+-- The calls of a trace, each on the buffer that the one before left, with the same tables and the rest of the log, up to the first that is refused or cannot
+-- be read.
+pub data Directly (t : Tables) : List ℕ → List ℕ → Trace → List ℕ → List ℕ → Replayed → Type 0 where
+  done : {l log : List ℕ} → Directly t l log over l log (record { refusal = 0; at = 0; added = 0 })
+  unread : {l log : List ℕ} {n : ℕ} → Directly t l log (refused n) l log (record { refusal = n; at = 0; added = 0 })
+  stops : {l log l₁ log₁ : List ℕ} {c : Call} {n : ℕ} {rest : Trace} {a : Added} → Made t l log c a l₁ log₁ → (a .refusal ≡ 0 → ⊥)
+      → Directly t l log (then c n rest) l₁ log₁ (record { refusal = a .refusal; at = 0; added = 0 })
+  goes : {l log l₁ log₁ l₂ log₂ : List ℕ} {c : Call} {n : ℕ} {rest : Trace} {a : Added} {r : Replayed} → Made t l log c a l₁ log₁ → a .refusal ≡ 0
+      → Directly t l₁ (drop (a .added * 6) log₁) rest l₂ log₂ r
+      → Directly t l log (then c n rest) l₂ (take (a .added * 6) log₁ ++ log₂) (record { refusal = r .refusal; at = n + r .at; added = a .added + r .added })
+
+-- Two buffers, logs and answers with nothing between them: the same number, first byte and count, the same log, the same mesh, both with one or both without.
+pub record Alike (l₁ log₁ : List ℕ) (r₁ : Replayed) (l₂ log₂ : List ℕ) (r₂ : Replayed) : Type 0 where
+  pub answer : r₁ ≡ r₂
+  pub log : log₁ ≡ log₂
+  pub mesh : meshOf l₁ ≡ meshOf l₂
+  pub holds : holdsMesh l₁ ≡ holdsMesh l₂
+
+-- For every trace, buffer, log and tables.
+abbrev pub AsDirectly : Type 0
+AsDirectly = (t : Tables) (s l log l₁ log₁ l₂ log₂ : List ℕ) (r₁ r₂ : Replayed) → Directly t l log (traceOf s) l₁ log₁ r₁
+    → Replays l l₂ log log₂ r₂ (replayOf l t (length log) s)
+    → Alike l₁ log₁ r₁ l₂ log₂ r₂
+
+-- And a replay changes no word that its calls would not: two that meet the contract are alike, and where it stopped at its first record they are the same words.
+abbrev pub OneReplay : Type 0
+OneReplay = (t : Tables) (s l log l₁ log₁ l₂ log₂ : List ℕ) (r₁ r₂ : Replayed) → Replays l l₁ log log₁ r₁ (replayOf l t (length log) s)
+    → Replays l l₂ log log₂ r₂ (replayOf l t (length log) s)
+    → Alike l₁ log₁ r₁ l₂ log₂ r₂ × (r₁ .at ≡ 0 → l₁ ≡ l₂)
