@@ -29,6 +29,72 @@
 #include <stdbool.h>
 #endif
 
+/* Raised with each change that a caller can see; 2 brings kept traces. */
+#define YAGBOLSHEN_VERSION 2
+
+/* The refusals by name. */
+#define YB_ACCEPTED 0
+#define YB_NO_SOURCE 1      /* source 6 or above 7 */
+#define YB_PACKET_LENGTH 2
+#define YB_PACKET_TYPE 3
+#define YB_DIRECT 4         /* nearest neighbour packet with T = 1 */
+#define YB_ROWS 5           /* rows, routes or starts */
+#define YB_RANGE 6          /* phase, ready set, monitor or a packet's field */
+#define YB_SIZE 7           /* width, height or rounds in a phase */
+#define YB_NO_MESH 8
+#define YB_NOT_THERE 9      /* chip, link, counter or place */
+#define YB_LOG_ROOM 10
+#define YB_CODES 11
+#define YB_CUT_SHORT 12
+#define YB_RECORD_VERSION 13
+#define YB_RECORD 14
+#define YB_NO_ROOM 27
+
+/* Links lead from a chip at x, y to x + 1 east, y + 1 north, both north-east, and back; the mesh wraps. What is sent by
+ * link i arrives by link (i + 3) % 6. A source of 7 is the chip itself. */
+#define YB_EAST 0
+#define YB_NORTH_EAST 1
+#define YB_NORTH 2
+#define YB_WEST 3
+#define YB_SOUTH_WEST 4
+#define YB_SOUTH 5
+#define YB_LOCAL 7
+
+/* A route has bits 0 to 5 for links and 6 to 25 for processors 0 to 19. */
+#define YB_TO_LINK(link) ((uint32_t)1 << (link))
+#define YB_TO_PROCESSOR(processor) ((uint32_t)1 << (6 + (processor)))
+
+/* The control byte: bits 7:6 the kind; multicast has its mark in bits 5:4 (0 normal, 1 normal and emergency, 2 emergency,
+ * 3 second leg), point-to-point its sequence there, both their stamp in bits 3:2; nearest neighbour has T in bit 5 and its
+ * route in bits 4:2 (a link, 6 all links, 7 the monitor). Bit 1 says that a payload follows. Bit 0 is parity: all bits of a
+ * packet together hold an odd number of ones. */
+#define YB_KIND(control) ((control) >> 6 & 3)
+#define YB_MARK(control) ((control) >> 4 & 3)
+#define YB_STAMP(control) ((control) >> 2 & 3)
+#define YB_CARRIES 2
+#define YB_PARITY 1
+
+/* The six words of a log record. A chip's log records come one for each pass that reached a processor. */
+#define YB_LOG_CHIP 0
+#define YB_LOG_PROCESSORS 1 /* bit k for processor k */
+#define YB_LOG_ERRORS 2     /* 1 parity, 2 age, 4 length, 8 bad local, added */
+#define YB_LOG_CONTROL 3
+#define YB_LOG_WORD 4
+#define YB_LOG_PAYLOAD 5
+#define YB_LOG_WORDS 6
+
+/* The ten counters of a chip, each modulo 4,294,967,296. */
+#define YB_PASSES 0
+#define YB_PARITY_ERRORS 1
+#define YB_AGE_ERRORS 2
+#define YB_LENGTH_ERRORS 3
+#define YB_BAD_LOCAL 4
+#define YB_SENT 5
+#define YB_DELIVERED 6
+#define YB_DROPPED 7
+#define YB_SWALLOWED 8
+#define YB_LOCAL_MISSES 9
+
 #ifdef __cplusplus
 extern "C" {
 #endif
@@ -50,7 +116,7 @@ typedef struct {
     uint32_t control, word, payload, link, leg, more;
 } yb_registers;
 
-/* passes, parity, age, length, bad local, sent, delivered, dropped, swallowed, local misses */
+/* As YB_PASSES to YB_LOCAL_MISSES name them. */
 typedef struct {
     uint32_t count[10];
 } yb_counters;
@@ -154,12 +220,14 @@ typedef struct {
 /* Reads the bytes of a packet into fields. Refuses 2, 3, the first that applies. */
 yb_read yagbolshen_read(const uint8_t *packet, size_t packet_len);
 
-/* Packs fields into the bytes of a packet; reading and packing undo each other. Refuses 6, 3, the first that applies. */
+/* Packs fields into the bytes of a packet; reading and packing undo each other. The parity bit is a field like the others:
+ * packing takes it as it is given and sets nothing right. Refuses 6, 3, the first that applies. */
 yb_packed yagbolshen_pack(yb_fields fields);
 
 /* Passes one packet through one router. `source` is the link 0 to 5 that it came by, or 7 for a local one. `rows` has
  * three words a row: key, mask, route; `rows_len` counts words. `codes` has one P2P code for each of the width * height
- * chips, at y * width + x. `ready` has bit i for link i. Refuses 7, 6, 5, 11, 1, 2, 3, 4, the first that applies. */
+ * chips, at y * width + x. `monitor` is the number of the processor that watches the chip, 0 to 19; `ready` has bit i for
+ * link i. Refuses 7, 6, 5, 11, 1, 2, 3, 4, the first that applies. */
 yb_pass yagbolshen_pass(const uint8_t *packet, size_t packet_len, uint32_t source, uint32_t width, uint32_t height,
                         const uint32_t *rows, size_t rows_len, const uint8_t *codes, size_t codes_len,
                         uint32_t monitor, uint32_t phase, uint32_t ready);
@@ -178,7 +246,8 @@ yb_found yagbolshen_find(const yb_row *rows, size_t rows_len, uint32_t key);
 /* The words that a mesh needs. Refuses 7. */
 yb_size yagbolshen_size(uint32_t width, uint32_t height);
 
-/* Opens a mesh: links up, nothing in flight, registers and counters at zeros, phase 00. Answers the refusal, or 0.
+/* Opens a mesh: links up, nothing in flight, registers and counters at zeros, phase 00. `monitor` is a processor, 0 to 19,
+ * the same on every chip. Answers the refusal, or 0.
  * Refuses 7, 6, 8, the first that applies. */
 uint32_t yagbolshen_open(uint32_t *mesh, size_t mesh_len, uint32_t width, uint32_t height, uint32_t rounds_per_phase,
                          uint32_t monitor);
@@ -238,6 +307,37 @@ yb_record yagbolshen_read_record(const uint8_t *trace, size_t trace_len);
 yb_replayed yagbolshen_replay(uint32_t *mesh, size_t mesh_len, uint32_t *log, size_t log_len, const uint8_t *trace,
                               size_t trace_len, const uint32_t *rows, size_t rows_len, const uint32_t *starts,
                               size_t starts_len, const uint8_t *codes, size_t codes_len);
+
+/* All that is lent with the tables, as one struct, and the calls that take it. Fields that a program does not set are best
+ * zeros (`yb_tables tables = {0};`): a further table is one more field at the end, and zeros are none of it. */
+#ifndef YAGBOLSHEN_WITHOUT_INLINE
+typedef struct {
+    const uint32_t *rows;
+    size_t rows_len;
+    const uint32_t *starts;
+    size_t starts_len;
+    const uint8_t *codes;
+    size_t codes_len;
+} yb_tables;
+
+static inline yb_added yb_inject(uint32_t *mesh, size_t mesh_len, uint32_t *log, size_t log_len, uint32_t chip,
+                                 const uint8_t *packet, size_t packet_len, const yb_tables *tables) {
+    return yagbolshen_inject(mesh, mesh_len, log, log_len, chip, packet, packet_len, tables->rows, tables->rows_len,
+                             tables->starts, tables->starts_len, tables->codes, tables->codes_len);
+}
+
+static inline yb_added yb_round(uint32_t *mesh, size_t mesh_len, uint32_t *log, size_t log_len,
+                                const yb_tables *tables) {
+    return yagbolshen_round(mesh, mesh_len, log, log_len, tables->rows, tables->rows_len, tables->starts,
+                            tables->starts_len, tables->codes, tables->codes_len);
+}
+
+static inline yb_replayed yb_replay(uint32_t *mesh, size_t mesh_len, uint32_t *log, size_t log_len,
+                                    const uint8_t *trace, size_t trace_len, const yb_tables *tables) {
+    return yagbolshen_replay(mesh, mesh_len, log, log_len, trace, trace_len, tables->rows, tables->rows_len,
+                             tables->starts, tables->starts_len, tables->codes, tables->codes_len);
+}
+#endif
 
 #ifdef __cplusplus
 }
