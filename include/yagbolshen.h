@@ -8,7 +8,7 @@
  *
  *  1  source 6 or above 7                   7  width or height not 1 to 12, or rounds in a phase not 1 to 65,535
  *  2  packet length not 5 or 9              8  mesh buffer too short on opening, or later not holding a mesh
- *  3  packet type 3                         9  chip, link or counter number not there
+ *  3  packet type 3                         9  chip, link, counter or place in flight not there
  *  4  nearest neighbour packet with T = 1  10  log shorter than six numbers per packet in flight (injection: six)
  *  5  not whole rows, over 1,024 of them   11  P2P table of wrong size, or a code above 7
  *     for a chip, or route bit 26 to 31

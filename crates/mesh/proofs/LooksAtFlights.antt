@@ -1,5 +1,5 @@
 -- What a look at a packet in flight finds in a mesh's words. Assumes nothing.
-use mathlib.Core.Path.{_≡_, refl, sym, ap, _∙_}
+use mathlib.Core.Path.{_≡_, sym, ap, _∙_}
 use mathlib.Core.Bool.{Bool, cond}
 use mathlib.Core.List.{List, map}
 use Prim.Native.Nat.{ℕ, _+_, _*_, _≤_, _<_}
@@ -7,17 +7,13 @@ use native.Mathlib.Omega.{arith}
 use lib.ListN.{length, getD, drop, List·getD-map}
 use lib.Seq.{drop-drop}
 use borrow.Author.Tests.{lt-ltb, le-ltb, eq-eqb, ne-eqb}
-use Rattle.packet.specs.declared.Packet.{Packet}
 use Rattle.packet.specs.Bytes.{nothing}
 use Rattle.packet.specs.Refusal.{firstOf}
 use Rattle.links.specs.Line.{Flight, Line}
-use Rattle.links.specs.Words.{part, packetIn, placesIn, lineIn, linePlace, chipPlace}
+use Rattle.links.specs.Words.{part, packetIn, lineIn, linePlace, chipPlace}
 use Rattle.links.proofs.Places.{length-places}
-use Rattle.mesh.specs.declared.FlightRead.{FlightRead}
 use Rattle.mesh.specs.Layout.{meshOf}
 use Rattle.mesh.specs.Holding.{holdsMesh}
-use Rattle.mesh.specs.Chips.{lineWords}
-use Rattle.mesh.specs.Passing.{chipWords}
 use Rattle.mesh.specs.Going.{chipsOf}
 use Rattle.mesh.specs.Calls.{numberRefusals, lineOf, noFlight, placeRead, flightRead}
 use Rattle.mesh.proofs.Counts.{held-few}

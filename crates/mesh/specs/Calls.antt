@@ -4,7 +4,6 @@ use mathlib.Core.Bool.{Bool, cond, _&&_, not}
 use mathlib.Core.List.{List, [], _∷_, _++_, map}
 use lib.Dec.{eqb, ltb}
 use lib.ListN.{length, getD, drop, set}
-use Rattle.packet.specs.declared.Packet.{Packet}
 use Rattle.packet.specs.Bytes.{packetAt, nothing}
 use Rattle.packet.specs.Refusal.{Refusal, firstOf}
 use Rattle.tables.specs.Accept.{routesFine, startsFine, codesFine}

@@ -1,6 +1,6 @@
 -- What is tested once of the memory that is lent, and the numbers of an injection and a round as they follow from it.
 use Prim.Native.Nat.{ℕ, _*_}
-use mathlib.Core.Bool.{Bool, cond, not}
+use mathlib.Core.Bool.{cond, not}
 use mathlib.Core.List.{List}
 use lib.Dec.{eqb, ltb}
 use Rattle.packet.specs.Refusal.{firstOf}

@@ -2,10 +2,10 @@
 -- next state's after the call. Assumes nothing.
 use mathlib.Core.Path.{_≡_, refl, sym, ap, _∙_}
 use mathlib.Core.Bool.{Bool, true, false, cond}
-use mathlib.Core.List.{List, [], _∷_, map, foldl}
-use Prim.Native.Nat.{ℕ, zero, suc, _*_}
+use mathlib.Core.List.{List, [], _∷_, map}
+use Prim.Native.Nat.{ℕ}
 use lib.Dec.{eqb, ltb}
-use lib.ListN.{length, getD, set, replicate, length-map}
+use lib.ListN.{length, getD, set, length-map}
 use borrow.Author.Tests.{eqb-true, eqb-false}
 use Rattle.steps.specs.Errors.{flag}
 use Rattle.packet.specs.declared.Packet.{Packet}
@@ -23,7 +23,7 @@ use Rattle.mesh.specs.Calls as calls
 use Rattle.mesh.specs.Weights.{inFlight}
 use Rattle.mesh.specs.Going.{same}
 use Rattle.promises.specs.Asked.{Call, inject, round, setLink, readRegisters, readCounter, lookMesh, lookLink, lookFlight, ofAdded, ofRefusal, ofRegisters, ofCount, ofMesh, ofLink, ofFlight, leftBy, answerOf}
-use Rattle.promises.specs.History.{Tag, turned, tagNow, State, accepted, after}
+use Rattle.promises.specs.History.{Tag, turned, tagNow, accepted, after}
 use Rattle.promises.specs.Told.{plainFlight, plainLine, plainChip, plain, plainLeft}
 use Rattle.promises.specs.Demand3.{Forgetting, Program}
 use Rattle.promises.proofs.Plains.{map-set, plainGoing, plain-chip, plain-line, plain-ready, plain-flying, plain-with, plain-pass, plain-rounded}

@@ -6,11 +6,9 @@ use Prim.Native.Nat.{ℕ, _-_}
 use lib.Dec.{eqb}
 use lib.ListN.{length}
 use Rattle.mesh.specs.Mesh.{Mesh}
-use Rattle.mesh.specs.Layout.{meshOf}
-use Rattle.mesh.specs.Holding.{holdsMesh}
 use Rattle.mesh.specs.Steps.{Tables}
 use Rattle.mesh.specs.Going.{same}
-use Rattle.mesh.specs.Calls.{Left, injecting, rounding, linking, emptying}
+use Rattle.mesh.specs.Calls.{Left}
 use Rattle.trace.specs.declared.Call.{Call as KeptCall}
 use Rattle.trace.specs.Records.{packetOf}
 use Rattle.trace.specs.Replay.{Trace, over, refused, then, traceOf, making, Replay, stopped, behind, replaying, replayOf}

@@ -3,12 +3,12 @@ use mathlib.Core.Path.{_≡_, refl, sym, ap, _∙_, subst}
 use mathlib.Core.Bool.{true}
 use mathlib.Core.List.{List, [], _∷_, map, foldl}
 use Prim.Native.Nat.{ℕ, zero, suc, _*_}
-use lib.ListN.{length, replicate}
+use lib.ListN.{replicate}
 use Rattle.mesh.specs.Mesh.{fresh, opened}
 use Rattle.mesh.specs.Layout.{meshOf}
 use Rattle.mesh.specs.Holding.{holdsMesh}
 use Rattle.trace.specs.Replay.{replayOf, Replays}
-use Rattle.promises.specs.History.{Tag, State, after, begun}
+use Rattle.promises.specs.History.{Tag, State, begun}
 use Rattle.promises.specs.Told.{plainChip, plain}
 use Rattle.promises.specs.Sequence.{Step, call, replay, stepped, sequence, Run, ended, called, replayed}
 use Rattle.promises.specs.Demand3.{WholeRun}

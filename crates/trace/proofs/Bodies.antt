@@ -1,9 +1,9 @@
 -- Which kinds go with which body lengths and link states, kind by kind. Assumes nothing.
 use mathlib.Core.Path.{_≡_, refl, sym, ap, _∙_}
-use mathlib.Core.Logic.{_⊎_, inl, inr, ⊎-elim}
+use mathlib.Core.Logic.{_⊎_, inl, inr}
 use mathlib.Core.Bool.{Bool, true, false, _&&_, _||_, not, and-eq-true-iff}
 use mathlib.Core.List.{List}
-use Prim.Native.Nat.{ℕ, _+_, _≤_, _<_}
+use Prim.Native.Nat.{ℕ, _≤_, _<_}
 use native.Mathlib.Omega.{arith}
 use lib.Dec.{eqb, leb}
 use lib.ListN.{length, getD}
@@ -97,6 +97,3 @@ module _ (s : List ℕ) where
   pub injection-long : Readable s → (bodyLength s ≡ 9) ⊎ (bodyLength s ≡ 13) → 11 ≤ length s
   injection-long r (inl e) = omega (arith, r .whole)
   injection-long r (inr e) = omega (arith, r .whole)
-
-  pub nine-long : Readable s → bodyLength s ≡ 13 → 15 ≤ length s
-  nine-long r e = omega (arith, r .whole)

@@ -13,7 +13,7 @@ use Rattle.trace.specs.declared.Call.{Call}
 use Rattle.trace.specs.declared.Record.{Record}
 use Rattle.trace.specs.Records.{recordOf, recordRead}
 use Rattle.trace.specs.Replay.{Trace, over, refused, then, traceOf}
-use Rattle.trace.specs.BothWays.{writtenTrace, keeps, Writable, WrittenReads, ReadsWritten}
+use Rattle.trace.specs.BothWays.{writtenTrace, keeps, ReadsAs, none, more, Bytes, Writable, WrittenReads, ReadsWritten}
 use Rattle.trace.proofs.ReadThenWritten.{record-kept}
 use Rattle.trace.proofs.Traces.{trace-over, trace-step, trace-stop}
 use Rattle.trace.proofs.WrittenThenRead.{record-reads}
@@ -30,12 +30,12 @@ written-reads (c ∷ cs) w =
 
 -- The three ways in which a trace begins.
 data Begins (s : List ℕ) : Type 0 where
-  none : s ≡ [] → traceOf s ≡ over → Begins s
+  nothing : s ≡ [] → traceOf s ≡ over → Begins s
   some : recordRead s .refusal ≡ 0 → traceOf s ≡ then (recordRead s .call) (recordRead s .length) (traceOf (drop (recordRead s .length) s)) → Begins s
   stop : (n : ℕ) → traceOf s ≡ refused n → Begins s
 
 begins : (s : List ℕ) → Begins s
-begins [] = none refl (trace-over [] refl)
+begins [] = nothing refl (trace-over [] refl)
 begins (a ∷ l) = go (eqb (recordRead (a ∷ l) .refusal) 0) refl
   where
     go : (b : Bool) → eqb (recordRead (a ∷ l) .refusal) 0 ≡ b → Begins (a ∷ l)
@@ -44,7 +44,7 @@ begins (a ∷ l) = go (eqb (recordRead (a ∷ l) .refusal) 0) refl
 
 -- where nothing is kept there are no bytes
 empty-of : {s : List ℕ} → Begins s → traceOf s ≡ over → s ≡ []
-empty-of (none p t) e = p
+empty-of (nothing p t) e = p
 empty-of (some p t) e = cc
 empty-of (stop n t) e = cc
 
@@ -55,17 +55,20 @@ record First (s : List ℕ) (c : Call) (rest : Trace) : Type 0 where
   pub behind : traceOf (drop (recordRead s .length) s) ≡ rest
 
 first-of : {s : List ℕ} (c : Call) (n : ℕ) (rest : Trace) → Begins s → traceOf s ≡ then c n rest → First s c rest
-first-of c n rest (none p t) e = record { read = cc; call = cc; behind = cc }
+first-of c n rest (nothing p t) e = record { read = cc; call = cc; behind = cc }
 first-of c n rest (some p t) e = record { read = p; call = cc; behind = cc }
 first-of c n rest (stop m t) e = record { read = cc; call = cc; behind = cc }
 
-pub reads-written : ReadsWritten
-unfolding writtenTrace keeps All
-reads-written s bytes [] e = (empty-of (begins s) e, tt)
-reads-written s bytes (c ∷ cs) e =
-    let first = first-of c (length (recordOf c)) (keeps cs) (begins s) e in
-    let n = recordRead s .length in
+reads-back : (s : List ℕ) (bytes : Bytes s) (tr : Trace) (cs : List Call) → traceOf s ≡ tr → ReadsAs tr cs → (s ≡ writtenTrace cs) × All Writable cs
+unfolding writtenTrace All
+reads-back s bytes over [] e none = (empty-of (begins s) e, tt)
+reads-back s bytes (then c n rest) (d ∷ cs) e (more later) =
+    let first = first-of c n rest (begins s) e in
+    let k = recordRead s .length in
     let kept = record-kept s bytes (first .read) in
-    let behind = reads-written (drop n s) (λ i. rw getD-drop (bytes (n + i))) cs (first .behind) in
-    let joined = sym (take-append-drop n s) ∙ (λ i. sym (kept .written) i ++ behind .0 i) in
-    (joined ∙ ap (λ (d : Call). recordOf d ++ writtenTrace cs) (first .call), (subst Writable (first .call) (kept .writable), behind .1))
+    let behind = reads-back (drop k s) (λ i. rw getD-drop (bytes (k + i))) rest cs (first .behind) later in
+    let joined = sym (take-append-drop k s) ∙ (λ i. sym (kept .written) i ++ behind .0 i) in
+    (joined ∙ ap (λ (q : Call). recordOf q ++ writtenTrace cs) (first .call), (subst Writable (first .call) (kept .writable), behind .1))
+
+pub reads-written : ReadsWritten
+reads-written s bytes cs reads = reads-back s bytes (traceOf s) cs refl reads

@@ -3,7 +3,6 @@ use mathlib.Core.Path.{_≡_, refl, sym, ap, _∙_, subst}
 use mathlib.Core.Bool.{Bool, true, false, cond}
 use mathlib.Core.List.{List, []}
 use Prim.Native.Nat.{ℕ, _+_, _/_, _≤_}
-use native.Mathlib.Omega.{arith}
 use lib.Dec.{eqb, lit≤}
 use lib.ListN.{length, getD}
 use borrow.Author.Tests.{eq-eqb, ne-eqb}
@@ -15,7 +14,7 @@ use Rattle.mesh.specs.Calls.{Left, loggedOn}
 use Rattle.mesh.specs.Leaving.{Leaves}
 use Rattle.trace.specs.declared.Call.{Call}
 use Rattle.trace.specs.declared.Record.{Record}
-use Rattle.trace.specs.Records.{bodyLength, readRefusals, chipAt, fiveAt, nineAt, callOf, callAt, recordRead}
+use Rattle.trace.specs.Records.{bodyLength, readRefusals, chipAt, fiveAt, nineAt, callOf, recordRead}
 use Rattle.trace.specs.Replay.{madeLeft, oneLeft, OneDone}
 use Rattle.trace.proofs.MadeCalls.{Gives}
 

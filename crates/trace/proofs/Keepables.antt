@@ -3,14 +3,13 @@ use mathlib.Core.Path.{_≡_, refl, sym, ap, _∙_, subst}
 use mathlib.Core.Logic.{_⊎_, inl, inr}
 use mathlib.Core.Bool.{Bool, true, false, _&&_, _||_, and-eq-true-iff}
 use mathlib.Core.List.{List, [], _∷_}
-use Prim.Native.Nat.{ℕ, _+_, _-_, _/_, _%_, _≤_, _<_}
+use Prim.Native.Nat.{ℕ, _+_, _≤_, _<_}
 use native.Mathlib.Omega.{arith}
 use lib.Dec.{eqb, ltb, leb}
-use lib.ListN.{length, getD, take}
-use lib.Seq.{length-take-le}
+use lib.ListN.{length, getD}
 use borrow.Author.Tests.{eqb-true, eqb-false, ltb-true, leb-true}
 use Rattle.trace.specs.declared.Call.{Call}
-use Rattle.trace.specs.Records.{byKind, recordOf, fieldsFit, zerosPast, keepable}
+use Rattle.trace.specs.Records.{recordOf, fieldsFit, zerosPast, keepable}
 use Rattle.trace.proofs.ByKind.{by-1, by-2, by-3, by-else}
 
 -- The kinds of a call that is kept, each with what its fields are.

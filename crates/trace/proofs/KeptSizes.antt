@@ -1,22 +1,22 @@
 -- What every kept call keeps: the mesh's size; records of six numbers; and where one is accepted there is a mesh, where one is refused no record. Assumes nothing.
-use mathlib.Core.Path.{_≡_, refl, sym, ap, _∙_, subst}
+use mathlib.Core.Path.{_≡_, refl}
 use mathlib.Core.Bool.{Bool, true, false, cond, not}
-use mathlib.Core.List.{List, [], _∷_, _++_, foldl}
-use Prim.Native.Nat.{ℕ, _+_, _*_, _/_, _%_}
+use mathlib.Core.List.{List, [], _∷_, foldl}
+use Prim.Native.Nat.{ℕ, _%_}
 use native.Mathlib.Omega.{arith}
 use lib.Dec.{eqb, ltb}
 use lib.ListN.{length, length-append}
-use borrow.Author.Tests.{eqb-true, not-false}
-use Rattle.packet.specs.Refusal.{Refusal, firstOf}
+use borrow.Author.Tests.{eqb-true}
+use Rattle.packet.specs.Refusal.{firstOf}
 use Rattle.packet.specs.Bytes.{packetAt}
 use Rattle.steps.specs.declared.Outcome.{Outcome}
 use Rattle.steps.specs.Links.{processorsOf}
 use Rattle.mesh.specs.Mesh.{Mesh}
-use Rattle.mesh.specs.Steps.{Tables, Arrival, Going, outcomeAt, logOf, setAside, arrivals, passAt, passed, injected, rounded}
+use Rattle.mesh.specs.Steps.{Tables, Arrival, Going, outcomeAt, logOf, setAside, arrivals, passAt, injected, rounded}
 use Rattle.mesh.specs.Weights.{inFlight}
 use Rattle.mesh.specs.Calls.{Left, many, unless, withLink, withEmpty, injectRefusals, roundRefusals, linkRefusals, chipRefusals}
 use Rattle.trace.specs.declared.Call.{Call}
-use Rattle.trace.specs.Records.{byKind, packetOf}
+use Rattle.trace.specs.Records.{packetOf}
 use Rattle.trace.specs.Replay.{making}
 
 -- What is kept, of a mesh before and what a call leaves.

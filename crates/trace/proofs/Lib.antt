@@ -10,6 +10,7 @@ pub mod ReadRecords
 pub mod ReadThenWritten
 pub mod Replays
 pub mod SoFar
+pub mod Stops
 pub mod Traces
 pub mod WriteRecords
 pub mod WrittenThenRead

@@ -2,9 +2,9 @@
 use mathlib.Core.Path.{_≡_, refl, sym, ap, _∙_, subst}
 use mathlib.Core.List.{List, [], _∷_, _++_, append-nil, append-assoc}
 use Prim.Native.Nat.{ℕ, zero, suc, _+_, _-_, _*_, _/_, _≤_, _<_}
-use native.Mathlib.Nat.{add-assoc, add-zero}
+use native.Mathlib.Nat.{add-zero}
 use native.Mathlib.Omega.{arith}
-use lib.ListN.{length, getD, take, drop, length-append, length-drop, take-append-drop}
+use lib.ListN.{length, take, drop, length-append, length-drop, take-append-drop}
 use lib.Seq.{drop-drop, length-take-le, take-at, drop-at}
 use Rattle.mesh.specs.Mesh.{Mesh}
 use Rattle.mesh.specs.Layout.{meshOf, wordsFor}
@@ -14,7 +14,7 @@ use Rattle.mesh.specs.Calls.{Left, loggedOn}
 use Rattle.trace.specs.declared.Replayed.{Replayed}
 use Rattle.trace.specs.declared.replaying.Done.{Done}
 use Rattle.trace.specs.Records.{recordRead}
-use Rattle.trace.specs.Replay.{Trace, over, traceOf, Replay, stopped, behind, replaying, replayOf, Replays, oneLeft, OneDone}
+use Rattle.trace.specs.Replay.{traceOf, stopped, behind, replaying, replayOf, Replays, oneLeft, OneDone}
 use Rattle.trace.proofs.KeptSizes.{Keeps}
 use Rattle.trace.proofs.Traces.{read-within, trace-over}
 use Rattle.trace.proofs.SoFar.{onward, accepted-record, keeps-one, onward-step, onward-stop, SoFar}

@@ -1,33 +1,24 @@
--- A replay on its way: what the records up to a byte have done, and what is left for those from there on. One record more, the first that is refused,
--- and the end. Assumes nothing.
-use mathlib.Core.Path.{_≡_, refl, sym, ap, _∙_, subst}
+-- A replay on its way: what one record does, what the records up to a byte have done, and what is left for those from there on. Assumes nothing.
+use mathlib.Core.Path.{_≡_, refl, sym, ap, _∙_}
 use mathlib.Core.Bool.{Bool, true, false, cond}
-use mathlib.Core.List.{List, [], _∷_, _++_, append-nil, append-assoc}
-use Prim.Native.Nat.{ℕ, _+_, _-_, _*_, _/_, _%_, _≤_, _<_}
-use native.Mathlib.Nat.{add-assoc, zero-add, add-zero}
+use mathlib.Core.List.{List, []}
+use Prim.Native.Nat.{ℕ, _-_, _*_, _≤_, _<_}
+use native.Mathlib.Nat.{zero-add}
 use native.Mathlib.Omega.{arith}
 use lib.Dec.{eqb}
-use lib.ListN.{length, getD, take, drop, length-append, length-drop, take-append-drop}
-use lib.Seq.{drop-drop, length-take-le, take-at, drop-at}
+use lib.ListN.{length, getD, take, drop}
 use borrow.Author.Tests.{eq-eqb, ne-eqb, eqb-true}
-use Rattle.mesh.specs.declared.testing.Tested.{Tested}
 use Rattle.packet.specs.Refusal.{firstOf}
-use Rattle.mesh.specs.Mesh.{Mesh}
 use Rattle.mesh.specs.Layout.{meshOf, wordsFor}
 use Rattle.mesh.specs.Holding.{holdsMesh}
 use Rattle.mesh.specs.Steps.{Tables}
-use Rattle.mesh.specs.Going.{same, chipsOf}
-use Rattle.mesh.specs.Calls.{Left, tablesRefusals, loggedOn}
-use Rattle.mesh.specs.Leaving.{Leaves}
+use Rattle.mesh.specs.Going.{same}
+use Rattle.mesh.specs.Calls.{Left, tablesRefusals}
 use Rattle.mesh.specs.Testing.{testedOf}
-use Rattle.trace.specs.declared.Call.{Call}
-use Rattle.trace.specs.declared.Record.{Record}
-use Rattle.trace.specs.declared.Replayed.{Replayed}
-use Rattle.trace.specs.declared.replaying.Done.{Done}
 use Rattle.trace.specs.Records.{recordRead}
-use Rattle.trace.specs.Replay.{Trace, over, refused, then, traceOf, making, madeLeft, Replay, stopped, behind, replaying, replayOf, Replays, oneLeft, OneDone}
+use Rattle.trace.specs.Replay.{traceOf, madeLeft, Replay, stopped, behind, replaying, replayOf, oneLeft}
 use Rattle.trace.proofs.KeptSizes.{Keeps, keeps-made}
-use Rattle.trace.proofs.Traces.{read-within, trace-over, trace-step, trace-stop}
+use Rattle.trace.proofs.Traces.{trace-step, trace-stop}
 
 -- What a replay of the bytes s does on a buffer l with so much room, from where it stands.
 abbrev pub onward : Tables → List ℕ → ℕ → List ℕ → Replay

@@ -19,6 +19,11 @@ unfoldable pub keeps : List Call → Trace
 keeps [] = over
 keeps (c ∷ cs) = then c (length (recordOf c)) (keeps cs)
 
+-- A trace that is read as these calls to its end, whatever bytes each record takes.
+pub data ReadsAs : Trace → List Call → Type 0 where
+  none : ReadsAs over []
+  more : {c : Call} {n : ℕ} {rest : Trace} {cs : List Call} → ReadsAs rest cs → ReadsAs (then c n rest) (c ∷ cs)
+
 -- Bytes are numbers below 256; a call has nine of them.
 abbrev pub Bytes : List ℕ → Type 0
 Bytes s = (i : ℕ) → getD s i 0 < 256
@@ -32,4 +37,4 @@ abbrev pub WrittenReads : Type 0
 WrittenReads = (cs : List Call) → All Writable cs → traceOf (writtenTrace cs) ≡ keeps cs
 
 abbrev pub ReadsWritten : Type 0
-ReadsWritten = (s : List ℕ) → Bytes s → (cs : List Call) → traceOf s ≡ keeps cs → (s ≡ writtenTrace cs) × All Writable cs
+ReadsWritten = (s : List ℕ) → Bytes s → (cs : List Call) → ReadsAs (traceOf s) cs → (s ≡ writtenTrace cs) × All Writable cs

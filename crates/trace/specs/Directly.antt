@@ -2,23 +2,36 @@
 use Prim.Native.Nat.{ℕ, _+_, _*_}
 use mathlib.Core.Path.{_≡_}
 use mathlib.Core.List.{List, _++_}
-use lib.ListN.{length, take, drop}
+use lib.Dec.{eqb}
+use lib.ListN.{length, getD, take, drop}
 use Rattle.mesh.specs.declared.Added.{Added}
-use Rattle.mesh.specs.Layout.{meshOf}
+use Rattle.mesh.specs.declared.RegistersRead.{RegistersRead}
+use Rattle.mesh.specs.Layout.{meshOf, wordsFor}
 use Rattle.mesh.specs.Holding.{holdsMesh}
 use Rattle.mesh.specs.Steps.{Tables}
-use Rattle.mesh.specs.Calls.{addedOf, loggedOn}
-use Rattle.mesh.specs.Leaving.{Leaves}
+use Rattle.mesh.specs.Calls.{addedOf, loggedOn, registersRead}
+use Rattle.mesh.specs.Leaving.{Leaves, injectLeft, roundLeft, linkLeft, registersLeft}
 use Rattle.trace.specs.declared.Call.{Call}
 use Rattle.trace.specs.declared.Replayed.{Replayed}
-use Rattle.trace.specs.Replay.{Trace, over, refused, then, traceOf, madeLeft, replayOf, Replays}
+use Rattle.trace.specs.Records.{packetOf}
+use Rattle.trace.specs.Replay.{Trace, over, refused, then, traceOf, replayOf, Replays}
 
--- One call made by itself, by its contract: its number, the records added, buffer and log. A link change and a read of registers are lent no log
+-- One kept call made by itself, by the contract of the call that it is: injection, round, link change, read of registers. The last two are lent no log
 -- and add no record.
-pub record Made (t : Tables) (before log : List ℕ) (c : Call) (answer : Added) (after written : List ℕ) : Type 0 where
-  pub answered : answer ≡ addedOf (madeLeft before t (length log) c)
-  pub buffer : Leaves before after (madeLeft before t (length log) c)
-  pub logged : written ≡ loggedOn (madeLeft before t (length log) c .log) log
+pub data Made (t : Tables) (before log : List ℕ) (c : Call) : Added → List ℕ → List ℕ → Type 0 where
+  injected : {answer : Added} {after written : List ℕ} → c .kind ≡ 1 → answer ≡ addedOf (injectLeft before t (length log) (c .chip) (packetOf c))
+      → Leaves before after (injectLeft before t (length log) (c .chip) (packetOf c))
+      → written ≡ loggedOn (injectLeft before t (length log) (c .chip) (packetOf c) .log) log
+      → Made t before log c answer after written
+  rounded : {answer : Added} {after written : List ℕ} → c .kind ≡ 2 → answer ≡ addedOf (roundLeft before t (length log)) → Leaves before after (roundLeft before t (length log))
+      → written ≡ loggedOn (roundLeft before t (length log) .log) log
+      → Made t before log c answer after written
+  changed : {number : ℕ} {after : List ℕ} → c .kind ≡ 3 → number ≡ linkLeft before (c .chip) (c .link) (eqb (c .up) 1) .refusal
+      → Leaves before after (linkLeft before (c .chip) (c .link) (eqb (c .up) 1))
+      → Made t before log c (record { refusal = number; added = 0 }) after log
+  emptied : {read : RegistersRead} {after : List ℕ} → c .kind ≡ 4 → read ≡ registersRead (holdsMesh before) (meshOf before) (c .chip)
+      → Leaves before after (registersLeft before (c .chip))
+      → Made t before log c (record { refusal = read .refusal; added = 0 }) after log
 
 -- The calls of a trace, each on the buffer that the one before left, with the same tables and the rest of the log, up to the first that is refused or cannot
 -- be read.
@@ -44,8 +57,13 @@ AsDirectly = (t : Tables) (s l log l₁ log₁ l₂ log₂ : List ℕ) (r₁ r�
     → Replays l l₂ log log₂ r₂ (replayOf l t (length log) s)
     → Alike l₁ log₁ r₁ l₂ log₂ r₂
 
--- And a replay changes no word that its calls would not: two that meet the contract are alike, and where it stopped at its first record they are the same words.
+-- Two replays that meet the contract are alike; the words past the needed length are the same, and all words are where it stopped at its first record.
+pub record SameReplay (l l₁ log₁ : List ℕ) (r₁ : Replayed) (l₂ log₂ : List ℕ) (r₂ : Replayed) : Type 0 where
+  pub alike : Alike l₁ log₁ r₁ l₂ log₂ r₂
+  pub untouched : r₁ .at ≡ 0 → l₁ ≡ l₂
+  pub past : drop (wordsFor (getD l 0 0) (getD l 1 0)) l₁ ≡ drop (wordsFor (getD l 0 0) (getD l 1 0)) l₂
+
 abbrev pub OneReplay : Type 0
 OneReplay = (t : Tables) (s l log l₁ log₁ l₂ log₂ : List ℕ) (r₁ r₂ : Replayed) → Replays l l₁ log log₁ r₁ (replayOf l t (length log) s)
     → Replays l l₂ log log₂ r₂ (replayOf l t (length log) s)
-    → Alike l₁ log₁ r₁ l₂ log₂ r₂ × (r₁ .at ≡ 0 → l₁ ≡ l₂)
+    → SameReplay l l₁ log₁ r₁ l₂ log₂ r₂

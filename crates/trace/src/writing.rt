@@ -6,7 +6,7 @@ ghost use mathlib.Core.Bool.{true};
 ghost use mathlib.Core.List.{_++_};
 ghost use lib.ListN.{length, take, drop};
 ghost use Prim.Native.Nat.{_≤_};
-ghost use Rattle.trace.specs.Records.{zeroPast, zerosPast, fieldsFit, keepable, recordOf, writtenOf, writtenOn};
+ghost use Rattle.trace.specs.Records.{zerosPast, fieldsFit, keepable, recordOf, writtenOf, writtenOn};
 
 // Writes the record. Refusals, the first that applies: 14 a call that no record keeps as it is, 27 no room; then nothing is written.
 pub fn write_record(trace: &mut [u8], call: Call) -> Written

@@ -1,7 +1,7 @@
 use borrow.Author.Needs.{needs}
 use mathlib.Core.Path.{_∙_, sym}
 use native.Mathlib.Omega.{arith}
-use borrow.Author.Tests.{lt-ltb, le-ltb, not-true, not-false}
+use borrow.Author.Tests.{lt-ltb, le-ltb, not-false}
 use Rattle.mesh.proofs.Counts.{holds-size, words-enough}
 use Rattle.mesh.proofs.refusing.chip_refusal.Statement.{statement}
 use Rattle.mesh.proofs.refusing.chip_refusal.Tie as tie

@@ -1,6 +1,5 @@
 use borrow.Author.Needs.{needs}
 use mathlib.Core.Path.{_∙_, sym}
-use native.Mathlib.Omega.{arith}
 use Rattle.trace.proofs.Bodies.{of-injection, of-round, of-state, of-no-state, of-read, of-none, of-short}
 use Rattle.trace.proofs.reading.body_fine.Statement.{statement}
 use Rattle.trace.proofs.reading.body_fine.Tie as tie

@@ -3,7 +3,7 @@ use mathlib.Core.Path.{_∙_, sym}
 use native.Mathlib.Omega.{arith}
 use borrow.Author.Tests.{eq-eqb, ne-eqb}
 use Rattle.trace.specs.Records.{bodyLength}
-use Rattle.trace.proofs.Bodies.{injection-long, nine-long}
+use Rattle.trace.proofs.Bodies.{injection-long}
 use Rattle.trace.proofs.reading.injection_at.Statement.{statement}
 use Rattle.trace.proofs.reading.injection_at.Tie as tie
 

@@ -1,8 +1,5 @@
 use borrow.Author.Needs.{needs}
-use mathlib.Core.Path.{sym, ap}
-use Prim.Native.Nat.{_≤_}
 use Rattle.mesh.specs.Going.{tablesOf}
-use Rattle.trace.specs.declared.Record.{Record}
 use Rattle.trace.proofs.DoneRecords.{read-packet, record-refused, record-made}
 use Rattle.trace.proofs.replaying.replay_one.Statement.{statement}
 use Rattle.trace.proofs.replaying.replay_one.Tie as tie

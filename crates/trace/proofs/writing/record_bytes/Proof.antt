@@ -1,5 +1,5 @@
 use borrow.Author.Needs.{needs}
-use mathlib.Core.Path.{refl, _∙_, sym}
+use mathlib.Core.Path.{refl}
 use native.Mathlib.Omega.{arith}
 use Rattle.trace.proofs.Keepables.{kept, kind-small, chip-small, link-small, up-small, record-small}
 use Rattle.trace.proofs.WriteRecords.{link-laid, packet-laid}

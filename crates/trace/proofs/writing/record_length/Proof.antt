@@ -1,6 +1,5 @@
 use mathlib.Core.Path.{_∙_, sym, ap}
-use mathlib.Core.Logic.{_⊎_, inl, inr}
-use native.Mathlib.Omega.{arith}
+use mathlib.Core.Logic.{inl, inr}
 use Prim.Native.Nat.{ℕ, _+_}
 use Rattle.trace.proofs.Keepables.{kept, injection-length, long-injection, long-round, long-change, long-read, read-kind}
 use Rattle.trace.proofs.writing.record_length.Statement.{statement}
