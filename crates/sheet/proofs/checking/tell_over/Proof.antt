@@ -1,0 +1,58 @@
+-- The loop of `tell_over` goes through the chips.
+use Prim.Native.Nat.{_-_}
+use borrow.Author.Needs.{needs}
+use Rattle.sheet.proofs.checking.tell_over.Statement.{statement}
+use Rattle.sheet.proofs.checking.tell_over.Tie as tie
+
+abbrev Inv-loop : tie.InvT-loop
+Inv-loop b counts all over₀ chip₀ over chip = Unit {0}
+
+abbrev μ-loop : tie.MeasureT-loop
+μ-loop b counts all over₀ chip₀ over chip = all - chip
+
+chips-requires : tie.Need-chips-requires Inv-loop μ-loop
+chips-requires c κs = search needs
+
+loop-holds : tie.Need-loop-holds Inv-loop μ-loop
+loop-holds c = search needs
+
+cast-word-at : tie.Need-cast-word-at Inv-loop μ-loop
+cast-word-at c = search needs
+
+word-at-requires : tie.Need-word-at-requires Inv-loop μ-loop
+word-at-requires c κs = search needs
+
+over-at-requires : tie.Need-over-at-requires Inv-loop μ-loop
+over-at-requires c κs = search needs
+
+wrapping-add-u64-requires : tie.Need-wrapping-add-u64-requires Inv-loop μ-loop
+wrapping-add-u64-requires c κs = search needs
+
+add-chip : tie.Need-add-chip Inv-loop μ-loop
+add-chip c = search needs
+
+loop-less : tie.Need-loop-less Inv-loop μ-loop
+loop-less c = search needs
+
+loop-again : tie.Need-loop-again Inv-loop μ-loop
+loop-again c = search needs
+
+returns : tie.Need-returns Inv-loop μ-loop
+returns c = search needs
+
+pub tell-over-spec : {M : Type 1} → statement M
+tell-over-spec =
+    tie.close
+    (tie.spec
+    Inv-loop
+    μ-loop
+    chips-requires
+    loop-holds
+    cast-word-at
+    word-at-requires
+    over-at-requires
+    wrapping-add-u64-requires
+    add-chip
+    loop-less
+    loop-again
+    returns)

@@ -1,0 +1,245 @@
+// What is odd in FILE's tables, a line each. No call is made.
+use super::board::Board;
+use super::board::CODES;
+use super::board::ROWS;
+use super::board::STARTS;
+use super::board::chips;
+use super::board::times;
+use super::board::x_of;
+use super::board::y_of;
+use super::covering::coverer;
+use super::paths::PATH;
+use super::paths::path_in;
+use super::reading::Reading;
+use super::reading::read_counting;
+use super::sides::beyond;
+use super::sides::opposite;
+use super::storing::moved_together;
+use super::storing::word_of;
+use libc::STDOUT_FILENO;
+use script::cells::between;
+use script::cells::byte_at;
+use script::cells::word_at;
+use script::lines::LINE;
+use script::names::say_link;
+use script::pieces::PIECE;
+use script::say;
+use std::num::wrapping_add_u64;
+use std::num::wrapping_add_usize;
+
+// Answers 2 for a file that cannot be read or understood, 1 for tables that the model refuses, 0 for all others.
+pub fn check(
+    rows: &mut [u32; ROWS],
+    starts: &mut [u32; STARTS],
+    codes: &mut [u8; CODES],
+    piece: &mut [u8; PIECE],
+    line: &mut [u8; LINE],
+) -> u32 {
+    let mut path = [0u8; PATH];
+    let n = os::arg(2, &mut path);
+    let r = read_counting(path_in(&path, n), rows, starts, codes, piece, line);
+    if r.wrong != 0 {
+        return 2;
+    }
+    checked(r, rows, starts, codes)
+}
+
+fn checked(
+    r: Reading,
+    rows: &mut [u32; ROWS],
+    starts: &mut [u32; STARTS],
+    codes: &[u8; CODES],
+) -> u32 {
+    let b = r.board;
+    let over = tell_over(b, starts);
+    moved_together(rows, starts, chips(b));
+    let odd = wrapping_add_u64(
+        tell_chips(b, rows, starts),
+        tell_codes(r.p2p, between(codes, 0, times(chips(b), chips(b)) as usize)),
+    );
+    if over != 0 {
+        return 1;
+    }
+    if odd == 0 {
+        out(b"nothing odd\n");
+    }
+    0
+}
+
+// The chips with more than 1,024 rows: how many there are.
+fn tell_over(b: Board, counts: &[u32; STARTS]) -> u64 {
+    let all = chips(b);
+    let mut over = 0;
+    let mut chip = 0;
+    while chip < all {
+        over = wrapping_add_u64(over, over_at(b, chip, word_at(counts, chip as usize)));
+        chip += 1;
+    }
+    over
+}
+
+fn over_at(b: Board, chip: u32, count: u32) -> u64 {
+    if count <= 1024 {
+        return 0;
+    }
+    begin_chip(b, chip);
+    out(b": ");
+    say::small(STDOUT_FILENO, count);
+    out(b" rows, and a router takes 1,024: what follows is of the first 1,024\n");
+    1
+}
+
+// What is odd chip by chip: how many lines that is.
+fn tell_chips(b: Board, rows: &[u32; ROWS], starts: &[u32; STARTS]) -> u64 {
+    let all = chips(b);
+    let mut odd = 0;
+    let mut chip = 0;
+    while chip < all {
+        odd = wrapping_add_u64(odd, tell_chip(b, chip, rows, starts));
+        chip += 1;
+    }
+    odd
+}
+
+fn tell_chip(b: Board, chip: u32, rows: &[u32; ROWS], starts: &[u32; STARTS]) -> u64 {
+    let first = start_of(starts, chip);
+    let past = past_of(starts, chip);
+    if first < past {
+        tell_rows(b, chip, rows, first, past - first)
+    } else {
+        tell_ways_in(b, chip, rows, starts)
+    }
+}
+
+fn tell_rows(b: Board, chip: u32, rows: &[u32; ROWS], first: usize, count: usize) -> u64 {
+    let mut odd = 0;
+    let mut n = 0;
+    while n < count {
+        odd = wrapping_add_u64(odd, tell_row(b, chip, rows, first, n));
+        n += 1;
+    }
+    odd
+}
+
+fn tell_row(b: Board, chip: u32, rows: &[u32; ROWS], first: usize, n: usize) -> u64 {
+    let mut odd = 0;
+    if route_at(rows, first, n) == 0 {
+        begin_row(b, chip, n);
+        out(b": route has no bit\n");
+        odd = 1;
+    }
+    let by = coverer(rows, first, n);
+    if by < n {
+        begin_row(b, chip, n);
+        out(b": covered by row ");
+        say::number(STDOUT_FILENO, by as u64);
+        out(b"\n");
+        odd = wrapping_add_u64(odd, 1);
+    }
+    odd
+}
+
+// The links by which some row leads to a chip without rows.
+fn tell_ways_in(b: Board, chip: u32, rows: &[u32; ROWS], starts: &[u32; STARTS]) -> u64 {
+    let mut odd = 0;
+    let mut link = 0;
+    while link < 6 {
+        odd = wrapping_add_u64(odd, tell_way_in(b, chip, link, rows, starts));
+        link += 1;
+    }
+    odd
+}
+
+fn tell_way_in(b: Board, chip: u32, link: u32, rows: &[u32; ROWS], starts: &[u32; STARTS]) -> u64 {
+    let from = beyond(b, chip, link);
+    let by = opposite(link);
+    let first = start_of(starts, from);
+    let past = past_of(starts, from);
+    let row = leading_by(rows, first, past, by);
+    if past <= row {
+        return 0;
+    }
+    begin_chip(b, chip);
+    out(b": no rows, and ");
+    begin_row(b, from, minus(row, first));
+    out(b" leads to it by ");
+    say_link(STDOUT_FILENO, by);
+    out(b": default routing takes the packet on\n");
+    1
+}
+
+// The first of some rows whose route has a link, or the place past them.
+fn leading_by(rows: &[u32; ROWS], first: usize, past: usize, link: u32) -> usize {
+    let mut row = first;
+    while row < past {
+        if has_link(route_at(rows, row, 0), link) {
+            break;
+        }
+        row += 1;
+    }
+    row
+}
+
+// Says where no code leads anywhere, if the file speaks of P2P packets at all.
+fn tell_codes(p2p: bool, codes: &[u8]) -> u64 {
+    if !p2p {
+        return 0;
+    }
+    if first_code(codes) < codes.len() {
+        return 0;
+    }
+    out(b"codes: every one is nowhere, so no p2p packet goes anywhere\n");
+    1
+}
+
+// The place of the first code that leads somewhere, or the number of codes.
+fn first_code(codes: &[u8]) -> usize {
+    let mut i = 0;
+    while i < codes.len() {
+        if byte_at(codes, i) != 6 {
+            break;
+        }
+        i += 1;
+    }
+    i
+}
+
+fn begin_chip(b: Board, chip: u32) {
+    out(b"chip ");
+    say::place(STDOUT_FILENO, x_of(b, chip), y_of(b, chip));
+}
+
+fn begin_row(b: Board, chip: u32, n: usize) {
+    begin_chip(b, chip);
+    out(b" row ");
+    say::number(STDOUT_FILENO, n as u64);
+}
+
+fn route_at(rows: &[u32; ROWS], first: usize, n: usize) -> u32 {
+    word_at(rows, word_of(wrapping_add_usize(first, n)) + 2)
+}
+
+fn has_link(route: u32, link: u32) -> bool {
+    if link < 6 {
+        (route >> link) & 1 == 1
+    } else {
+        false
+    }
+}
+
+// Where a chip's rows start, and where they end.
+fn start_of(starts: &[u32; STARTS], chip: u32) -> usize {
+    word_at(starts, chip as usize) as usize
+}
+
+fn past_of(starts: &[u32; STARTS], chip: u32) -> usize {
+    word_at(starts, chip as usize + 1) as usize
+}
+
+fn minus(a: usize, b: usize) -> usize {
+    if b <= a { a - b } else { 0 }
+}
+
+fn out(t: &[u8]) {
+    say::text(STDOUT_FILENO, t);
+}

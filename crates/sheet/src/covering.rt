@@ -1,0 +1,38 @@
+// Rows that an earlier row of their table covers.
+use super::storing::word_of;
+use script::cells::word_at;
+use std::num::wrapping_add_usize;
+ghost use mathlib.Core.Path.{_≡_};
+ghost use Rattle.sheet.specs.Covering.{covers};
+
+// Which row of a table covers row n of it and stands before it: n where none does. The table starts at row `first` of all rows.
+pub fn coverer(rows: &[u32], first: usize, n: usize) -> usize {
+    let later = word_of(wrapping_add_usize(first, n));
+    let later_key = word_at(rows, later);
+    let later_mask = word_at(rows, later + 1);
+    let mut i = 0;
+    while i < n {
+        if covers_at(rows, wrapping_add_usize(first, i), later_key, later_mask) {
+            break;
+        }
+        i += 1;
+    }
+    i
+}
+
+fn covers_at(rows: &[u32], row: usize, later_key: u32, later_mask: u32) -> bool {
+    let at = word_of(row);
+    covers(
+        word_at(rows, at),
+        word_at(rows, at + 1),
+        later_key,
+        later_mask,
+    )
+}
+
+// Whether a row covers a later one: specs/Covered.antt has what follows from it.
+fn covers(key: u32, mask: u32, later_key: u32, later_mask: u32) -> bool
+    ensures { λ r. ⌜ r ≡ covers key mask «later_key» «later_mask» ⌝ }
+{
+    ((mask & later_mask) == mask) & ((later_key & mask) == (key & mask))
+}

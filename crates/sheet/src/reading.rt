@@ -1,0 +1,442 @@
+// FILE's first reading: every line is understood or refused, and the tables are kept.
+use super::board::Board;
+use super::board::CODES;
+use super::board::NO_CHIP;
+use super::board::ROWS;
+use super::board::STARTS;
+use super::board::chip_at;
+use super::board::chips;
+use super::board::no_board;
+use super::boards::CUT;
+use super::boards::FINE;
+use super::boards::Rows;
+use super::boards::TOO_MANY;
+use super::boards::UNREAD;
+use super::boards::read_rows;
+use super::paths::PATH;
+use super::paths::beside;
+use super::paths::path_in;
+use super::storing::keep_code;
+use super::storing::keep_row;
+use libc::STDERR_FILENO;
+use packet::control::kind_of;
+use script::cells::between;
+use script::complaints::begin;
+use script::complaints::complain;
+use script::complaints::err;
+use script::lines::LINE;
+use script::lines::LINE_THERE;
+use script::lines::Lines;
+use script::lines::lines_of;
+use script::lines::next_line;
+use script::parts::BY_NUMBER;
+use script::pieces::FAILED;
+use script::pieces::PIECE;
+use script::say;
+use script::statements::Statement;
+use script::statements::read_statement;
+use script::words::before_comment;
+use script::words::word;
+use std::num::wrapping_add_u32;
+use std::num::wrapping_sub_u32;
+
+// No more lines are told to be wrong.
+const MOST: u32 = 10;
+
+pub struct Reading {
+    pub lines: Lines,
+    pub board: Board,
+    // How many lines were wrong, and whether there is more to read.
+    pub wrong: u32,
+    pub going: bool,
+    // Whether rows past a chip's 1,024 are counted and not wrong.
+    pub counting: bool,
+    // Whether there are codes, or P2P packets.
+    pub p2p: bool,
+}
+
+// Reads FILE. Where something is wrong with it that is told, and the reading's `wrong` is not 0.
+pub fn read_file(
+    file: &[u8],
+    rows: &mut [u32; ROWS],
+    counts: &mut [u32; STARTS],
+    codes: &mut [u8; CODES],
+    piece: &mut [u8; PIECE],
+    line: &mut [u8; LINE],
+) -> Reading {
+    read_as(false, file, rows, counts, codes, piece, line)
+}
+
+// Reads FILE to look at its tables: a chip's rows are counted, and those past 1,024 are not wrong.
+pub fn read_counting(
+    file: &[u8],
+    rows: &mut [u32; ROWS],
+    counts: &mut [u32; STARTS],
+    codes: &mut [u8; CODES],
+    piece: &mut [u8; PIECE],
+    line: &mut [u8; LINE],
+) -> Reading {
+    read_as(true, file, rows, counts, codes, piece, line)
+}
+
+fn read_as(
+    counting: bool,
+    file: &[u8],
+    rows: &mut [u32; ROWS],
+    counts: &mut [u32; STARTS],
+    codes: &mut [u8; CODES],
+    piece: &mut [u8; PIECE],
+    line: &mut [u8; LINE],
+) -> Reading {
+    let fd = os::open_read(file);
+    if fd < 0 {
+        os::fail(file);
+        return unread(fd);
+    }
+    let r = read_lines(counting, fd, file, rows, counts, codes, piece, line);
+    libc::close(fd);
+    checked(r, file)
+}
+
+fn read_lines(
+    counting: bool,
+    fd: i32,
+    file: &[u8],
+    rows: &mut [u32; ROWS],
+    counts: &mut [u32; STARTS],
+    codes: &mut [u8; CODES],
+    piece: &mut [u8; PIECE],
+    line: &mut [u8; LINE],
+) -> Reading {
+    let mut r = begun(counting, fd);
+    let mut turns = u64::MAX;
+    while turns > 0 {
+        if !r.going {
+            break;
+        }
+        r = read_line(r, file, rows, counts, codes, piece, line);
+        turns -= 1;
+    }
+    r
+}
+
+fn begun(counting: bool, fd: i32) -> Reading {
+    let lines = lines_of(fd);
+    let board = no_board();
+    Reading {
+        lines,
+        board,
+        wrong: 0,
+        going: true,
+        counting,
+        p2p: false,
+    }
+}
+
+fn unread(fd: i32) -> Reading {
+    let mut r = begun(false, fd);
+    r.wrong = 1;
+    r
+}
+
+// What is left to say when all lines are read.
+fn checked(before: Reading, file: &[u8]) -> Reading {
+    let mut r = before;
+    let lines = r.lines;
+    let b = r.board;
+    if lines.state == FAILED {
+        os::fail(file);
+        r.wrong = 1;
+    }
+    if (r.wrong == 0) & (b.width == 0) {
+        err(b"the file has no mesh: mesh W H [phase F] [monitor M] is wanted first\n");
+        r.wrong = 1;
+    }
+    if MOST <= r.wrong {
+        err(b"and so on: reading ends here\n");
+    }
+    r
+}
+
+fn read_line(
+    before: Reading,
+    file: &[u8],
+    rows: &mut [u32; ROWS],
+    counts: &mut [u32; STARTS],
+    codes: &mut [u8; CODES],
+    piece: &mut [u8; PIECE],
+    line: &mut [u8; LINE],
+) -> Reading {
+    let now = before.lines;
+    let lines = next_line(now, piece, line);
+    let mut r = before;
+    r.lines = lines;
+    r.going = lines.state == LINE_THERE;
+    if !r.going {
+        return r;
+    }
+    if lines.long {
+        return too_long(r);
+    }
+    understood(
+        r,
+        file,
+        before_comment(between(line, 0, lines.length)),
+        rows,
+        counts,
+        codes,
+    )
+}
+
+fn understood(
+    before: Reading,
+    file: &[u8],
+    line: &[u8],
+    rows: &mut [u32; ROWS],
+    counts: &mut [u32; STARTS],
+    codes: &mut [u8; CODES],
+) -> Reading {
+    let s = read_statement(line);
+    let mut r = before;
+    r.p2p = r.p2p | is_p2p(s);
+    match s {
+        Statement::Nothing => r,
+        Statement::Wrong { wanted, at } => wrong_word(r, line, wanted, at),
+        Statement::Mesh {
+            width,
+            height,
+            phase,
+            monitor,
+        } => with_mesh(
+            r,
+            Board {
+                width,
+                height,
+                phase,
+                monitor,
+            },
+        ),
+        _ => with_table(r, s, file, line, rows, counts, codes),
+    }
+}
+
+// Whether a statement gives a code or sends a P2P packet.
+fn is_p2p(s: Statement) -> bool {
+    match s {
+        Statement::Code { .. } => true,
+        Statement::Send { packet, .. } => kind_of(packet.control) == 1,
+        _ => false,
+    }
+}
+
+fn with_table(
+    r: Reading,
+    s: Statement,
+    file: &[u8],
+    line: &[u8],
+    rows: &mut [u32; ROWS],
+    counts: &mut [u32; STARTS],
+    codes: &mut [u8; CODES],
+) -> Reading {
+    let b = r.board;
+    if b.width == 0 {
+        return wrong(
+            r,
+            b"the mesh is wanted first: mesh W H [phase F] [monitor M]\n",
+        );
+    }
+    match s {
+        Statement::Row {
+            x,
+            y,
+            key,
+            mask,
+            route,
+        } => with_row(r, x, y, key, mask, route, rows, counts),
+        Statement::Rows { x, y } => with_rows(r, x, y, file, word(line, 3), rows, counts),
+        Statement::Code {
+            x,
+            y,
+            to_x,
+            to_y,
+            code,
+        } => with_code(r, x, y, to_x, to_y, code, codes),
+        _ => r,
+    }
+}
+
+fn with_mesh(before: Reading, board: Board) -> Reading {
+    let b = before.board;
+    if b.width != 0 {
+        return wrong(
+            before,
+            b"the mesh stands in the file once, and is there already\n",
+        );
+    }
+    let mut r = before;
+    r.board = board;
+    r
+}
+
+fn with_row(
+    r: Reading,
+    x: u32,
+    y: u32,
+    key: u32,
+    mask: u32,
+    route: u32,
+    rows: &mut [u32; ROWS],
+    counts: &mut [u32; STARTS],
+) -> Reading {
+    let chip = chip_at(r.board, x, y);
+    if chip == NO_CHIP {
+        return off_mesh(r, x, y);
+    }
+    if keep_row(rows, counts, chip, key, mask, route) | r.counting {
+        return r;
+    }
+    wrong(
+        r,
+        b"the chip has 1,024 rows already, and a router takes no more\n",
+    )
+}
+
+fn with_code(
+    r: Reading,
+    x: u32,
+    y: u32,
+    to_x: u32,
+    to_y: u32,
+    code: u32,
+    codes: &mut [u8; CODES],
+) -> Reading {
+    let b = r.board;
+    let chip = chip_at(b, x, y);
+    if chip == NO_CHIP {
+        return off_mesh(r, x, y);
+    }
+    let to = chip_at(b, to_x, to_y);
+    if to == NO_CHIP {
+        return off_mesh(r, to_x, to_y);
+    }
+    keep_code(codes, chips(b), chip, to, code);
+    r
+}
+
+fn with_rows(
+    r: Reading,
+    x: u32,
+    y: u32,
+    file: &[u8],
+    name: &[u8],
+    rows: &mut [u32; ROWS],
+    counts: &mut [u32; STARTS],
+) -> Reading {
+    let chip = chip_at(r.board, x, y);
+    if chip == NO_CHIP {
+        return off_mesh(r, x, y);
+    }
+    let mut path = [0u8; PATH];
+    let n = beside(file, name, &mut path);
+    with_rows_of(r, chip, path_in(&path, n), rows, counts)
+}
+
+fn with_rows_of(
+    r: Reading,
+    chip: u32,
+    path: &[u8],
+    rows: &mut [u32; ROWS],
+    counts: &mut [u32; STARTS],
+) -> Reading {
+    let fd = os::open_read(path);
+    if fd < 0 {
+        return no_file(r, path);
+    }
+    let from = read_rows(fd, chip, rows, counts);
+    let after = with_trouble(r, from, path);
+    libc::close(fd);
+    after
+}
+
+fn with_trouble(r: Reading, from: Rows, path: &[u8]) -> Reading {
+    let mut trouble = from.trouble;
+    if (trouble == TOO_MANY) & r.counting {
+        trouble = FINE;
+    }
+    match trouble {
+        FINE => r,
+        UNREAD => no_file(r, path),
+        CUT => wrong(
+            r,
+            b"the file's length is no multiple of 16, and a row is 16 bytes\n",
+        ),
+        TOO_MANY => wrong(
+            r,
+            b"the chip has 1,024 rows before the file ends, and a router takes no more\n",
+        ),
+        _ => bad_route(r, from.count),
+    }
+}
+
+// A line that is wrong: its number, and what is wrong with it.
+fn wrong(before: Reading, what: &[u8]) -> Reading {
+    let r = begin_wrong(before);
+    err(what);
+    r
+}
+
+fn begin_wrong(before: Reading) -> Reading {
+    let mut r = before;
+    let lines = r.lines;
+    begin(lines.number);
+    r.wrong = wrapping_add_u32(r.wrong, 1);
+    r.going = r.wrong < MOST;
+    r
+}
+
+fn wrong_word(before: Reading, line: &[u8], wanted: u32, at: usize) -> Reading {
+    let r = begin_wrong(before);
+    complain(line, wanted, at);
+    r
+}
+
+fn too_long(r: Reading) -> Reading {
+    wrong(r, b"longer than 4,096 bytes: a line holds one statement\n")
+}
+
+fn no_file(before: Reading, path: &[u8]) -> Reading {
+    let r = begin_wrong(before);
+    os::fail(path);
+    r
+}
+
+fn bad_route(before: Reading, row: u64) -> Reading {
+    let r = begin_wrong(before);
+    err(b"row ");
+    say::number(STDERR_FILENO, row);
+    err(b" of the file has a route bit above 25: bits 0 to 5 are links, 6 to 25 processors\n");
+    r
+}
+
+fn off_mesh(before: Reading, x: u32, y: u32) -> Reading {
+    let r = begin_wrong(before);
+    let b = r.board;
+    err(b"there is no chip ");
+    if x == BY_NUMBER {
+        say::small(STDERR_FILENO, y);
+        err(b": chips go from 0 to ");
+        say::small(STDERR_FILENO, wrapping_sub_u32(chips(b), 1));
+    } else {
+        say::place(STDERR_FILENO, x, y);
+        tell_sides(b);
+    }
+    err(b"\n");
+    r
+}
+
+fn tell_sides(b: Board) {
+    err(b": x goes from 0 to ");
+    say::small(STDERR_FILENO, wrapping_sub_u32(b.width, 1));
+    err(b", y from 0 to ");
+    say::small(STDERR_FILENO, wrapping_sub_u32(b.height, 1));
+}
