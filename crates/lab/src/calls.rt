@@ -1,0 +1,192 @@
+// The calls that FILE makes, each told as it is made.
+use super::course::Course;
+use super::course::answered;
+use super::course::going_on;
+use super::deliveries::tell_deliveries;
+use super::keeping::injection;
+use super::keeping::kept;
+use super::keeping::link_change;
+use super::keeping::registers_read;
+use super::keeping::round_made;
+use super::telling::place;
+use super::telling::tell_packet;
+use super::telling::text;
+use kept::Registers;
+use libc::STDOUT_FILENO;
+use mesh::changing::read_registers;
+use mesh::changing::set_link;
+use mesh::looking::look_mesh;
+use mesh::moving::inject;
+use mesh::moving::round;
+use packet::control::carries_of;
+use script::cells::between;
+use script::names::say_link;
+use sheet::board::LOG;
+use sheet::board::WORDS;
+use sheet::board::x_of;
+use sheet::board::y_of;
+use std::num::wrapping_add_u64;
+
+// Injects the packet of so many bytes at a chip.
+pub fn send(
+    before: Course,
+    chip: u32,
+    bytes: [u8; 9],
+    length: u32,
+    mesh: &mut [u32; WORDS],
+    log: &mut [u32; LOG],
+    rows: &[u32],
+    starts: &[u32],
+    codes: &[u8],
+) -> Course {
+    let a = inject(
+        mesh,
+        log,
+        chip,
+        first_bytes(&bytes, length),
+        rows,
+        starts,
+        codes,
+    );
+    let mut c = answered(before, a.refusal);
+    if a.refusal == 0 {
+        c.injected = wrapping_add_u64(c.injected, 1);
+    }
+    c = kept(c, a.refusal, injection(chip, bytes, length));
+    tell_deliveries(c, log, a.added, false)
+}
+
+// The bytes of a packet, of the nine that it may have.
+pub fn first_bytes(bytes: &[u8; 9], count: u32) -> &[u8] {
+    between(bytes, 0, count as usize)
+}
+
+// So many rounds, up to the first that is refused.
+pub fn rounds(
+    before: Course,
+    count: u32,
+    mesh: &mut [u32; WORDS],
+    log: &mut [u32; LOG],
+    rows: &[u32],
+    starts: &[u32],
+    codes: &[u8],
+) -> Course {
+    let mut c = before;
+    let mut left = count;
+    while left > 0 {
+        c = one_round(c, mesh, log, rows, starts, codes);
+        if c.refused != before.refused {
+            break;
+        }
+        left -= 1;
+    }
+    c
+}
+
+// Rounds until nothing is in flight. No packet lives longer than twice the rounds in a phase and one more.
+pub fn until_quiet(
+    before: Course,
+    mesh: &mut [u32; WORDS],
+    log: &mut [u32; LOG],
+    rows: &[u32],
+    starts: &[u32],
+    codes: &[u8],
+) -> Course {
+    let c = rounds_until_quiet(before, mesh, log, rows, starts, codes);
+    if (c.refused == before.refused) & !is_quiet(mesh) {
+        text(b"packets are still in flight\n");
+    }
+    c
+}
+
+fn rounds_until_quiet(
+    before: Course,
+    mesh: &mut [u32; WORDS],
+    log: &mut [u32; LOG],
+    rows: &[u32],
+    starts: &[u32],
+    codes: &[u8],
+) -> Course {
+    let mut c = before;
+    let mut left = longest(before);
+    while left > 0 {
+        if is_quiet(mesh) {
+            break;
+        }
+        c = one_round(c, mesh, log, rows, starts, codes);
+        if c.refused != before.refused {
+            break;
+        }
+        left -= 1;
+    }
+    c
+}
+
+fn longest(c: Course) -> u64 {
+    let b = c.board;
+    b.phase as u64 * 2 + 1
+}
+
+pub fn is_quiet(mesh: &[u32; WORDS]) -> bool {
+    look_mesh(mesh).in_flight == 0
+}
+
+pub fn one_round(
+    before: Course,
+    mesh: &mut [u32; WORDS],
+    log: &mut [u32; LOG],
+    rows: &[u32],
+    starts: &[u32],
+    codes: &[u8],
+) -> Course {
+    let a = round(mesh, log, rows, starts, codes);
+    let mut c = answered(going_on(before), a.refusal);
+    if a.refusal == 0 {
+        c.rounds = wrapping_add_u64(c.rounds, 1);
+    }
+    c = kept(c, a.refusal, round_made());
+    tell_deliveries(c, log, a.added, true)
+}
+
+pub fn change_link(
+    before: Course,
+    chip: u32,
+    link: u32,
+    up: bool,
+    mesh: &mut [u32; WORDS],
+) -> Course {
+    let refusal = set_link(mesh, chip, link, up);
+    let c = answered(before, refusal);
+    kept(c, refusal, link_change(chip, link, up))
+}
+
+pub fn registers(before: Course, chip: u32, mesh: &mut [u32; WORDS]) -> Course {
+    let r = read_registers(mesh, chip);
+    let c = answered(before, r.refusal);
+    if r.refusal == 0 {
+        let b = c.board;
+        let found = r.registers;
+        text(b"registers ");
+        place(x_of(b, chip), y_of(b, chip));
+        tell_registers(found);
+    }
+    kept(c, r.refusal, registers_read(chip))
+}
+
+fn tell_registers(r: Registers) {
+    if (r.control == 0) & (r.word == 0) & (r.payload == 0) {
+        text(b": empty\n");
+        return;
+    }
+    text(b": dropped at link ");
+    say_link(STDOUT_FILENO, r.link);
+    if r.leg == 1 {
+        text(b" (second leg)");
+    }
+    text(b" ");
+    tell_packet(r.control, r.word, r.payload, carries_of(r.control) == 1);
+    if r.more == 1 {
+        text(b", more followed");
+    }
+    text(b"\n");
+}

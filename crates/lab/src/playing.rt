@@ -1,0 +1,241 @@
+// Calls made on the mesh and tables of FILE: those of FILE, kept as a trace or not, or those of a kept trace.
+use super::account::tell_account;
+use super::course::Course;
+use super::course::course_on;
+use super::following::follow_spike;
+use super::picture::draw;
+use super::replaying::replay_trace;
+use super::running::run_file;
+use mesh::opening::open;
+use script::cells::between;
+use script::complaints::err;
+use script::lines::LINE;
+use script::numbers::Value;
+use script::pieces::PIECE;
+use sheet::board::Board;
+use sheet::board::CODES;
+use sheet::board::LOG;
+use sheet::board::NO_CHIP;
+use sheet::board::ROWS;
+use sheet::board::STARTS;
+use sheet::board::WORDS;
+use sheet::board::chip_at;
+use sheet::board::chips;
+use sheet::board::times;
+use sheet::paths::PATH;
+use sheet::paths::path_in;
+use sheet::reading::read_file;
+use sheet::storing::first_words;
+use sheet::storing::moved_together;
+use sheet::storing::word_of;
+
+// The ways to play.
+pub const RUN: u32 = 0;
+
+pub const KEEP: u32 = 1;
+
+pub const REPLAY: u32 = 2;
+
+pub const WHERE: u32 = 3;
+
+pub const MAP: u32 = 4;
+
+// Reads FILE, and plays where nothing is wrong with it. Answers the status.
+pub fn play(
+    how: u32,
+    rows: &mut [u32; ROWS],
+    starts: &mut [u32; STARTS],
+    codes: &mut [u8; CODES],
+    mesh: &mut [u32; WORDS],
+    log: &mut [u32; LOG],
+    piece: &mut [u8; PIECE],
+    line: &mut [u8; LINE],
+) -> u32 {
+    let mut path = [0u8; PATH];
+    let n = os::arg(2, &mut path);
+    let file = path_in(&path, n);
+    let r = read_file(file, rows, starts, codes, piece, line);
+    if r.wrong != 0 {
+        return 2;
+    }
+    let b = r.board;
+    let count = moved_together(rows, starts, chips(b));
+    open(mesh, b.width, b.height, b.phase, b.monitor);
+    play_tables(
+        how,
+        file,
+        b,
+        count,
+        mesh,
+        log,
+        rows,
+        starts,
+        codes,
+        piece,
+        line,
+    )
+}
+
+// Plays with the tables cut to what is in use.
+fn play_tables(
+    how: u32,
+    file: &[u8],
+    b: Board,
+    count: usize,
+    mesh: &mut [u32; WORDS],
+    log: &mut [u32; LOG],
+    rows: &[u32],
+    starts: &[u32],
+    codes: &[u8],
+    piece: &mut [u8; PIECE],
+    line: &mut [u8; LINE],
+) -> u32 {
+    let own = first_words(rows, word_of(count));
+    let begin = first_words(starts, chips(b) as usize + 1);
+    let all = between(codes, 0, times(chips(b), chips(b)) as usize);
+    if how == WHERE {
+        return play_where(file, b, mesh, log, own, begin, all, piece, line);
+    }
+    let mut path = [0u8; PATH];
+    let n = os::arg(3, &mut path);
+    play_calls(
+        how,
+        file,
+        path_in(&path, n),
+        b,
+        mesh,
+        log,
+        own,
+        begin,
+        all,
+        piece,
+        line,
+    )
+}
+
+// Sets the links as FILE has them, and follows the spike that the arguments name.
+fn play_where(
+    file: &[u8],
+    b: Board,
+    mesh: &mut [u32; WORDS],
+    log: &mut [u32; LOG],
+    rows: &[u32],
+    starts: &[u32],
+    codes: &[u8],
+    piece: &mut [u8; PIECE],
+    line: &mut [u8; LINE],
+) -> u32 {
+    let chip = chip_asked(b);
+    let key = number_of_arg(5);
+    if (chip == NO_CHIP) | !key.good {
+        err(
+            b"where FILE X Y KEY: X and Y are those of a chip, and KEY is a number up to 0xffffffff\n",
+        );
+        return 2;
+    }
+    let fd = readable(file);
+    if fd < 0 {
+        return 2;
+    }
+    let mut c = course_on(b);
+    c.links = true;
+    c = run_file(fd, c, mesh, log, rows, starts, codes, piece, line);
+    libc::close(fd);
+    follow_spike(b, chip, key.value, mesh, log, rows, starts, codes);
+    if c.refused == 0 { 0 } else { 1 }
+}
+
+fn chip_asked(b: Board) -> u32 {
+    let x = number_of_arg(3);
+    let y = number_of_arg(4);
+    if x.good & y.good {
+        chip_at(b, x.value, y.value)
+    } else {
+        NO_CHIP
+    }
+}
+
+fn number_of_arg(i: usize) -> Value {
+    let mut word = [0u8; PATH];
+    let n = os::arg(i, &mut word);
+    script::numbers::number(path_in(&word, n))
+}
+
+// Opens what holds the calls, and what is to hold them.
+fn play_calls(
+    how: u32,
+    file: &[u8],
+    trace: &[u8],
+    b: Board,
+    mesh: &mut [u32; WORDS],
+    log: &mut [u32; LOG],
+    rows: &[u32],
+    starts: &[u32],
+    codes: &[u8],
+    piece: &mut [u8; PIECE],
+    line: &mut [u8; LINE],
+) -> u32 {
+    let from = opened_calls(how, file, trace);
+    if from < 0 {
+        return 2;
+    }
+    let mut c = course_on(b);
+    if how == KEEP {
+        c.trace = writable(trace);
+        if c.trace < 0 {
+            return 2;
+        }
+    }
+    let picture = if how == MAP { writable(trace) } else { from };
+    if picture < 0 {
+        return 2;
+    }
+    c = if how == REPLAY {
+        replay_trace(from, c, mesh, log, rows, starts, codes, piece)
+    } else {
+        run_file(from, c, mesh, log, rows, starts, codes, piece, line)
+    };
+    libc::close(from);
+    if how == MAP {
+        draw(picture, c, mesh);
+        libc::close(picture);
+    }
+    ended(c, trace, mesh)
+}
+
+fn opened_calls(how: u32, file: &[u8], trace: &[u8]) -> i32 {
+    if how == REPLAY {
+        readable(trace)
+    } else {
+        readable(file)
+    }
+}
+
+fn readable(path: &[u8]) -> i32 {
+    let fd = os::open_read(path);
+    if fd < 0 {
+        os::fail(path);
+    }
+    fd
+}
+
+fn writable(path: &[u8]) -> i32 {
+    let fd = os::open_overwrite(path);
+    if fd < 0 {
+        os::fail(path);
+    }
+    fd
+}
+
+// Tells the account. Answers the status.
+fn ended(c: Course, trace: &[u8], mesh: &[u32; WORDS]) -> u32 {
+    tell_account(c, mesh);
+    if c.unkept | c.unread {
+        os::fail(trace);
+        return 2;
+    }
+    if c.trace >= 0 {
+        libc::close(c.trace);
+    }
+    if c.refused == 0 { 0 } else { 1 }
+}
