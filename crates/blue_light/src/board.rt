@@ -1,13 +1,13 @@
 // The mesh of the story: 3 by 3 chips. Chip 0 sends key 1 by link 0, chip 1 has no row and lets it go straight on, chip 2
 // hands it to processor 1. The link that is watched, and taken down, is link 0 of chip 1.
+use buffer::changing::set_link;
+use buffer::looking::look_link;
+use buffer::looking::look_mesh;
+use buffer::looking::read_counter;
+use buffer::moving::inject;
+use buffer::moving::round;
+use buffer::opening::open;
 use mesh::LinkRead;
-use mesh::changing::set_link;
-use mesh::looking::look_link;
-use mesh::looking::look_mesh;
-use mesh::looking::read_counter;
-use mesh::moving::inject;
-use mesh::moving::round;
-use mesh::opening::open;
 use std::num::wrapping_add_u32;
 
 // No mesh needs more than 4,096 words a chip and 1,024 besides.

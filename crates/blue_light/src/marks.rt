@@ -4,9 +4,9 @@
 use super::board::CHIPS;
 use super::board::CODES;
 use super::board::WORDS;
-use mesh::changing::read_registers;
-use mesh::changing::set_link;
-use mesh::moving::round;
+use buffer::changing::read_registers;
+use buffer::changing::set_link;
+use buffer::moving::round;
 use packet::control::mark_of;
 
 pub fn mark_in_flight(mesh: &[u32; WORDS]) -> u32 {

@@ -4,9 +4,9 @@ use super::board::Totals;
 use super::board::WORDS;
 use super::board::watched_link;
 use super::marks::mark_in_flight;
+use buffer::looking::look_link;
+use buffer::looking::look_mesh;
 use libc::STDOUT_FILENO;
-use mesh::looking::look_link;
-use mesh::looking::look_mesh;
 use packet::control::mark_of;
 use std::num::wrapping_sub_u32;
 

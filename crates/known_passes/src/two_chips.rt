@@ -1,10 +1,10 @@
 // Case 14, and of case 15 the half about a link: W 2, H 1, F 2, and every chip has a row for key 1 to link 0.
-use mesh::looking::look_link;
-use mesh::looking::look_mesh;
-use mesh::looking::read_counter;
-use mesh::moving::inject;
-use mesh::moving::round;
-use mesh::opening::open;
+use buffer::looking::look_link;
+use buffer::looking::look_mesh;
+use buffer::looking::read_counter;
+use buffer::moving::inject;
+use buffer::moving::round;
+use buffer::opening::open;
 
 // No mesh needs more than 4,096 words a chip and 1,024 besides.
 const WORDS: usize = 9216;

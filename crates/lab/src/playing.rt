@@ -6,7 +6,7 @@ use super::following::follow_spike;
 use super::picture::draw;
 use super::replaying::replay_trace;
 use super::running::run_file;
-use mesh::opening::open;
+use buffer::opening::open;
 use script::cells::between;
 use script::complaints::err;
 use script::lines::LINE;

@@ -7,7 +7,7 @@ use super::records::RECORD_THERE;
 use super::records::Records;
 use super::records::next_record;
 use super::records::records_of;
-use mesh::opening::open;
+use buffer::opening::open;
 use script::cells::between;
 use script::pieces::FAILED;
 use script::pieces::PIECE;

@@ -1,5 +1,5 @@
 // What a chip has sent in the running round, four bits a link: with the state of a link that says whether it is ready.
-use mesh::looking::look_link;
+use buffer::looking::look_link;
 use sheet::board::WORDS;
 use std::num::wrapping_add_u32;
 

@@ -2,14 +2,10 @@
 use Prim.Native.Nat.{ℕ, zero, suc, _+_, _*_}
 use mathlib.Core.List.{List, [], _∷_}
 use lib.Dec.{eqb}
-use lib.ListN.{getD, take, drop}
+use lib.ListN.{getD, drop}
 use Rattle.packet.specs.declared.Packet.{Packet}
 use Rattle.packet.specs.Control.{carriesOf}
 use Rattle.links.specs.Line.{Flight, Line}
-
--- The n words from place a on.
-abbrev pub part : ℕ → ℕ → List ℕ → List ℕ
-part a n l = take n (drop a l)
 
 -- A packet in flight is three words: control byte, word, payload. It is right in length, so that bit 1 says how long it is.
 abbrev pub packetIn : List ℕ → Packet

@@ -7,7 +7,7 @@ use super::words::LINES;
 ghost use mathlib.Core.Path.{_≡_};
 ghost use mathlib.Core.Bool.{true};
 ghost use Prim.Native.Nat.{ℕ, _+_, _/_, _%_, _≤_, _<_};
-ghost use Rattle.router.specs.Call.{sizeFine};
+ghost use Rattle.tables.specs.Sizes.{sizeFine};
 ghost use Rattle.links.specs.Across.{stepEast, stepNorth, across, asidePlace};
 
 // The place of the count of what was set aside for the chip at x and y, on the link opposite to the one that it arrives by.

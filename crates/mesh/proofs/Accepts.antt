@@ -8,15 +8,13 @@ use lib.Dec.{eqb, lit<}
 use lib.ListN.{length, getD}
 use borrow.Author.Tests.{ltb-true, ltb-false, eqb-true, not-false}
 use Rattle.packet.specs.Bytes.{wordAt, packetAt, rightLength, usedType}
-use Rattle.packet.specs.Control.{kindOf}
+use Rattle.packet.specs.Control.{kindOf, isDirect}
 use Rattle.packet.specs.Refusal.{firstOf}
 use Rattle.packet.proofs.First.{none-applies}
 use Rattle.tables.specs.Accept.{allCodes, routesFine, startsFine, codesFine}
-use Rattle.router.specs.Call.{isDirect}
 use Rattle.mesh.specs.Steps.{Tables}
 use Rattle.mesh.specs.Sound.{Passable}
-use Rattle.mesh.specs.Going.{Lent}
-use Rattle.mesh.specs.Calls.{rowsLent, injectRefusals, roundRefusals}
+use Rattle.mesh.specs.Calls.{Lent, rowsLent, injectRefusals, roundRefusals}
 
 lent-tables : (t : Tables) (chips : ℕ) → rowsLent (t .rows) (t .starts) chips ≡ true → codesFine (t .codes) (chips * chips) ≡ true → Lent t chips
 lent-tables t chips rows codes =

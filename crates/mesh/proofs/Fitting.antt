@@ -1,4 +1,4 @@
--- A pass with the chip's own ready set fits the chip: there is room where it sends, and what it sends is right in length. Assumes nothing.
+-- A pass with the chip's own ready set fits the chip: there is room where it sends, and what it sends is right in length.
 use mathlib.Core.Path.{_≡_, refl, sym, ap, _∙_, subst}
 use mathlib.Core.Bool.{Bool, true, false, cond, _&&_, and-false, false≢true}
 use mathlib.Core.List.{List}
@@ -6,7 +6,6 @@ use Prim.Native.Nat.{ℕ, _%_, _^_, _<_}
 use native.Mathlib.Nat.{zero-div, zero-mod, mul-mod-right}
 use lib.Pow.{pow-add}
 use lib.Dec.{eqb}
-use lib.ListN.{length}
 use borrow.Author.Tests.{eqb-true, eqb-false, ne-eqb, not-false}
 use Rattle.packet.specs.declared.Packet.{Packet}
 use Rattle.packet.specs.Control.{carriesOf}
@@ -16,14 +15,10 @@ use Rattle.steps.specs.Detour.{carries, sends}
 use Rattle.steps.specs.Errors.{errorsOf, stampedOf}
 use Rattle.steps.specs.Wants.{wantedOf}
 use Rattle.steps.specs.Deciding.{isMc, legSet, decided, outcomeOf, packetOn, legPacket, Source, Checked}
-use Rattle.steps.proofs.Bounds.{outcome-sets}
 use Rattle.kept.proofs.OnePass as pass
-use Rattle.mesh.specs.Mesh.{readyOf}
-use Rattle.mesh.specs.Layout.{chipIn}
 use Rattle.links.specs.Lines.{Right}
-use Rattle.mesh.specs.Chips.{Takes}
-use Rattle.mesh.proofs.Sets.{has-set}
-use Rattle.mesh.proofs.Ready.{sent-ready, leg-ready, ready-room}
+use Rattle.steps.proofs.Sets.{has-set}
+use Rattle.steps.proofs.SentReady.{sent-ready, leg-ready}
 
 pub has-none : (i : ℕ) → has 0 i ≡ false
 has-none i = ap (λ (n : ℕ). eqb n 1) (ap (λ (n : ℕ). n % 2) (zero-div (2 ^ i)) ∙ zero-mod 2)
@@ -93,19 +88,3 @@ module _ (p : Packet) (s : ℕ) (rows codes : List ℕ) (t : Setting) (h : Check
   pub legs-ready : (i : ℕ) → i < 6 → has (outcomeOf p s rows codes t .leg) i ≡ true → has (t .ready) i ≡ true
   unfolding outcomeOf
   legs-ready i hi f = leg-ready (errorsOf p s (t .phase)) (stampedOf p s (errorsOf p s (t .phase)) (t .phase)) s (wantedOf (errorsOf p s (t .phase)) p s rows codes t) (t .ready) i hi f
-
-  -- so the pass fits the chip
-  pub takes : (l : List ℕ) → length l ≡ 322 → t .ready ≡ readyOf (chipIn l) → Takes l (outcomeOf p s rows codes t)
-  takes l long ready =
-      let o = outcome-sets p s rows codes t in
-      record {
-        long = long;
-        dropped = o .dropped;
-        lost = o .lost;
-        room = λ i hi. (λ sent. ready-room l i hi (by-ready i (sends-ready i hi sent)), λ leg. ready-room l i hi (by-ready i (legs-ready i hi leg)));
-        right = λ i hi sent. sent-right (sent-no-error i hi sent) i;
-        leg = λ i hi leg. leg-right (leg-no-error i hi leg);
-      }
-    where
-      by-ready : (i : ℕ) → has (t .ready) i ≡ true → has (readyOf (chipIn l)) i ≡ true
-      by-ready i f = ap (λ (r : ℕ). has r i) (sym ready) ∙ f

@@ -12,13 +12,14 @@ use Rattle.steps.specs.declared.Outcome.{Outcome}
 use Rattle.steps.specs.declared.Setting.{Setting}
 use Rattle.steps.specs.Links.{has}
 use Rattle.steps.specs.Deciding.{outcomeOf, packetOn, legPacket, Source, Checked}
-use Rattle.router.proofs.LowestFirst.{six}
+use Rattle.lists.proofs.Six.{six}
 use Rattle.links.specs.Line.{Flight, Line, idle, isReady, sent, lineAfter}
 use Rattle.mesh.specs.Mesh.{Chip, readyOf}
 use Rattle.mesh.specs.Steps.{linesAfter, chipAfter}
-use Rattle.mesh.specs.Sound.{All, Passable, SoundPacket, SoundLine, SoundChip}
-use Rattle.mesh.proofs.Alls.{all-append, all-getD}
-use Rattle.mesh.proofs.Sets.{has-set}
+use Rattle.lists.specs.Lists.{All}
+use Rattle.mesh.specs.Sound.{Passable, SoundPacket, SoundLine, SoundChip}
+use Rattle.lists.proofs.Alls.{all-append, all-getD}
+use Rattle.steps.proofs.Sets.{has-set}
 use Rattle.mesh.proofs.Fitting.{sends-ready, legs-ready}
 use Rattle.mesh.proofs.SoundSends.{sends-sound, legs-sound}
 use Rattle.mesh.proofs.SoundRegisters.{registers-kept}

@@ -9,13 +9,14 @@ use lib.Dec.{lit<}
 use lib.ListN.{getD}
 use borrow.Author.Tests.{ltb-true, eqb-true, not-true}
 use Rattle.packet.specs.declared.Packet.{Packet}
-use Rattle.router.proofs.Inputs as inputs
+use Rattle.tables.proofs.Sizes as sizes
 use Rattle.links.specs.Line.{idle}
 use Rattle.links.specs.Across.{across, opposite, stepEast, stepNorth}
 use Rattle.mesh.specs.Mesh.{Mesh, fresh}
 use Rattle.mesh.specs.Steps.{arrivingBy, arrivingAt, arrivingFrom, arrivals}
-use Rattle.mesh.specs.Sound.{All, Passable, Arrives, SoundPacket, SoundLine, SoundChip, SoundMesh}
-use Rattle.mesh.proofs.Alls.{all-nil, all-append, all-getD, all-map, all-weaken}
+use Rattle.lists.specs.Lists.{All}
+use Rattle.mesh.specs.Sound.{Passable, Arrives, SoundPacket, SoundLine, SoundChip, SoundMesh}
+use Rattle.lists.proofs.Alls.{all-nil, all-append, all-getD, all-map, all-weaken}
 
 pub sound-passable : {p : Packet} → SoundPacket p → Passable p
 sound-passable h =
@@ -44,8 +45,8 @@ module _ {A : Type 0} {m : Mesh A} (sound : SoundMesh m) where
       all-map (Arrives (m .height * m .width)) _ _
       (all-weaken (λ f. SoundPacket (f .packet)) _ (λ f p. record { there = hc; from = inl hs; passable = sound-passable p }) _ (line .fine))
     where
-      size : inputs.Size (m .width) (m .height)
-      size = inputs.size (m .width) (m .height) (sound .size)
+      size : sizes.Size (m .width) (m .height)
+      size = sizes.size (m .width) (m .height) (sound .size)
 
       sender : SoundChip (getD (m .chips) (across (m .width) (m .height) chip source) fresh)
       sender = all-getD SoundChip (m .chips) _ fresh (sound .chips) (subst (λ (n : ℕ). across (m .width) (m .height) chip source < n) (sym (sound .many)) (across-there (m .width) (m .height) chip source (size .width-low) (size .height-low)))

@@ -9,7 +9,7 @@ use Rattle.mesh.specs.Mesh.{Chip, Mesh, fresh}
 use Rattle.mesh.specs.Steps.{withChip}
 use Rattle.mesh.specs.Calls.{withLink, withEmpty}
 use Rattle.mesh.specs.Sound.{SoundLine, SoundChip, SoundMesh}
-use Rattle.mesh.proofs.Alls.{all-getD, all-set}
+use Rattle.lists.proofs.Alls.{all-getD, all-set}
 
 -- a chip changed, all else as it was
 sound-chip : {A : Type 0} {m : Mesh A} (chip : ℕ) (c : Chip A) → SoundMesh m → SoundChip c → SoundMesh (withChip m chip c)

@@ -19,8 +19,7 @@ use Rattle.steps.specs.Errors.{errorsOf, stampedOf}
 use Rattle.steps.specs.Deciding.{isMc, legSet, decided, outcomeOf, Source, Checked}
 use Rattle.kept.specs.Keeping.{isEmpty, dropCount, lowest, firstDrop, withMore, keptOf}
 use Rattle.kept.proofs.OnePass as pass
-use Rattle.mesh.specs.Holding.{registersFine}
-use Rattle.mesh.specs.Sound.{Passable}
+use Rattle.mesh.specs.Sound.{registersFine, Passable}
 use Rattle.mesh.proofs.Fitting.{no-link-wanted}
 use Rattle.mesh.proofs.SoundSends.{stamped-passable}
 

@@ -7,18 +7,17 @@ use native.Mathlib.Omega.{arith}
 use lib.Dec.{eqb, ltb}
 use borrow.Author.Tests.{ltb-true, eqb-true, eqb-false, lt-ltb, eq-eqb, ne-eqb}
 use Rattle.packet.specs.declared.Packet.{Packet}
-use Rattle.packet.specs.Control.{kindOf, markOf}
+use Rattle.packet.specs.Control.{kindOf, markOf, isDirect}
 use Rattle.packet.specs.Parity.{isOdd, withStamp}
 use Rattle.packet.proofs.Rewrite.{FieldSet, stamp-set}
 use Rattle.steps.specs.declared.Setting.{Setting}
 use Rattle.steps.specs.Links.{has, link}
-use Rattle.router.specs.Call.{isDirect}
 use Rattle.steps.specs.Errors.{errorsOf, stampedOf}
 use Rattle.steps.specs.Deciding.{isMc, hasLeg, legSet, decided, outcomeOf, packetOn, legPacket, Source, Checked}
 use Rattle.kept.proofs.OnePass as pass
 use Rattle.links.specs.Lines.{Right}
 use Rattle.mesh.specs.Sound.{Passable, SoundPacket}
-use Rattle.mesh.proofs.Sets.{has-set}
+use Rattle.steps.proofs.Sets.{has-set}
 use Rattle.mesh.proofs.Fitting.{has-none, stamped-right, sent-right, leg-right, sent-no-error, leg-no-error}
 
 -- a packet that may pass, right in length and parity, is sound

@@ -10,19 +10,19 @@ use lib.Dec.{eqb, ltb, leb, lit≤}
 use lib.ListN.{length, getD, take, drop, length-set, length-drop, length-replicate, length-map}
 use lib.Seq.{length-take-le}
 use borrow.Author.Tests.{ltb-true, leb-true}
-use Rattle.router.specs.Call.{sizeFine}
+use Rattle.tables.specs.Sizes.{sizeFine}
 use Rattle.steps.specs.Deciding.{Checked}
 use Rattle.steps.proofs.Bounds.{set-small}
 use Rattle.links.specs.Line.{Flight, Line, idle, isReady}
 use Rattle.links.specs.Phase.{nextPhase}
-use Rattle.mesh.specs.Mesh.{Chip, Mesh, fresh, opened}
+use Rattle.mesh.specs.Mesh.{Chip, Mesh, fresh, opened, roundsFine}
 use Rattle.mesh.specs.Steps.{Tables, Arrival, Going, rowsAt, codesAt, settingAt, emptied, emptiedChip, setAside, arrivals, roundOver, passAt, injected, passed, rounded}
-use Rattle.mesh.specs.Opening.{roundsFine}
-use Rattle.mesh.specs.Sound.{All, Passable, Arrives, SoundLine, SoundChip, SoundMesh}
-use Rattle.mesh.proofs.Alls.{all-nil, all-getD, all-set, all-map, all-weaken, all-replicate}
-use Rattle.mesh.proofs.StepAt.{source-near}
+use Rattle.lists.specs.Lists.{All}
+use Rattle.mesh.specs.Sound.{Passable, Arrives, SoundLine, SoundChip, SoundMesh}
+use Rattle.lists.proofs.Alls.{all-nil, all-getD, all-set, all-map, all-weaken, all-replicate}
+use Rattle.steps.proofs.Sources.{source-near}
 use Rattle.mesh.proofs.SoundAfter.{sound-after}
-use Rattle.router.proofs.Inputs as inputs
+use Rattle.tables.proofs.Sizes as sizes
 use Rattle.mesh.proofs.SoundArrivals.{sound-arrivals}
 
 -- a chip's codes are all there
@@ -122,7 +122,7 @@ module _ {A : Type 0} where
   pub checked : (t : Tables) (m : Mesh A) (a : Arrival A) → SoundMesh m → CodesFor t m → Arrives (m .height * m .width) a
       → Checked (a .flight .packet) (a .source) (codesAt t (m .height * m .width) (a .chip)) (settingAt m (getD (m .chips) (a .chip) fresh))
   checked t m a sound codes h =
-      let size = inputs.size (m .width) (m .height) (sound .size) in
+      let size = sizes.size (m .width) (m .height) (sound .size) in
       record {
         control = h .passable .control;
         from = source-near (a .source) (h .from);

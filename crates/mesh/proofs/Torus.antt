@@ -4,14 +4,15 @@ use Prim.Native.Nat.{ℕ, zero, suc, _+_, _*_, _≤_, _<_}
 use native.Mathlib.Nat.{add-zero, zero-add}
 use native.Mathlib.Omega.{arith}
 use lib.ListN.{length, getD}
-use Rattle.router.proofs.LowestFirst.{six}
+use Rattle.lists.proofs.Six.{six}
 use Rattle.links.specs.Line.{Flight, idle}
 use Rattle.links.specs.Across.{stepEast, stepNorth, across, opposite}
 use Rattle.mesh.specs.Mesh.{Chip, Mesh, fresh}
 use Rattle.mesh.specs.Steps.{Arrival, arrivingBy, arrivingAt, arrivingFrom, arrivals}
-use Rattle.mesh.specs.Weights.{total, onLine, onChip, onMesh, inFlight}
-use Rattle.mesh.proofs.Sums.{sumTo, sum-same, sum-add, sum-first, total-sum, sum-torus}
-use Rattle.mesh.proofs.Totals.{total-append, total-six, total-map, total-ones}
+use Rattle.lists.specs.Lists.{total}
+use Rattle.mesh.specs.Weights.{onLine, onChip, onMesh, inFlight}
+use Rattle.lists.proofs.Sums.{sumTo, sum-same, sum-add, sum-first, total-sum, sum-torus}
+use Rattle.lists.proofs.Totals.{total-append, total-six, total-map, total-ones}
 
 -- ---- six of one kind
 

@@ -1,15 +1,15 @@
 -- The calls on a mesh: what each refuses, in order; what it answers; the mesh and the records that it leaves.
 use Prim.Native.Nat.{ℕ, _*_, _/_}
-use mathlib.Core.Bool.{Bool, cond, _&&_, not}
+use mathlib.Core.Bool.{Bool, cond, _&&_, not, true}
 use mathlib.Core.List.{List, [], _∷_, _++_, map}
+use mathlib.Core.Path.{_≡_}
 use lib.Dec.{eqb, ltb}
 use lib.ListN.{length, getD, drop, set}
 use Rattle.packet.specs.Bytes.{packetAt, nothing}
-use Rattle.packet.specs.Refusal.{Refusal, firstOf}
+use Rattle.packet.specs.Refusal.{Refusal, firstOf, refuse, packetRefusals}
 use Rattle.tables.specs.Accept.{routesFine, startsFine, codesFine}
 use Rattle.steps.specs.Errors.{flag}
 use Rattle.kept.specs.Keeping.{empty}
-use Rattle.router.specs.Call.{refuse, packetRefusals}
 use Rattle.mesh.specs.declared.Added.{Added}
 use Rattle.mesh.specs.declared.RegistersRead.{RegistersRead}
 use Rattle.mesh.specs.declared.CountRead.{CountRead}
@@ -29,6 +29,11 @@ rowsLent rows starts chips = routesFine rows && startsFine starts chips (length 
 
 abbrev pub tablesRefusals : Tables → ℕ → List Refusal
 tablesRefusals t chips = refuse (not (rowsLent (t .rows) (t .starts) chips)) 5 ∷ refuse (not (codesFine (t .codes) (chips * chips))) 11 ∷ []
+
+-- Tables that were accepted.
+pub record Lent (t : Tables) (chips : ℕ) : Type 0 where
+  pub starts : startsFine (t .starts) chips (length (t .rows) / 3) ≡ true
+  pub codes : length (t .codes) ≡ chips * chips
 
 -- 10: "log shorter than six numbers per packet in flight (per injection: six)". `room` is the log's length.
 abbrev pub injectRefusals : Bool → ℕ → ℕ → Tables → ℕ → List ℕ → List Refusal

@@ -1,16 +1,5 @@
-pub mod Aside
 pub mod Calls
-pub mod Chips
-pub mod Going
-pub mod Held
-pub mod Holding
-pub mod Layout
-pub mod Leaving
-pub mod Logs
 pub mod Mesh
-pub mod Opening
-pub mod Passing
 pub mod Sound
 pub mod Steps
-pub mod Testing
 pub mod Weights

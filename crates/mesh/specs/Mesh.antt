@@ -1,7 +1,9 @@
 -- What a mesh is: chips in rows, six directed links a chip.
 use Prim.Native.Nat.{ℕ, _*_}
 use mathlib.Core.List.{List}
+use mathlib.Core.Bool.{Bool, _&&_}
 use lib.ListN.{getD, replicate}
+use lib.Dec.{leb}
 use Rattle.kept.specs.declared.Registers.{Registers}
 use Rattle.kept.specs.declared.Counters.{Counters}
 use Rattle.steps.specs.Links.{setOf}
@@ -23,6 +25,10 @@ pub record Mesh (A : Type 0) : Type 0 where
   pub phase : ℕ
   pub elapsed : ℕ
   pub chips : List (Chip A)
+
+-- "F, the rounds in a phase, is 1 to 65,535."
+abbrev pub roundsFine : ℕ → Bool
+roundsFine rounds = leb 1 rounds && leb rounds 65535
 
 module _ {A : Type 0} where
   -- "Links open up", and registers and counters at zeros.

@@ -3,24 +3,32 @@
 use Prim.Native.Nat.{ℕ, _*_, _≤_, _<_}
 use mathlib.Core.Path.{_≡_}
 use mathlib.Core.Logic.{_⊎_}
-use mathlib.Core.Bool.{true, false}
-use mathlib.Core.List.{List, [], _∷_}
-use lib.ListN.{length, getD}
+use mathlib.Core.Bool.{true, false, Bool, _&&_, _||_, not}
+use lib.ListN.{length}
+use lib.Dec.{eqb, ltb, leb}
 use Rattle.packet.specs.declared.Packet.{Packet}
-use Rattle.packet.specs.Control.{kindOf}
-use Rattle.router.specs.Call.{sizeFine, isDirect}
+use Rattle.packet.specs.Control.{kindOf, isDirect}
+use Rattle.packet.specs.Bytes.{usedType}
+use Rattle.packet.specs.Parity.{isOdd}
+use Rattle.tables.specs.Sizes.{sizeFine}
 use Rattle.links.specs.Line.{Flight, Line}
 use Rattle.links.specs.Lines.{Right}
-use Rattle.mesh.specs.Mesh.{Chip, Mesh}
+use Rattle.mesh.specs.Mesh.{Chip, Mesh, roundsFine}
 use Rattle.mesh.specs.Steps.{Arrival}
-use Rattle.mesh.specs.Chips.{lineWords}
-use Rattle.mesh.specs.Holding.{packetFine, registersFine}
-use Rattle.mesh.specs.Opening.{roundsFine}
-use Rattle.mesh.specs.Passing.{chipWords}
+use Rattle.kept.specs.declared.Registers.{Registers}
+use Rattle.kept.specs.Keeping.{isEmpty}
+use Rattle.lists.specs.Lists.{All}
 
-unfoldable pub All : {X : Type 0} → (X → Type 0) → List X → Type 0
-All P [] = Unit {0}
-All P (x ∷ xs) = P x × All P xs
+-- A packet in flight; its length is right as it is read, and a payload that is not there is 0.
+abbrev pub packetFine : Packet → Bool
+packetFine p =
+    ltb (p .control) 256 && usedType (p .control) && not (isDirect (p .control)) && isOdd p && (eqb (p .nine) 1 || eqb (p .payload) 0)
+
+-- Registers, number by number; "empty ones are all zeros".
+abbrev pub registersFine : Registers → Bool
+registersFine r =
+    ltb (r .control) 256 && ltb (r .link) 6 && leb (r .leg) 1 && leb (r .more) 1
+    && (not (isEmpty r) || (eqb (r .link) 0 && eqb (r .leg) 0 && eqb (r .more) 0))
 
 -- A packet that may pass: one in flight, or one that an injection has accepted.
 pub record Passable (p : Packet) : Type 0 where
@@ -58,7 +66,3 @@ module _ {A : Type 0} where
     pub elapsed : m .elapsed < m .rounds
     pub many : length (m .chips) ≡ m .height * m .width
     pub chips : All SoundChip (m .chips)
-
--- And of the words, which the mesh read from them does not tell: every link's state word is 0 or 1.
-abbrev pub StatesFine : List ℕ → Type 0
-StatesFine l = (c j : ℕ) → c < getD l 1 0 * getD l 0 0 → j < 6 → getD (lineWords j (chipWords c l)) 0 0 ≤ 1

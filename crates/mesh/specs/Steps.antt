@@ -24,6 +24,9 @@ pub record Tables : Type 0 where
   pub starts : List ℕ
   pub codes : List ℕ
 
+abbrev pub tablesOf : List ℕ → List ℕ → List ℕ → Tables
+tablesOf rows starts codes = record { rows = rows; starts = starts; codes = codes }
+
 abbrev pub rowsAt : Tables → ℕ → List ℕ
 rowsAt t c = take ((getD (t .starts) (c + 1) 0 - getD (t .starts) c 0) * 3) (drop (getD (t .starts) c 0 * 3) (t .rows))
 
@@ -47,6 +50,10 @@ pub record Arrival (A : Type 0) : Type 0 where
 pub record Going (A : Type 0) : Type 0 where
   pub mesh : Mesh A
   pub log : List ℕ
+
+-- The code's tags have one value, which no sending changes.
+abbrev pub same : Unit {0} → Unit {0}
+same u = u
 
 module _ {A : Type 0} where
   -- ---- one pass

@@ -1,12 +1,8 @@
 -- Sums over what is in flight: how many packets a mesh has in flight, or what they weigh together.
-use Prim.Native.Nat.{ℕ, _+_}
-use mathlib.Core.List.{List, [], _∷_}
+use Prim.Native.Nat.{ℕ}
+use Rattle.lists.specs.Lists.{total}
 use Rattle.links.specs.Line.{Flight, Line}
 use Rattle.mesh.specs.Mesh.{Chip, Mesh}
-
-unfoldable pub total : {X : Type 0} → (X → ℕ) → List X → ℕ
-total w [] = 0
-total w (x ∷ xs) = w x + total w xs
 
 module _ {A : Type 0} (w : Flight A → ℕ) where
   abbrev pub onLine : Line A → ℕ

@@ -1,19 +1,4 @@
-// A mesh of routers in a lent buffer of 32-bit words: a header, then a block for each chip. docs/LAYOUT.md has the layout.
-mod arriving;
-mod aside;
-pub mod changing;
-mod chip;
-mod flight;
-mod going;
-mod holding;
-mod logging;
-pub mod looking;
-pub mod moving;
-pub mod opening;
-mod passing;
-mod refusing;
-pub mod testing;
-
+// What a mesh is, what happens in it and what its calls answer: definitions and their laws. There is no code here but the structs of the answers.
 use kept::Registers;
 use packet::Packet;
 

@@ -1,7 +1,7 @@
--- Refusals are exact: the number that taking, reading and packing give is the first that applies. Assumes nothing.
-use mathlib.Core.Path.{_≡_, refl, sym, _∙_}
+-- Refusals are exact: the number that taking, reading and packing give is the first that applies.
+use mathlib.Core.Path.{_≡_, refl, sym, ap, _∙_}
 use mathlib.Core.Bool.{Bool, true, false, cond, not}
-use mathlib.Core.List.{List}
+use mathlib.Core.List.{List, [], _∷_}
 use Prim.Native.Nat.{ℕ, suc}
 use native.Mathlib.Omega.{arith}
 use lib.ListN.{getD}
@@ -14,7 +14,9 @@ use Rattle.packet.specs.declared.FieldsRead.{FieldsRead}
 use Rattle.packet.specs.Bytes.{rightLength, usedType, packetAt, notTaken, takenOf, packedAs}
 use Rattle.packet.specs.Fields.{fieldsOf, noFields, readFrom, readOf}
 use Rattle.packet.specs.Packing.{inRange, packetOf, notPacked, packedOf}
-use Rattle.packet.specs.Refusal.{firstOf, readRefusals, packRefusals}
+use Rattle.packet.specs.Control.{isDirect}
+use Rattle.packet.specs.Refusal.{refuse, firstOf, readRefusals, packetRefusals, packRefusals}
+use Rattle.packet.proofs.First.{first-append}
 
 pub take-refuses : (s : List ℕ) → takenOf s .refusal ≡ firstOf (readRefusals s)
 take-refuses s = go (rightLength s) (usedType (getD s 0 0))
@@ -50,6 +52,15 @@ take-refused s h = go (rightLength s) refl (usedType (getD s 0 0)) refl
     go true e true f = absurd (h (simp (e, f)))
     go true e false f = simp (e, f)
     go false e b f = simp e
+
+-- a packet that was taken and not refused is the one that stands in the bytes
+pub taken-whole : (bytes : List ℕ) (r : Taken) → r ≡ takenOf bytes → r .refusal ≡ 0 → r ≡ record { refusal = 0; packet = packetAt bytes }
+taken-whole bytes r e z = e ∙ take-accepts bytes (sym (ap (λ (x : Taken). x .refusal) e) ∙ z) .taken
+
+pub packet-first : (s : List ℕ) → firstOf (packetRefusals s) ≡ cond (eqb (takenOf s .refusal) 0) (cond (isDirect (getD s 0 0)) 4 0) (takenOf s .refusal)
+packet-first s =
+    first-append (readRefusals s) (refuse (isDirect (getD s 0 0)) 4 ∷ []) refl
+    ∙ ap (λ (n : ℕ). cond (eqb n 0) (cond (isDirect (getD s 0 0)) 4 0) n) (sym (take-refuses s))
 
 read-from-refuses : (t : Taken) → readFrom t .refusal ≡ t .refusal
 read-from-refuses t = go (eqb (t .refusal) 0) refl

@@ -2,12 +2,14 @@
 use super::Packed;
 use super::Packet;
 use super::Taken;
+use super::control::is_direct;
 use super::control::kind_of;
 ghost use mathlib.Core.Path.{_≡_};
 ghost use mathlib.Core.Bool.{cond};
 ghost use lib.ListN.{length};
 ghost use Prim.Native.Nat.{_+_, _/_, _%_, _≤_, _<_};
 ghost use Rattle.packet.specs.Bytes.{wordAt, packetAt, usedType, notTaken, takenOf, packedAs, packedBytes};
+ghost use Rattle.packet.specs.Refusal.{firstOf, packetRefusals};
 
 // The packet that stands in the bytes: 2 for a length other than 5 or 9, then 3 for type 11.
 pub fn take(s: &[u8]) -> Taken
@@ -45,6 +47,21 @@ pub fn not_taken(refusal: u32) -> Taken
         payload: 0,
     };
     Taken { refusal, packet }
+}
+
+// What a packet that is to pass is refused for, or 0: 2 length, 3 type 11, 4 NN with T = 1.
+pub fn packet_refusal(bytes: &[u8]) -> u32
+    ensures { λ r. ⌜ r ≡ firstOf (packetRefusals (now (bytes .entry))) ⌝ }
+{
+    let taken = take(bytes);
+    if taken.refusal != 0 {
+        return taken.refusal;
+    }
+    let p = taken.packet;
+    if is_direct(p.control) {
+        return 4;
+    }
+    0
 }
 
 // A byte as a number.

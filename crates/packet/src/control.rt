@@ -1,6 +1,6 @@
 // The control byte, the only place where it is shifted and masked: each field taken out, mark and stamp put in.
 ghost use mathlib.Core.Path.{_≡_};
-ghost use Rattle.packet.specs.Control.{kindOf, markOf, sequenceOf, stampOf, directOf, routeOf, carriesOf, parityOf, markIn, stampIn, parityIn};
+ghost use Rattle.packet.specs.Control.{kindOf, markOf, sequenceOf, stampOf, directOf, routeOf, carriesOf, parityOf, markIn, stampIn, parityIn, isDirect};
 ghost use Prim.Native.Nat.{_+_, _*_, _^_, _<_};
 
 pub fn kind_of(control: u32) -> u32
@@ -49,6 +49,13 @@ pub fn parity_of(control: u32) -> u32
     ensures { λ r. ⌜ r ≡ parityOf control ⌝ }
 {
     control & 1
+}
+
+// Whether the packet is NN with T = 1.
+pub fn is_direct(control: u32) -> bool
+    ensures { λ r. ⌜ r ≡ isDirect control ⌝ }
+{
+    (kind_of(control) == 2) & (direct_of(control) == 1)
 }
 
 pub fn mark_in(control: u32, mark: u32) -> u32

@@ -12,19 +12,20 @@ use borrow.Author.Tests.{lt-ltb}
 use Rattle.kept.specs.Counting.{delivered, swallowed}
 use Rattle.kept.specs.Keeping.{dropCount}
 use Rattle.kept.specs.Units.{weightIn, extra, ended, weightSent}
-use Rattle.router.proofs.Inputs as inputs
+use Rattle.tables.proofs.Sizes as sizes
 use Rattle.kept.proofs.OnePass as pass
 use Rattle.links.specs.Line.{idle}
 use Rattle.mesh.specs.Mesh.{Chip, Mesh, fresh, opened}
 use Rattle.mesh.specs.Steps.{Tables, Arrival, Going, rowsAt, codesAt, settingAt, outcomeAt, withChip, emptied, emptiedChip, setAside, arrivals, passAt}
 use Rattle.mesh.specs.Calls.{chipOf, lineOf, withUp, withLink, withEmpty}
-use Rattle.mesh.specs.Weights.{total, onLine, onChip, onMesh}
-use Rattle.mesh.specs.Sound.{All, Arrives, SoundMesh}
-use Rattle.mesh.proofs.Alls.{all-replicate}
+use Rattle.lists.specs.Lists.{total, All}
+use Rattle.mesh.specs.Weights.{onLine, onChip, onMesh}
+use Rattle.mesh.specs.Sound.{Arrives, SoundMesh}
+use Rattle.lists.proofs.Alls.{all-replicate}
 use Rattle.mesh.proofs.SoundArrivals.{sound-arrivals}
 use Rattle.mesh.proofs.SoundSteps.{CodesFor, checked, sound-aside, sound-pass}
 use Rattle.mesh.proofs.Torus.{arrivals-weigh}
-use Rattle.mesh.proofs.Totals.{total-map, total-set}
+use Rattle.lists.proofs.Totals.{total-map, total-set}
 use Rattle.promises.specs.History.{Tag, State, Event, turned, passages, emptied as read}
 use Rattle.promises.specs.Told.{sumOf}
 use Rattle.promises.specs.Demand3.{Account}
@@ -69,7 +70,7 @@ module _ {A : Type 0} (m : Mesh A) where
   -- what arrives in a round weighs what was in flight
   arrivals-weigh-in : SoundMesh m → total weightOf (arrivals m) ≡ onMesh weighed m
   arrivals-weigh-in sound =
-      let size = inputs.size (m .width) (m .height) (sound .size) in
+      let size = sizes.size (m .width) (m .height) (sound .size) in
       total-same weightOf (λ a. weighed (a .flight)) (Arriving (λ x. Unit {0})) (λ a h. simp (lt-ltb _ _ (h .0))) (arrivals m) (each-arrival (λ x. Unit {0}) m (each-any (λ x. Unit {0}) (λ x. tt) m))
       ∙ arrivals-weigh weighed m (size .width-low) (size .height-low) (sound .many) (λ k h. chip-sound sound k h .six)
 

@@ -10,7 +10,8 @@ use Rattle.packet.specs.Bytes.{packetAt}
 use Rattle.steps.specs.Deciding.{Checked}
 use Rattle.mesh.specs.Mesh.{Mesh, fresh}
 use Rattle.mesh.specs.Steps.{Tables, Arrival, Going, codesAt, settingAt, setAside, arrivals}
-use Rattle.mesh.specs.Sound.{All, Arrives, SoundMesh}
+use Rattle.lists.specs.Lists.{All}
+use Rattle.mesh.specs.Sound.{Arrives, SoundMesh}
 use Rattle.mesh.proofs.SoundArrivals.{sound-arrivals}
 use Rattle.mesh.proofs.SoundSteps.{CodesFor, checked, sound-aside, pass-head, passed-head}
 use Rattle.promises.specs.History.{Tag, Passage, State, turned, tagOf, passages}

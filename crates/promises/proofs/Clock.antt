@@ -8,10 +8,9 @@ use native.Mathlib.Decide.{ℕ-discrete}
 use native.Mathlib.Omega.{arith}
 use lib.Dec.{ltb, leb}
 use borrow.Author.Tests.{ltb-true, leb-true, ltb-false}
-use Rattle.mesh.specs.Mesh.{Chip, Mesh, opened}
+use Rattle.mesh.specs.Mesh.{Chip, Mesh, opened, roundsFine}
 use Rattle.links.specs.Phase.{nextPhase}
 use Rattle.mesh.specs.Steps.{withChips, roundOver}
-use Rattle.mesh.specs.Opening.{roundsFine}
 use Rattle.mesh.proofs.SoundSteps.{SameHead}
 use Rattle.promises.specs.Demand3.{span}
 

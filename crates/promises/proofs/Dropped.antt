@@ -14,8 +14,8 @@ use Rattle.kept.specs.declared.Registers.{Registers}
 use Rattle.steps.specs.Links.{has}
 use Rattle.kept.specs.Keeping.{empty, isEmpty, dropCount, lowest, firstDrop, withMore, keptOf}
 use Rattle.steps.proofs.Bounds.{Sets}
-use Rattle.mesh.specs.Sound.{All}
-use Rattle.mesh.proofs.Alls.{all-append, all-map}
+use Rattle.lists.specs.Lists.{All}
+use Rattle.lists.proofs.Alls.{all-append, all-map}
 use Rattle.promises.specs.Told.{unit, unitIf, unitsOf, droppedUnits, firstOfUnits}
 
 -- ---- the links of a set, lowest first

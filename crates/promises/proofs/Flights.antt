@@ -16,8 +16,9 @@ use Rattle.links.specs.Across.{across, opposite}
 use Rattle.mesh.specs.Mesh.{Chip, Mesh, fresh, opened}
 use Rattle.mesh.specs.Steps.{Tables, Arrival, Going, outcomeAt, linesAfter, emptied, emptiedChip, setAside, arrivingBy, arrivingAt, arrivingFrom, arrivals, passAt}
 use Rattle.mesh.specs.Calls.{chipOf, withLink, withEmpty}
-use Rattle.mesh.specs.Sound.{All, Arrives, SoundChip, SoundMesh}
-use Rattle.mesh.proofs.Alls.{all-nil, all-append, all-getD, all-set, all-map, all-weaken, all-replicate}
+use Rattle.lists.specs.Lists.{All}
+use Rattle.mesh.specs.Sound.{Arrives, SoundChip, SoundMesh}
+use Rattle.lists.proofs.Alls.{all-nil, all-append, all-getD, all-set, all-map, all-weaken, all-replicate}
 use Rattle.mesh.proofs.SoundSteps.{CodesFor, sound-pass}
 use Rattle.promises.specs.History.{Tag, Passage, turned, passages}
 use Rattle.promises.specs.Told.{EachFlight, EachPass}

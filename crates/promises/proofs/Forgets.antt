@@ -16,12 +16,11 @@ use Rattle.mesh.specs.declared.LinkRead.{LinkRead}
 use Rattle.mesh.specs.declared.FlightRead.{FlightRead}
 use Rattle.links.specs.Line.{Flight, Line, idle, isReady}
 use Rattle.mesh.specs.Mesh.{Chip, Mesh, fresh}
-use Rattle.mesh.specs.Layout.{meshOf}
-use Rattle.mesh.specs.Holding.{holdsMesh}
-use Rattle.mesh.specs.Steps.{Going, withChip, injected, rounded}
+use Rattle.buffer.specs.Layout.{meshOf}
+use Rattle.buffer.specs.Holding.{holdsMesh}
+use Rattle.mesh.specs.Steps.{Going, withChip, injected, rounded, same}
 use Rattle.mesh.specs.Calls as calls
 use Rattle.mesh.specs.Weights.{inFlight}
-use Rattle.mesh.specs.Going.{same}
 use Rattle.promises.specs.Asked.{Call, inject, round, setLink, readRegisters, readCounter, lookMesh, lookLink, lookFlight, ofAdded, ofRefusal, ofRegisters, ofCount, ofMesh, ofLink, ofFlight, leftBy, answerOf}
 use Rattle.promises.specs.History.{Tag, turned, tagNow, accepted, after}
 use Rattle.promises.specs.Told.{plainFlight, plainLine, plainChip, plain, plainLeft}

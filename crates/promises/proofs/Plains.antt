@@ -15,10 +15,10 @@ use Rattle.kept.specs.Counting.{countedOf}
 use Rattle.links.specs.Line.{Flight, Line, idle, isReady, sent, lineAfter}
 use Rattle.links.specs.Across.{across, opposite}
 use Rattle.mesh.specs.Mesh.{Chip, Mesh, fresh, readyOf}
-use Rattle.mesh.specs.Steps.{Tables, Arrival, Going, rowsAt, codesAt, outcomeAt, logOf, linesAfter, chipAfter, withChips, withChip, emptied, emptiedChip, setAside, arrivingBy, arrivingAt, arrivingFrom, arrivals, roundOver, passAt, passed, rounded}
-use Rattle.mesh.specs.Weights.{total, onLine, onChip, inFlight}
-use Rattle.mesh.specs.Going.{same}
-use Rattle.mesh.proofs.Totals.{total-map, total-ones}
+use Rattle.mesh.specs.Steps.{Tables, Arrival, Going, rowsAt, codesAt, outcomeAt, logOf, linesAfter, chipAfter, withChips, withChip, emptied, emptiedChip, setAside, arrivingBy, arrivingAt, arrivingFrom, arrivals, roundOver, passAt, passed, rounded, same}
+use Rattle.lists.specs.Lists.{total}
+use Rattle.mesh.specs.Weights.{onLine, onChip, inFlight}
+use Rattle.lists.proofs.Totals.{total-map, total-ones}
 use Rattle.promises.specs.Told.{plainFlight, plainLine, plainChip, plain}
 
 -- an element changed, and then every element's image

@@ -8,7 +8,7 @@ use Rattle.steps.specs.Links.{has}
 use Rattle.steps.specs.Deciding.{outcomeOf}
 use Rattle.links.specs.Line.{idle, isReady}
 use Rattle.mesh.specs.Steps.{logOf}
-use Rattle.mesh.proofs.Sets.{has-set}
+use Rattle.steps.proofs.Sets.{has-set}
 use Rattle.promises.specs.History.{Passage, Event, passed, emptied}
 use Rattle.promises.specs.Told.{EachPass, recordsOf}
 use Rattle.promises.specs.Demand3.{Log, NoStaleBlock}

@@ -19,8 +19,9 @@ use Rattle.kept.proofs.OnePass as pass
 use Rattle.mesh.specs.Mesh.{Chip, Mesh, fresh}
 use Rattle.mesh.specs.Steps.{Tables, Arrival, rowsAt, codesAt, settingAt, emptiedChip, passAt}
 use Rattle.mesh.specs.Calls.{withEmpty}
-use Rattle.mesh.specs.Sound.{All, Arrives, SoundMesh}
-use Rattle.mesh.proofs.Alls.{all-nil, all-append}
+use Rattle.lists.specs.Lists.{All}
+use Rattle.mesh.specs.Sound.{Arrives, SoundMesh}
+use Rattle.lists.proofs.Alls.{all-nil, all-append}
 use Rattle.mesh.proofs.SoundRegisters.{odd-some, error-drops-none}
 use Rattle.mesh.proofs.SoundSteps.{CodesFor, checked}
 use Rattle.promises.specs.History.{Tag, Event, passed, emptied, turned}

@@ -9,7 +9,8 @@ use lib.ListN.{getD, set}
 use Rattle.mesh.specs.Mesh.{Mesh, fresh, opened}
 use Rattle.mesh.specs.Steps.{Tables, Arrival, Going, rowsAt, codesAt, settingAt, outcomeAt, logOf, setAside, arrivals, roundOver, passAt}
 use Rattle.mesh.specs.Calls.{withLink, withEmpty}
-use Rattle.mesh.specs.Sound.{All, Arrives, SoundMesh}
+use Rattle.lists.specs.Lists.{All}
+use Rattle.mesh.specs.Sound.{Arrives, SoundMesh}
 use Rattle.mesh.proofs.SoundArrivals.{sound-arrivals}
 use Rattle.mesh.proofs.SoundSteps.{CodesFor, sound-aside, sound-pass}
 use Rattle.promises.specs.History.{Tag, Passage, Event, passed, emptied, turned, passages}

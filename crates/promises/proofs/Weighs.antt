@@ -17,13 +17,14 @@ use Rattle.steps.specs.Links.{has}
 use Rattle.steps.specs.Deciding.{isMc, decided, outcomeOf, markOn, packetOn, legPacket, Source, Checked}
 use Rattle.kept.specs.Units.{weight, overLinks, weightSent}
 use Rattle.steps.proofs.Bounds.{outcome-sets}
-use Rattle.router.proofs.LowestFirst.{six}
+use Rattle.lists.proofs.Six.{six}
 use Rattle.kept.proofs.OnePass as pass
 use Rattle.links.specs.Line.{Flight, Line, idle, sent, lineAfter}
 use Rattle.mesh.specs.Mesh.{Chip}
 use Rattle.mesh.specs.Steps.{linesAfter, chipAfter}
-use Rattle.mesh.specs.Weights.{total, onLine, onChip}
-use Rattle.mesh.proofs.Totals.{total-append}
+use Rattle.lists.specs.Lists.{total}
+use Rattle.mesh.specs.Weights.{onLine, onChip}
+use Rattle.lists.proofs.Totals.{total-append}
 use Rattle.mesh.proofs.Fitting.{has-none}
 
 -- ---- a chip after a pass

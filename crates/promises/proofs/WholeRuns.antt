@@ -5,8 +5,8 @@ use mathlib.Core.List.{List, [], _∷_, map, foldl}
 use Prim.Native.Nat.{ℕ, zero, suc, _*_}
 use lib.ListN.{replicate}
 use Rattle.mesh.specs.Mesh.{fresh, opened}
-use Rattle.mesh.specs.Layout.{meshOf}
-use Rattle.mesh.specs.Holding.{holdsMesh}
+use Rattle.buffer.specs.Layout.{meshOf}
+use Rattle.buffer.specs.Holding.{holdsMesh}
 use Rattle.trace.specs.Replay.{replayOf, Replays}
 use Rattle.promises.specs.History.{Tag, State, begun}
 use Rattle.promises.specs.Told.{plainChip, plain}

@@ -12,12 +12,11 @@ use Rattle.kept.specs.Keeping.{dropCount}
 use Rattle.kept.specs.Units.{weight, extra, ended}
 use Rattle.links.specs.Line.{idle, isReady}
 use Rattle.mesh.specs.Mesh.{Mesh, fresh, opened}
-use Rattle.mesh.specs.Layout.{meshOf}
-use Rattle.mesh.specs.Holding.{holdsMesh}
-use Rattle.mesh.specs.Steps.{Tables}
+use Rattle.buffer.specs.Layout.{meshOf}
+use Rattle.buffer.specs.Holding.{holdsMesh}
+use Rattle.mesh.specs.Steps.{Tables, same}
 use Rattle.mesh.specs.Weights.{onMesh}
-use Rattle.mesh.specs.Going.{same}
-use Rattle.mesh.specs.Leaving.{Leaves}
+use Rattle.buffer.specs.Leaving.{Leaves}
 use Rattle.promises.specs.Asked.{Call, leftBy, answerOf}
 use Rattle.trace.specs.declared.Replayed.{Replayed}
 use Rattle.trace.specs.Replay.{replayOf, Replays}

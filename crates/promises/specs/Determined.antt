@@ -20,22 +20,22 @@ use Rattle.mesh.specs.declared.CountRead.{CountRead}
 use Rattle.mesh.specs.declared.MeshRead.{MeshRead}
 use Rattle.mesh.specs.declared.LinkRead.{LinkRead}
 use Rattle.mesh.specs.declared.FlightRead.{FlightRead}
-use Rattle.mesh.specs.declared.opening.SizeRead.{SizeRead}
-use Rattle.mesh.specs.Layout.{meshOf, wordsFor}
-use Rattle.mesh.specs.Opening.{sizeOf, openRefusals, opening}
-use Rattle.mesh.specs.Holding.{holdsMesh}
+use Rattle.buffer.specs.declared.opening.SizeRead.{SizeRead}
+use Rattle.buffer.specs.Layout.{meshOf, wordsFor}
+use Rattle.buffer.specs.Opening.{sizeOf, openRefusals, opening}
+use Rattle.buffer.specs.Holding.{holdsMesh}
 use Rattle.mesh.specs.Sound.{SoundLine}
 use Rattle.mesh.specs.Calls.{Left, addedOf, loggedOn, many, chipOf, lineOf, registersRead, countRead, meshRead, linkRead, flightRead}
-use Rattle.mesh.specs.Leaving.{Leaves, linkLeft}
+use Rattle.buffer.specs.Leaving.{Leaves, linkLeft}
 use Rattle.trace.specs.declared.Call.{Call}
 use Rattle.trace.specs.declared.Written.{Written}
 use Rattle.trace.specs.declared.Record.{Record}
 use Rattle.trace.specs.Records.{writtenOf, writtenOn, recordRead}
 use Rattle.trace.specs.Directly.{OneReplay}
 use Rattle.trace.proofs.Directly.{one-replay}
-use Rattle.mesh.proofs.Alls.{all-getD}
+use Rattle.lists.proofs.Alls.{all-getD}
 use Rattle.mesh.proofs.SoundChanges.{chip-sound}
-use Rattle.mesh.proofs.SoundWords.{holds-sound}
+use Rattle.buffer.proofs.SoundWords.{holds-sound}
 
 pub pass-determined : (bytes : List ℕ) (source : ℕ) (rows codes : List ℕ) (t : Setting) (a b : Pass)
     → a ≡ passOf bytes source rows codes t → b ≡ passOf bytes source rows codes t → a ≡ b

@@ -11,9 +11,8 @@ use Rattle.packet.specs.declared.Packet.{Packet}
 use Rattle.packet.specs.Bytes.{packetAt}
 use Rattle.steps.specs.declared.Outcome.{Outcome}
 use Rattle.steps.specs.declared.Setting.{Setting}
-use Rattle.router.specs.Call.{sizeFine}
-use Rattle.mesh.specs.Mesh.{Chip, Mesh, fresh, opened}
-use Rattle.mesh.specs.Opening.{roundsFine}
+use Rattle.tables.specs.Sizes.{sizeFine}
+use Rattle.mesh.specs.Mesh.{Chip, Mesh, fresh, opened, roundsFine}
 use Rattle.mesh.specs.Steps.{Tables, Arrival, Going, rowsAt, codesAt, settingAt, outcomeAt, setAside, arrivals, passAt}
 use Rattle.mesh.specs.Calls as calls
 use Rattle.promises.specs.Asked.{Call, inject, round, setLink, readRegisters, readCounter, lookMesh, lookLink, lookFlight, leftBy, isInjection, isRound, handedIn}

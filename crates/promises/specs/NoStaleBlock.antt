@@ -21,7 +21,7 @@ use Rattle.mesh.specs.Steps.{Tables, rowsAt, codesAt, outcomeAt}
 use Rattle.mesh.specs.Calls.{many, chipOf, lineOf, withUp, withLink}
 use Rattle.mesh.specs.Sound.{SoundMesh}
 use Rattle.mesh.proofs.SoundChanges.{chip-sound}
-use Rattle.mesh.proofs.Sets.{has-set}
+use Rattle.steps.proofs.Sets.{has-set}
 use Rattle.steps.proofs.Ways.{OneWay, pass-way}
 
 -- of three ways that count to one, the first being taken, the others are not

@@ -6,10 +6,9 @@ use mathlib.Core.List.{List, [], _∷_, _++_, foldl}
 use lib.Dec.{eqb}
 use lib.ListN.{length}
 use Rattle.mesh.specs.Mesh.{Mesh}
-use Rattle.mesh.specs.Layout.{meshOf}
-use Rattle.mesh.specs.Steps.{Tables}
-use Rattle.mesh.specs.Going.{same}
-use Rattle.mesh.specs.Leaving.{Leaves}
+use Rattle.buffer.specs.Layout.{meshOf}
+use Rattle.mesh.specs.Steps.{Tables, same}
+use Rattle.buffer.specs.Leaving.{Leaves}
 use Rattle.trace.specs.declared.Call.{Call as KeptCall}
 use Rattle.trace.specs.declared.Replayed.{Replayed}
 use Rattle.trace.specs.Records.{byKind, packetOf}

@@ -22,7 +22,7 @@ use Rattle.links.specs.Line.{Flight, Line}
 use Rattle.mesh.specs.Mesh.{Chip, Mesh}
 use Rattle.mesh.specs.Steps.{logOf}
 use Rattle.mesh.specs.Calls.{Left}
-use Rattle.mesh.specs.Sound.{All}
+use Rattle.lists.specs.Lists.{All}
 use Rattle.promises.specs.History.{Passage, Event, passed, emptied}
 
 -- ---- copies

@@ -1,9 +1,9 @@
--- What is known of the inputs of the one-router call once nothing is refused. Assumes nothing.
+-- What is known of the inputs of the one-router call once nothing is refused.
 use mathlib.Core.Path.{_≡_, refl, sym, ap, _∙_}
 use mathlib.Core.Bool.{Bool, true, false, cond, and-eq-true-iff}
-use mathlib.Core.List.{List, [], _∷_}
-use Prim.Native.Nat.{ℕ, zero, suc, _*_, _≤_, _<_}
-use native.Mathlib.Nat.{mul-le-mul, le-of-eq}
+use mathlib.Core.List.{List}
+use Prim.Native.Nat.{ℕ, zero, suc, _*_, _<_}
+use native.Mathlib.Nat.{le-of-eq}
 use native.Mathlib.Omega.{arith}
 use lib.Dec.{eqb, leb}
 use lib.ListN.{length, getD}
@@ -11,26 +11,16 @@ use borrow.Author.Tests.{leb-true, eqb-true, eq-eqb, ne-eqb, not-false}
 use Rattle.packet.specs.declared.Packet.{Packet}
 use Rattle.packet.specs.declared.Taken.{Taken}
 use Rattle.packet.specs.Bytes.{packetAt, notTaken, takenOf}
-use Rattle.packet.specs.Refusal.{firstOf, readRefusals}
-use Rattle.packet.proofs.Refusals.{take-refuses, take-refused, take-accepts}
+use Rattle.packet.specs.Refusal.{firstOf, packetRefusals}
+use Rattle.packet.proofs.Refusals.{packet-first, take-refused}
 use Rattle.packet.proofs.First.{first-append, none-applies}
 use Rattle.tables.specs.Accept.{rowsFine, codesFine, allCodes}
 use Rattle.steps.specs.declared.Setting.{Setting}
 use Rattle.steps.specs.Deciding.{Checked}
-use Rattle.router.specs.Call.{sizeFine, settingFine, sourceFine, isDirect, refuse, settingRefusals, packetRefusals, passRefusals, checkedOf}
-
-pub record Size (width height : ℕ) : Type 0 where
-  pub width-low : 1 ≤ width
-  pub width-high : width ≤ 12
-  pub height-low : 1 ≤ height
-  pub height-high : height ≤ 12
-
-pub size : (width height : ℕ) → sizeFine width height ≡ true → Size width height
-size width height e = omega (arith, leb-true, simp and-eq-true-iff at e)
-
--- a mesh has at most 144 chips
-pub chips-small : (width height : ℕ) → sizeFine width height ≡ true → height * width ≤ 144
-chips-small width height e = let s : Size width height = size width height e in mul-le-mul (s .height-high) (s .width-high)
+use Rattle.tables.specs.Sizes.{sizeFine}
+use Rattle.tables.proofs.Sizes.{Size, size}
+use Rattle.router.specs.Call.{settingFine, sourceFine, settingRefusals, passRefusals, checkedOf}
+use Rattle.packet.specs.Control.{isDirect}
 
 source-small : (source : ℕ) → sourceFine source ≡ true → source < 8
 source-small source e = go (leb source 5) refl
@@ -91,11 +81,9 @@ module _ (bytes : List ℕ) (source : ℕ) (rows codes : List ℕ) (t : Setting)
     by-packet : checkedOf bytes source rows codes t ≡ found (cond (eqb (takenOf bytes .refusal) 0) (cond (isDirect (getD bytes 0 0)) 4 0) (takenOf bytes .refusal))
     unfolding checkedOf found
     by-packet =
-        let packet : firstOf (packetRefusals bytes) ≡ cond (eqb (takenOf bytes .refusal) 0) (cond (isDirect (getD bytes 0 0)) 4 0) (takenOf bytes .refusal) =
-        rw (take-refuses bytes) (first-append (readRefusals bytes) (refuse (isDirect (getD bytes 0 0)) 4 ∷ []) refl) in
         let first : firstOf (passRefusals bytes source rows codes t) ≡ firstOf (packetRefusals bytes) =
         first-append (settingRefusals source rows codes t) (packetRefusals bytes) refl ∙ simp fine-setting in
-        ap found (first ∙ packet)
+        ap found (first ∙ packet-first bytes)
 
     pub refused-packet : (takenOf bytes .refusal ≡ 0 → ⊥) → checkedOf bytes source rows codes t ≡ takenOf bytes
     unfolding found
@@ -108,10 +96,6 @@ module _ (bytes : List ℕ) (source : ℕ) (rows codes : List ℕ) (t : Setting)
     pub accepted : takenOf bytes .refusal ≡ 0 → isDirect (getD bytes 0 0) ≡ false → checkedOf bytes source rows codes t ≡ record { refusal = 0; packet = packetAt bytes }
     unfolding found
     accepted e d = by-packet ∙ simp (eq-eqb _ _ e, d)
-
--- a packet that was taken and not refused is the one that stands in the bytes
-pub taken-whole : (bytes : List ℕ) (r : Taken) → r ≡ takenOf bytes → r .refusal ≡ 0 → r ≡ record { refusal = 0; packet = packetAt bytes }
-taken-whole bytes r e z = e ∙ take-accepts bytes (sym (ap (λ (x : Taken). x .refusal) e) ∙ z) .taken
 
 -- where nothing is refused, each test has passed, and the packet is the one that stands in the bytes
 pub record Passed (bytes : List ℕ) (source : ℕ) (rows codes : List ℕ) (t : Setting) : Type 0 where

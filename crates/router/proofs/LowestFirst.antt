@@ -1,4 +1,4 @@
--- A set of links gone through lowest first, and what is shown of the links passed so far. Assumes nothing.
+-- A set of links gone through lowest first, and what is shown of the links passed so far.
 use mathlib.Core.Path.{_≡_, refl, sym, _∙_, subst}
 use mathlib.Core.Bool.{Bool, true, false, cond, _&&_, _||_, not, and-true, and-false, and-not-self, and-eq-true-iff}
 use mathlib.Core.List.{List, [], _∷_}
@@ -7,7 +7,7 @@ use native.Mathlib.Omega.{arith}
 use lib.Bits.{bitAnd}
 use lib.Count.{trailingZeros}
 use lib.Dec.{eqb, ltb, lit<}
-use lib.ListN.{length, getD, set, replicate, length-set}
+use lib.ListN.{getD, set, replicate, length-set}
 use lib.Seq.{getD-set-same, getD-set-other}
 use borrow.Author.Tests.{eqb-true, eqb-false, eq-eqb, ne-eqb, ltb-true}
 use Rattle.packet.specs.declared.Packet.{Packet}
@@ -17,6 +17,7 @@ use Rattle.steps.specs.declared.Outcome.{Outcome}
 use Rattle.steps.specs.Links.{has}
 use Rattle.steps.specs.Deciding.{packetOn}
 use Rattle.router.specs.Showing.{packetsOf}
+use Rattle.lists.proofs.Six.{six}
 
 -- ---- the lowest link, and the others
 
@@ -70,17 +71,6 @@ none-yet o = simp and-not-self
 
 pub all-shown : (o : Outcome) → shownBut o 0 ≡ packetsOf o
 all-shown o = simp and-true
-
--- six of anything, written out
-pub six : {A : Type 0} (d : A) (l : List A) → length l ≡ 6 → l ≡ getD l 0 d ∷ getD l 1 d ∷ getD l 2 d ∷ getD l 3 d ∷ getD l 4 d ∷ getD l 5 d ∷ []
-six d [] h = absurd (omega arith)
-six d (a ∷ []) h = absurd (omega arith)
-six d (a ∷ b ∷ []) h = absurd (omega arith)
-six d (a ∷ b ∷ c ∷ []) h = absurd (omega arith)
-six d (a ∷ b ∷ c ∷ e ∷ []) h = absurd (omega arith)
-six d (a ∷ b ∷ c ∷ e ∷ f ∷ []) h = absurd (omega arith)
-six d (a ∷ b ∷ c ∷ e ∷ f ∷ g ∷ []) h = refl
-six d (a ∷ b ∷ c ∷ e ∷ f ∷ g ∷ i ∷ l) h = absurd (omega arith)
 
 at-link : (o : Outcome) (rest j : ℕ) → j < 6 → getD (shownBut o rest) j nothing ≡ but o rest j
 at-link o rest zero h = refl

@@ -3,20 +3,15 @@ use Prim.Native.Nat.{ℕ, _*_}
 use mathlib.Core.Bool.{Bool, cond, _&&_, _||_, not}
 use mathlib.Core.List.{List, [], _∷_, _++_}
 use lib.Dec.{eqb, leb}
-use lib.ListN.{getD}
 use Rattle.packet.specs.declared.Taken.{Taken}
-use Rattle.packet.specs.Control.{kindOf, directOf}
 use Rattle.packet.specs.Bytes.{packetAt, notTaken}
-use Rattle.packet.specs.Refusal.{Refusal, firstOf, readRefusals}
+use Rattle.packet.specs.Refusal.{Refusal, refuse, firstOf, packetRefusals}
+use Rattle.tables.specs.Sizes.{sizeFine}
 use Rattle.tables.specs.Accept.{rowsFine, codesFine}
 use Rattle.steps.specs.declared.Setting.{Setting}
 use Rattle.router.specs.declared.Pass.{Pass}
 use Rattle.steps.specs.Deciding.{outcomeOf}
 use Rattle.router.specs.Showing.{passFrom, noPass}
-
--- "W and H are 1 to 12".
-abbrev pub sizeFine : ℕ → ℕ → Bool
-sizeFine width height = leb 1 width && leb width 12 && leb 1 height && leb height 12
 
 -- "Phase above 3, ready set above 63, monitor above 19".
 abbrev pub settingFine : Setting → Bool
@@ -26,22 +21,12 @@ settingFine t = leb (t .phase) 3 && leb (t .ready) 63 && leb (t .monitor) 19
 abbrev pub sourceFine : ℕ → Bool
 sourceFine source = leb source 5 || eqb source 7
 
--- "NN with T = 1".
-abbrev pub isDirect : ℕ → Bool
-isDirect control = eqb (kindOf control) 2 && eqb (directOf control) 1
-
-abbrev pub refuse : Bool → ℕ → Refusal
-refuse b n = record { when = b; number = n }
-
 abbrev pub settingRefusals : ℕ → List ℕ → List ℕ → Setting → List Refusal
 settingRefusals source rows codes t =
     refuse (not (sizeFine (t .width) (t .height))) 7 ∷ refuse (not (settingFine t)) 6 ∷ refuse (not (rowsFine rows)) 5
     ∷ refuse (not (codesFine codes (t .height * t .width))) 11
     ∷ refuse (not (sourceFine source)) 1
     ∷ []
-
-abbrev pub packetRefusals : List ℕ → List Refusal
-packetRefusals bytes = readRefusals bytes ++ refuse (isDirect (getD bytes 0 0)) 4 ∷ []
 
 -- "Order: 8, 7, 9, 6, 5, 11, 10, 1, 2, 3, 4, those that apply to the call": here 7, 6, 5, 11, 1, 2, 3, 4.
 abbrev pub passRefusals : List ℕ → ℕ → List ℕ → List ℕ → Setting → List Refusal

@@ -5,8 +5,7 @@ use packet::Packet;
 use packet::Taken;
 use packet::bytes::not_taken;
 use packet::bytes::take;
-use packet::control::direct_of;
-use packet::control::kind_of;
+use packet::control::is_direct;
 use steps::Outcome;
 use steps::Setting;
 use steps::deciding::decide;
@@ -18,13 +17,14 @@ use steps::wants::looked_up;
 use steps::wants::wanted_given;
 use tables::accept::codes_fine;
 use tables::accept::rows_fine;
+use tables::size::chips;
+use tables::size::size_fine;
 ghost use mathlib.Core.Path.{_≡_};
-ghost use mathlib.Core.Bool.{true, cond};
+ghost use mathlib.Core.Bool.{cond};
 ghost use lib.Dec.{eqb};
-ghost use Prim.Native.Nat.{_*_};
 ghost use Rattle.packet.specs.Refusal.{firstOf};
 ghost use Rattle.steps.specs.Deciding.{Checked, noOutcome, outcomeOf};
-ghost use Rattle.router.specs.Call.{sizeFine, settingFine, sourceFine, isDirect, settingRefusals, checkedOf, passOf};
+ghost use Rattle.router.specs.Call.{settingFine, sourceFine, settingRefusals, checkedOf, passOf};
 
 // One pass of one router. Refusals, the first that applies: 7 size, 6 phase, ready set or monitor, 5 rows, 11 codes,
 // 1 source, 2 length, 3 type 11, 4 NN with T = 1.
@@ -35,26 +35,6 @@ pub fn pass(bytes: &[u8], source: u32, rows: &[u32], codes: &[u8], t: Setting) -
     let p = taken.packet;
     let o = outcome_unless(taken.refusal, p, source, rows, codes, t);
     shown(taken.refusal, o)
-}
-
-pub fn size_fine(width: u32, height: u32) -> bool
-    ensures { λ r. ⌜ r ≡ sizeFine width height ⌝ }
-{
-    (1 <= width) & (width <= 12) & (1 <= height) & (height <= 12)
-}
-
-pub fn is_direct(control: u32) -> bool
-    ensures { λ r. ⌜ r ≡ isDirect control ⌝ }
-{
-    (kind_of(control) == 2) & (direct_of(control) == 1)
-}
-
-// How many chips a mesh of this size has.
-pub fn chips(width: u32, height: u32) -> usize
-    requires { ⌜ sizeFine width height ≡ true ⌝ }
-    ensures { λ r. ⌜ r ≡ height * width ⌝ }
-{
-    (height * width) as usize
 }
 
 // What a pass does, or nothing where it is refused. The steps stand here as in `outcome_of`, which the mesh calls: with two callers

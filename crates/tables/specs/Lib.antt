@@ -1,3 +1,4 @@
 pub mod Accept
 pub mod Codes
 pub mod Rows
+pub mod Sizes

@@ -2,6 +2,7 @@
 pub mod accept;
 pub mod codes;
 pub mod search;
+pub mod size;
 
 // One row of an MC table, where a caller keeps its table in structs.
 #[repr(C)]

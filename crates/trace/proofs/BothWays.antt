@@ -8,7 +8,7 @@ use lib.Dec.{eqb}
 use lib.ListN.{length, drop, take-append-drop}
 use lib.Seq.{drop-append-seam, getD-drop}
 use borrow.Author.Tests.{eqb-true, eqb-false}
-use Rattle.mesh.specs.Sound.{All}
+use Rattle.lists.specs.Lists.{All}
 use Rattle.trace.specs.declared.Call.{Call}
 use Rattle.trace.specs.declared.Record.{Record}
 use Rattle.trace.specs.Records.{recordOf, recordRead}

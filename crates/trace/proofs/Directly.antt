@@ -8,10 +8,9 @@ use lib.ListN.{length, take, drop, length-append, length-drop}
 use lib.Seq.{drop-drop, take-at, drop-at}
 use borrow.Author.Tests.{eq-eqb, ne-eqb}
 use Rattle.mesh.specs.declared.Added.{Added}
-use Rattle.mesh.specs.Layout.{meshOf}
-use Rattle.mesh.specs.Holding.{holdsMesh}
-use Rattle.mesh.specs.Steps.{Tables}
-use Rattle.mesh.specs.Going.{same}
+use Rattle.buffer.specs.Layout.{meshOf}
+use Rattle.buffer.specs.Holding.{holdsMesh}
+use Rattle.mesh.specs.Steps.{Tables, same}
 use Rattle.mesh.specs.Calls.{Left, loggedOn}
 use Rattle.trace.specs.declared.Call.{Call}
 use Rattle.trace.specs.declared.Replayed.{Replayed}

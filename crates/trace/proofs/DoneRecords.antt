@@ -8,10 +8,10 @@ use lib.ListN.{length, getD}
 use borrow.Author.Tests.{eq-eqb, ne-eqb}
 use Rattle.packet.specs.Refusal.{firstOf}
 use Rattle.mesh.specs.declared.Added.{Added}
-use Rattle.mesh.specs.Layout.{meshOf}
+use Rattle.buffer.specs.Layout.{meshOf}
 use Rattle.mesh.specs.Steps.{Tables}
 use Rattle.mesh.specs.Calls.{Left, loggedOn}
-use Rattle.mesh.specs.Leaving.{Leaves}
+use Rattle.buffer.specs.Leaving.{Leaves}
 use Rattle.trace.specs.declared.Call.{Call}
 use Rattle.trace.specs.declared.Record.{Record}
 use Rattle.trace.specs.Records.{bodyLength, readRefusals, chipAt, fiveAt, nineAt, callOf, recordRead}

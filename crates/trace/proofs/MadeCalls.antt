@@ -10,11 +10,11 @@ use Rattle.mesh.specs.declared.Added.{Added}
 use Rattle.mesh.specs.declared.RegistersRead.{RegistersRead}
 use Rattle.packet.specs.Refusal.{firstOf}
 use Rattle.mesh.specs.Mesh.{Mesh}
-use Rattle.mesh.specs.Layout.{meshOf}
-use Rattle.mesh.specs.Holding.{holdsMesh}
+use Rattle.buffer.specs.Layout.{meshOf}
+use Rattle.buffer.specs.Holding.{holdsMesh}
 use Rattle.mesh.specs.Steps.{Tables, Going}
 use Rattle.mesh.specs.Calls.{Left, many, unless, chipRefusals, linkRefusals, withLink, withEmpty, addedOf, loggedOn, registersRead}
-use Rattle.mesh.specs.Leaving.{Leaves, injectLeft, roundLeft, linkLeft, registersLeft}
+use Rattle.buffer.specs.Leaving.{Leaves, injectLeft, roundLeft, linkLeft, registersLeft}
 use Rattle.trace.specs.declared.Call.{Call}
 use Rattle.trace.specs.Records.{packetOf}
 use Rattle.trace.specs.Replay.{madeLeft}

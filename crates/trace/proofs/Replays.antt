@@ -7,8 +7,8 @@ use native.Mathlib.Omega.{arith}
 use lib.ListN.{length, take, drop, length-append, length-drop, take-append-drop}
 use lib.Seq.{drop-drop, length-take-le, take-at, drop-at}
 use Rattle.mesh.specs.Mesh.{Mesh}
-use Rattle.mesh.specs.Layout.{meshOf, wordsFor}
-use Rattle.mesh.specs.Holding.{holdsMesh}
+use Rattle.buffer.specs.Layout.{meshOf, wordsFor}
+use Rattle.buffer.specs.Holding.{holdsMesh}
 use Rattle.mesh.specs.Steps.{Tables}
 use Rattle.mesh.specs.Calls.{Left, loggedOn}
 use Rattle.trace.specs.declared.Replayed.{Replayed}

@@ -9,12 +9,11 @@ use lib.Dec.{eqb}
 use lib.ListN.{length, getD, take, drop}
 use borrow.Author.Tests.{eq-eqb, ne-eqb, eqb-true}
 use Rattle.packet.specs.Refusal.{firstOf}
-use Rattle.mesh.specs.Layout.{meshOf, wordsFor}
-use Rattle.mesh.specs.Holding.{holdsMesh}
-use Rattle.mesh.specs.Steps.{Tables}
-use Rattle.mesh.specs.Going.{same}
+use Rattle.buffer.specs.Layout.{meshOf, wordsFor}
+use Rattle.buffer.specs.Holding.{holdsMesh}
+use Rattle.mesh.specs.Steps.{Tables, same}
 use Rattle.mesh.specs.Calls.{Left, tablesRefusals}
-use Rattle.mesh.specs.Testing.{testedOf}
+use Rattle.buffer.specs.Testing.{testedOf}
 use Rattle.trace.specs.Records.{recordRead}
 use Rattle.trace.specs.Replay.{traceOf, madeLeft, Replay, stopped, behind, replaying, replayOf, oneLeft}
 use Rattle.trace.proofs.KeptSizes.{Keeps, keeps-made}

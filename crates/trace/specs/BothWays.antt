@@ -4,7 +4,7 @@ use mathlib.Core.Path.{_≡_}
 use mathlib.Core.Bool.{true}
 use mathlib.Core.List.{List, [], _∷_, _++_}
 use lib.ListN.{length, getD}
-use Rattle.mesh.specs.Sound.{All}
+use Rattle.lists.specs.Lists.{All}
 use Rattle.trace.specs.declared.Call.{Call}
 use Rattle.trace.specs.Records.{recordOf, keepable}
 use Rattle.trace.specs.Replay.{Trace, over, then, traceOf}

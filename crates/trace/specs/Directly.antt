@@ -6,11 +6,11 @@ use lib.Dec.{eqb}
 use lib.ListN.{length, getD, take, drop}
 use Rattle.mesh.specs.declared.Added.{Added}
 use Rattle.mesh.specs.declared.RegistersRead.{RegistersRead}
-use Rattle.mesh.specs.Layout.{meshOf, wordsFor}
-use Rattle.mesh.specs.Holding.{holdsMesh}
+use Rattle.buffer.specs.Layout.{meshOf, wordsFor}
+use Rattle.buffer.specs.Holding.{holdsMesh}
 use Rattle.mesh.specs.Steps.{Tables}
 use Rattle.mesh.specs.Calls.{addedOf, loggedOn, registersRead}
-use Rattle.mesh.specs.Leaving.{Leaves, injectLeft, roundLeft, linkLeft, registersLeft}
+use Rattle.buffer.specs.Leaving.{Leaves, injectLeft, roundLeft, linkLeft, registersLeft}
 use Rattle.trace.specs.declared.Call.{Call}
 use Rattle.trace.specs.declared.Replayed.{Replayed}
 use Rattle.trace.specs.Records.{packetOf}

@@ -4,8 +4,7 @@ use mathlib.Core.Bool.{Bool, cond, _&&_, _||_, not}
 use mathlib.Core.List.{List, [], _∷_, _++_}
 use lib.Dec.{eqb, ltb, leb}
 use lib.ListN.{length, getD, take, drop}
-use Rattle.packet.specs.Refusal.{Refusal, firstOf}
-use Rattle.router.specs.Call.{refuse}
+use Rattle.packet.specs.Refusal.{Refusal, firstOf, refuse}
 use Rattle.trace.specs.declared.Call.{Call}
 use Rattle.trace.specs.declared.Written.{Written}
 use Rattle.trace.specs.declared.Record.{Record}

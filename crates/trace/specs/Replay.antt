@@ -6,12 +6,11 @@ use mathlib.Core.List.{List, [], _++_}
 use lib.Dec.{eqb}
 use lib.ListN.{length, getD, drop}
 use Rattle.mesh.specs.Mesh.{Mesh}
-use Rattle.mesh.specs.Layout.{meshOf, wordsFor}
-use Rattle.mesh.specs.Holding.{holdsMesh}
-use Rattle.mesh.specs.Steps.{Tables}
-use Rattle.mesh.specs.Going.{same}
+use Rattle.buffer.specs.Layout.{meshOf, wordsFor}
+use Rattle.buffer.specs.Holding.{holdsMesh}
+use Rattle.mesh.specs.Steps.{Tables, same}
 use Rattle.mesh.specs.Calls.{Left, injecting, rounding, linking, emptying, loggedOn}
-use Rattle.mesh.specs.Leaving.{Leaves}
+use Rattle.buffer.specs.Leaving.{Leaves}
 use Rattle.trace.specs.declared.Call.{Call}
 use Rattle.trace.specs.declared.Replayed.{Replayed}
 use Rattle.trace.specs.declared.replaying.Done.{Done}

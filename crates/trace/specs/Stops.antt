@@ -6,8 +6,7 @@ use mathlib.Core.List.{List}
 use lib.Dec.{eqb}
 use lib.ListN.{length, drop}
 use Rattle.mesh.specs.Mesh.{Mesh}
-use Rattle.mesh.specs.Steps.{Tables}
-use Rattle.mesh.specs.Going.{same}
+use Rattle.mesh.specs.Steps.{Tables, same}
 use Rattle.trace.specs.Records.{recordRead}
 use Rattle.trace.specs.Replay.{traceOf, making, Replay, replaying}
 

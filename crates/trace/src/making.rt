@@ -1,18 +1,18 @@
 // Making a kept call on a mesh whose buffer and tables were tested.
 use super::Call;
+use buffer::changing::read_registers_tested;
+use buffer::changing::set_link_tested;
+use buffer::moving::inject_tested;
+use buffer::moving::round_tested;
+use buffer::testing::Tested;
 use mesh::Added;
-use mesh::changing::read_registers_tested;
-use mesh::changing::set_link_tested;
-use mesh::moving::inject_tested;
-use mesh::moving::round_tested;
-use mesh::testing::Tested;
 ghost use mathlib.Core.Path.{_≡_};
 ghost use lib.ListN.{length};
 ghost use Prim.Native.Nat.{_≤_};
-ghost use Rattle.mesh.specs.Going.{tablesOf};
+ghost use Rattle.mesh.specs.Steps.{tablesOf};
 ghost use Rattle.mesh.specs.Calls.{addedOf, loggedOn};
-ghost use Rattle.mesh.specs.Leaving.{Leaves};
-ghost use Rattle.mesh.specs.Testing.{testedOf};
+ghost use Rattle.buffer.specs.Leaving.{Leaves};
+ghost use Rattle.buffer.specs.Testing.{testedOf};
 ghost use Rattle.trace.specs.Replay.{madeLeft};
 
 pub fn make(

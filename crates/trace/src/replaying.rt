@@ -2,12 +2,12 @@
 use super::Replayed;
 use super::making::make;
 use super::reading::read_record;
-use mesh::testing::Tested;
-use mesh::testing::test;
+use buffer::testing::Tested;
+use buffer::testing::test;
 ghost use mathlib.Core.Path.{_≡_};
 ghost use lib.ListN.{length};
-ghost use Rattle.mesh.specs.Going.{tablesOf};
-ghost use Rattle.mesh.specs.Testing.{testedOf};
+ghost use Rattle.mesh.specs.Steps.{tablesOf};
+ghost use Rattle.buffer.specs.Testing.{testedOf};
 ghost use Rattle.trace.specs.Replay.{replayOf, Replays, OneDone};
 
 // Replays a trace up to its end or to the first refusal, a record's or a call's; what earlier records did stands. Buffer and tables are tested

@@ -1,11 +1,11 @@
 // The C interface: thin exports over the crates below. include/yagbolshen.h declares them.
+use buffer::opening::SizeRead;
 use mesh::Added;
 use mesh::CountRead;
 use mesh::FlightRead;
 use mesh::LinkRead;
 use mesh::MeshRead;
 use mesh::RegistersRead;
-use mesh::opening::SizeRead;
 use packet::Fields;
 use packet::FieldsRead;
 use packet::Packed;
@@ -24,12 +24,12 @@ ghost use Rattle.packet.specs.Packing.{packedOf};
 ghost use Rattle.packet.specs.Refusal.{firstOf};
 ghost use Rattle.tables.specs.Rows.{foundIn};
 ghost use Rattle.router.specs.Call.{passOf};
-ghost use Rattle.mesh.specs.Opening.{sizeOf, openRefusals, opening};
-ghost use Rattle.mesh.specs.Layout.{meshOf};
-ghost use Rattle.mesh.specs.Holding.{holdsMesh};
-ghost use Rattle.mesh.specs.Going.{tablesOf};
+ghost use Rattle.buffer.specs.Opening.{sizeOf, openRefusals, opening};
+ghost use Rattle.buffer.specs.Layout.{meshOf};
+ghost use Rattle.buffer.specs.Holding.{holdsMesh};
+ghost use Rattle.mesh.specs.Steps.{tablesOf};
 ghost use Rattle.mesh.specs.Calls.{addedOf, loggedOn, registersRead, countRead, meshRead, linkRead, flightRead};
-ghost use Rattle.mesh.specs.Leaving.{Leaves, injectLeft, roundLeft, linkLeft, registersLeft};
+ghost use Rattle.buffer.specs.Leaving.{Leaves, injectLeft, roundLeft, linkLeft, registersLeft};
 ghost use Rattle.trace.specs.Records.{recordRead, writtenOf, writtenOn};
 ghost use Rattle.trace.specs.Replay.{replayOf, Replays};
 ghost use Rattle.yagbolshen.specs.Settings.{settingOf};
@@ -88,7 +88,7 @@ pub extern "C" fn yagbolshen_find(rows: &[Row], key: u32) -> RowFound
 pub extern "C" fn yagbolshen_size(width: u32, height: u32) -> SizeRead
     ensures { λ r. ⌜ r ≡ sizeOf width height ⌝ }
 {
-    mesh::opening::size(width, height)
+    buffer::opening::size(width, height)
 }
 
 // Opens a mesh in a buffer.
@@ -103,7 +103,7 @@ pub extern "C" fn yagbolshen_open(
     ensures { λ r. ⌜ r ≡ firstOf (openRefusals (length (now (mesh .entry))) width height «rounds_per_phase» monitor) ⌝ }
     ensures { λ r. ⌜ now (mesh .exit) ≡ opening r (now (mesh .entry)) width height «rounds_per_phase» monitor ⌝ }
 {
-    mesh::opening::open(mesh, width, height, rounds_per_phase, monitor)
+    buffer::opening::open(mesh, width, height, rounds_per_phase, monitor)
 }
 
 // Passes a local packet at a chip.
@@ -121,7 +121,7 @@ pub extern "C" fn yagbolshen_inject(
     ensures { λ r. ⌜ Leaves (now (mesh .entry)) (now (mesh .exit)) (injectLeft (now (mesh .entry)) (tablesOf (now (rows .entry)) (now (starts .entry)) (now (codes .entry))) (length (now (log .entry))) chip (now (packet .entry))) ⌝ }
     ensures { λ r. ⌜ now (log .exit) ≡ loggedOn (injectLeft (now (mesh .entry)) (tablesOf (now (rows .entry)) (now (starts .entry)) (now (codes .entry))) (length (now (log .entry))) chip (now (packet .entry)) .log) (now (log .entry)) ⌝ }
 {
-    mesh::moving::inject(mesh, log, chip, packet, rows, starts, codes)
+    buffer::moving::inject(mesh, log, chip, packet, rows, starts, codes)
 }
 
 // Passes all that is in flight, once.
@@ -137,7 +137,7 @@ pub extern "C" fn yagbolshen_round(
     ensures { λ r. ⌜ Leaves (now (mesh .entry)) (now (mesh .exit)) (roundLeft (now (mesh .entry)) (tablesOf (now (rows .entry)) (now (starts .entry)) (now (codes .entry))) (length (now (log .entry)))) ⌝ }
     ensures { λ r. ⌜ now (log .exit) ≡ loggedOn (roundLeft (now (mesh .entry)) (tablesOf (now (rows .entry)) (now (starts .entry)) (now (codes .entry))) (length (now (log .entry))) .log) (now (log .entry)) ⌝ }
 {
-    mesh::moving::round(mesh, log, rows, starts, codes)
+    buffer::moving::round(mesh, log, rows, starts, codes)
 }
 
 // Takes one directed link of a chip up or down.
@@ -146,7 +146,7 @@ pub extern "C" fn yagbolshen_set_link(mesh: &mut [u32], chip: u32, link: u32, up
     ensures { λ r. ⌜ r ≡ linkLeft (now (mesh .entry)) chip link up .refusal ⌝ }
     ensures { λ r. ⌜ Leaves (now (mesh .entry)) (now (mesh .exit)) (linkLeft (now (mesh .entry)) chip link up) ⌝ }
 {
-    mesh::changing::set_link(mesh, chip, link, up)
+    buffer::changing::set_link(mesh, chip, link, up)
 }
 
 // Hands over a chip's error registers and empties them.
@@ -155,7 +155,7 @@ pub extern "C" fn yagbolshen_read_registers(mesh: &mut [u32], chip: u32) -> Regi
     ensures { λ r. ⌜ r ≡ registersRead (holdsMesh (now (mesh .entry))) (meshOf (now (mesh .entry))) chip ⌝ }
     ensures { λ r. ⌜ Leaves (now (mesh .entry)) (now (mesh .exit)) (registersLeft (now (mesh .entry)) chip) ⌝ }
 {
-    mesh::changing::read_registers(mesh, chip)
+    buffer::changing::read_registers(mesh, chip)
 }
 
 // One of a chip's ten counters.
@@ -163,7 +163,7 @@ pub extern "C" fn yagbolshen_read_registers(mesh: &mut [u32], chip: u32) -> Regi
 pub extern "C" fn yagbolshen_read_counter(mesh: &[u32], chip: u32, counter: u32) -> CountRead
     ensures { λ r. ⌜ r ≡ countRead (holdsMesh (now (mesh .entry))) (meshOf (now (mesh .entry))) chip counter ⌝ }
 {
-    mesh::looking::read_counter(mesh, chip, counter)
+    buffer::looking::read_counter(mesh, chip, counter)
 }
 
 // The mesh's size, phase and monitor, and how many packets are in flight.
@@ -171,7 +171,7 @@ pub extern "C" fn yagbolshen_read_counter(mesh: &[u32], chip: u32, counter: u32)
 pub extern "C" fn yagbolshen_mesh(mesh: &[u32]) -> MeshRead
     ensures { λ r. ⌜ r ≡ meshRead (holdsMesh (now (mesh .entry))) (meshOf (now (mesh .entry))) ⌝ }
 {
-    mesh::looking::look_mesh(mesh)
+    buffer::looking::look_mesh(mesh)
 }
 
 // One directed link of a chip: whether it is up, how many packets it holds, whether it is ready.
@@ -179,7 +179,7 @@ pub extern "C" fn yagbolshen_mesh(mesh: &[u32]) -> MeshRead
 pub extern "C" fn yagbolshen_link(mesh: &[u32], chip: u32, link: u32) -> LinkRead
     ensures { λ r. ⌜ r ≡ linkRead (holdsMesh (now (mesh .entry))) (meshOf (now (mesh .entry))) chip link ⌝ }
 {
-    mesh::looking::look_link(mesh, chip, link)
+    buffer::looking::look_link(mesh, chip, link)
 }
 
 // The packet at a place of a directed link, 0 the oldest.
@@ -187,7 +187,7 @@ pub extern "C" fn yagbolshen_link(mesh: &[u32], chip: u32, link: u32) -> LinkRea
 pub extern "C" fn yagbolshen_flight(mesh: &[u32], chip: u32, link: u32, place: u32) -> FlightRead
     ensures { λ r. ⌜ r ≡ flightRead (holdsMesh (now (mesh .entry))) (meshOf (now (mesh .entry))) chip link place ⌝ }
 {
-    mesh::looking::look_flight(mesh, chip, link, place)
+    buffer::looking::look_flight(mesh, chip, link, place)
 }
 
 // Writes the record of a call at the start of a trace's room.

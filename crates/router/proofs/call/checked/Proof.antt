@@ -4,9 +4,11 @@ use mathlib.Core.Bool.{true, false}
 use lib.ListN.{getD}
 use Rattle.packet.specs.Refusal.{firstOf}
 use Rattle.packet.specs.Bytes.{takenOf}
-use Rattle.router.specs.Call.{isDirect, settingRefusals}
+use Rattle.packet.specs.Control.{isDirect}
+use Rattle.router.specs.Call.{settingRefusals}
 use Rattle.packet.specs.declared.Taken.{Taken}
-use Rattle.router.proofs.Inputs.{refused-setting, refused-packet, refused-direct, accepted, taken-whole}
+use Rattle.router.proofs.Inputs.{refused-setting, refused-packet, refused-direct, accepted}
+use Rattle.packet.proofs.Refusals.{taken-whole}
 use Rattle.router.proofs.call.checked.Statement.{statement}
 use Rattle.router.proofs.call.checked.Tie as tie
 

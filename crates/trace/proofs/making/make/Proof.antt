@@ -1,8 +1,8 @@
 use borrow.Author.Needs.{needs}
 use mathlib.Core.Path.{sym, ap}
 use lib.Seq.{length-take-le}
-use Rattle.mesh.specs.declared.testing.Tested.{Tested}
-use Rattle.mesh.specs.Going.{tablesOf}
+use Rattle.buffer.specs.declared.testing.Tested.{Tested}
+use Rattle.mesh.specs.Steps.{tablesOf}
 use Rattle.trace.specs.Records.{nineOf}
 use Rattle.trace.proofs.MadeCalls.{made-injection, made-round, made-change, made-read}
 use Rattle.trace.proofs.making.make.Statement.{statement}

@@ -1,5 +1,5 @@
 use borrow.Author.Needs.{needs}
-use Rattle.mesh.specs.Going.{tablesOf}
+use Rattle.mesh.specs.Steps.{tablesOf}
 use Rattle.trace.proofs.DoneRecords.{read-packet, record-refused, record-made}
 use Rattle.trace.proofs.replaying.replay_one.Statement.{statement}
 use Rattle.trace.proofs.replaying.replay_one.Tie as tie

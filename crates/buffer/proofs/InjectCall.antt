@@ -1,0 +1,83 @@
+-- An injection that is accepted: what is due, and what its pass leaves. Assumes nothing.
+use mathlib.Core.Path.{_≡_, refl, sym, ap, _∙_, subst}
+use mathlib.Core.Logic.{inr}
+use mathlib.Core.Bool.{true}
+use mathlib.Core.List.{List, [], _∷_}
+use Prim.Native.Nat.{ℕ, _*_, _≤_, _<_}
+use native.Mathlib.Omega.{arith}
+use lib.Dec.{lit<}
+use lib.ListN.{length, getD}
+use Rattle.packet.specs.declared.Taken.{Taken}
+use Rattle.packet.specs.Bytes.{packetAt, takenOf}
+use Rattle.packet.specs.Refusal.{firstOf}
+use Rattle.buffer.specs.Layout.{meshOf, wordsFor}
+use Rattle.mesh.specs.Steps.{Tables, Going, injected, same}
+use Rattle.buffer.specs.Holding.{holdsMesh, StatesFine}
+use Rattle.lists.specs.Lists.{All}
+use Rattle.mesh.specs.Sound.{SoundMesh}
+use Rattle.buffer.specs.Going.{chipsOf, arrival, Due, Passed}
+use Rattle.mesh.specs.Calls.{injectRefusals, addedOf, loggedOn}
+use Rattle.buffer.specs.Leaving.{Leaves, injectLeft}
+use Rattle.buffer.proofs.Counts.{holds-head, words-enough}
+use Rattle.mesh.proofs.SoundSteps.{sound-injected}
+use Rattle.buffer.proofs.SoundWords.{holds-sound, holds-states, sound-holds}
+use Rattle.buffer.proofs.Headers.{head-same}
+use Rattle.buffer.proofs.Leaving.{refused-leaves, accepted-leaves, accepted-log}
+use Rattle.mesh.proofs.Accepts.{InjectGoes, inject-goes}
+
+pub inject-refused : (t : Tables) (l log : List ℕ) (chip : ℕ) (bytes : List ℕ) (r : ℕ) → r ≡ firstOf (injectRefusals (holdsMesh l) (chipsOf l) chip t (length log) bytes) → (r ≡ 0 → ⊥)
+    → (record { refusal = r; added = 0 } ≡ addedOf (injectLeft l t (length log) chip bytes))
+    × (Leaves l l (injectLeft l t (length log) chip bytes) × (log ≡ loggedOn (injectLeft l t (length log) chip bytes .log) log))
+unfolding meshOf
+inject-refused t l log chip bytes r e some =
+    subst (λ (k : ℕ). (record { refusal = k; added = 0 } ≡ addedOf (injectLeft l t (length log) chip bytes)) × (Leaves l l (injectLeft l t (length log) chip bytes) × (log ≡ loggedOn (injectLeft l t (length log) chip bytes .log) log))) (sym e)
+    (refused-leaves (firstOf (injectRefusals (holdsMesh l) (chipsOf l) chip t (length log) bytes)) (meshOf l) (injected t same (meshOf l) chip (record { packet = packetAt bytes; tag = tt })) (λ z. some (e ∙ z)) l log)
+
+module _ (t : Tables) (l log : List ℕ) (chip : ℕ) (bytes : List ℕ) (none : firstOf (injectRefusals (holdsMesh l) (chipsOf l) chip t (length log) bytes) ≡ 0) where
+  go : InjectGoes (holdsMesh l) (chipsOf l) chip t (length log) bytes
+  go = inject-goes (holdsMesh l) (chipsOf l) chip t (length log) bytes none
+
+  -- the packet is the one that was taken from the bytes
+  pub taken-packet : (r : Taken) → r ≡ takenOf bytes → r .packet ≡ packetAt bytes
+  taken-packet r e =
+      let taken : takenOf bytes ≡ record { refusal = 0; packet = packetAt bytes } = simp (go .whole, go .used) in
+      ap (λ (x : Taken). x .packet) (e ∙ taken)
+
+  pub inject-due : Due t (arrival chip 7 (packetAt bytes) ∷ []) l log 0
+  unfolding All
+  inject-due =
+      record {
+        head = holds-head l (go .holds);
+        long = words-enough l (go .holds);
+        lent = go .lent;
+        room = omega (arith, go .room);
+        each = (record { there = go .there; from = inr refl; passable = go .passable }, tt);
+      }
+
+  module _ (l₁ log₁ : List ℕ) (n : ℕ) (p : Passed t (arrival chip 7 (packetAt bytes) ∷ []) l log 0 l₁ log₁ n) where
+    abbrev after : Going (Unit {0})
+    after = injected t same (meshOf l) chip (record { packet = packetAt bytes; tag = tt })
+
+    number : (i : ℕ) → i < 6 → getD l₁ i 0 ≡ getD l i 0
+    number = head-same l l₁ (p .head)
+
+    states-left : StatesFine l₁
+    states-left c j hc hj =
+        let there : c < chipsOf l = subst (λ (k : ℕ). c < k) (λ i. number 1 (lit< tt) i * number 0 (lit< tt) i) hc in
+        subst (λ (k : ℕ). k ≤ 1) (sym (ap (λ (w : List ℕ). getD w 0 0) (p .still c j hj))) (holds-states l (go .holds) c j there hj)
+
+    holds-left : holdsMesh l₁ ≡ true
+    unfolding meshOf
+    holds-left =
+        sound-holds l₁
+        (subst SoundMesh (sym (ap (λ (g : Going (Unit {0})). g .mesh) (p .going))) (sound-injected t same (meshOf l) chip (record { packet = packetAt bytes; tag = tt }) (holds-sound l (go .holds)) (go .there) (go .passable) (go .lent .codes)))
+        states-left
+        (subst (λ (k : ℕ). wordsFor (getD l₁ 0 0) (getD l₁ 1 0) ≤ k) (sym (p .long)) (subst (λ (k : ℕ). k ≤ length l) (λ i. wordsFor (sym (number 0 (lit< tt)) i) (sym (number 1 (lit< tt)) i)) (words-enough l (go .holds))))
+
+    pub inject-leaves : (record { refusal = 0; added = n } ≡ addedOf (injectLeft l t (length log) chip bytes))
+        × (Leaves l l₁ (injectLeft l t (length log) chip bytes) × (log₁ ≡ loggedOn (injectLeft l t (length log) chip bytes .log) log))
+    unfolding meshOf
+    inject-leaves =
+        let r = firstOf (injectRefusals (holdsMesh l) (chipsOf l) chip t (length log) bytes) in
+        let told = accepted-log r (meshOf l) after none log log₁ n (ap (λ (x : Going (Unit {0})). x .log) (p .going)) (p .behind) (p .room) (omega (arith, p .few, go .room)) in
+        (told .0, (accepted-leaves r (meshOf l) after none l l₁ (ap (λ (x : Going (Unit {0})). x .mesh) (p .going)) holds-left (p .long) (p .past), told .1))

@@ -1,0 +1,175 @@
+-- A round that is accepted: what is due, and what the three steps of the code leave together. Assumes nothing.
+use mathlib.Core.Path.{_≡_, sym, ap, _∙_, subst}
+use mathlib.Core.Bool.{true, and-eq-true-iff}
+use mathlib.Core.List.{List, [], foldl}
+use Prim.Native.Nat.{ℕ, _*_, _≤_, _<_}
+use native.Mathlib.Omega.{arith}
+use lib.Dec.{lit<}
+use borrow.Author.Tests.{leb-true}
+use Rattle.packet.specs.Refusal.{firstOf}
+use Rattle.tables.proofs.Sizes as sizes
+use lib.ListN.{length, getD, take, drop}
+use Rattle.mesh.specs.Mesh.{Chip, Mesh, fresh}
+use Rattle.links.specs.Words.{chipPlace}
+use Rattle.buffer.specs.Layout.{meshOf, wordsFor}
+use Rattle.mesh.specs.Steps.{Tables, Going, setAside, arrivals, passAt, roundOver, rounded, same}
+use Rattle.buffer.specs.Holding.{holdsMesh, StatesFine}
+use Rattle.buffer.specs.Chips.{lineWords}
+use Rattle.buffer.specs.Passing.{chipWords}
+use Rattle.lists.specs.Lists.{All, upTo}
+use Rattle.mesh.specs.Sound.{Arrives, SoundLine, SoundChip, SoundMesh}
+use Rattle.mesh.specs.Weights.{onLine, onChip, inFlight}
+use Rattle.buffer.specs.Aside.{AsideUpto}
+use Rattle.buffer.specs.Going.{chipsOf, asideAt, goingIn, DueAside, Passed}
+use Rattle.mesh.specs.Calls.{Lent, roundRefusals, addedOf, loggedOn}
+use Rattle.buffer.specs.Leaving.{Leaves, roundLeft, overWords}
+use Rattle.lists.proofs.Alls.{all-getD, all-weaken}
+use Rattle.lists.proofs.Totals.{total-ones, total-most}
+use Rattle.buffer.proofs.Counts.{holds-head, held-few, words-enough}
+use Rattle.mesh.proofs.Torus.{arrivals-count}
+use Rattle.mesh.proofs.SoundArrivals.{sound-arrivals}
+use Rattle.mesh.proofs.SoundSteps.{sound-rounded}
+use Rattle.buffer.proofs.SoundWords.{holds-sound, holds-states, sound-holds}
+use Rattle.buffer.proofs.Headers.{Head, head-range, head-same, head-fine-same}
+use Rattle.buffer.proofs.RoundWords.{mesh-aside, aside-arrivals, few-aside, mesh-over, length-over, over-behind}
+use Rattle.buffer.proofs.Leaving.{refused-leaves, accepted-leaves, accepted-log}
+use Rattle.mesh.proofs.Accepts.{RoundGoes, round-goes}
+
+-- ---- a mesh that a buffer holds
+
+module _ (l : List ℕ) (holds : holdsMesh l ≡ true) where
+  pub held-sound : SoundMesh (meshOf l)
+  held-sound = holds-sound l holds
+
+  pub held-head : Head l
+  held-head = head-range l (holds-head l holds)
+
+  -- as many packets arrive as are in flight
+  pub held-count : length (arrivals (meshOf l)) ≡ inFlight (meshOf l)
+  unfolding meshOf
+  held-count =
+      arrivals-count (meshOf l) (held-head .wide) (held-head .tall) (held-sound .many)
+      (λ k h. all-getD SoundChip (meshOf l .chips) k fresh (held-sound .chips) (subst (λ (n : ℕ). k < n) (sym (held-sound .many)) h) .six)
+
+  -- at most eight a link
+  pub held-most : inFlight (meshOf l) ≤ 6912
+  held-most =
+      let chip : (c : Chip (Unit {0})) → SoundChip c → onChip (λ f. 1) c ≤ 48 =
+      λ c s. subst (λ (n : ℕ). onChip (λ f. 1) c ≤ n * 8) (s .six)
+      (total-most (onLine (λ f. 1)) 8 (c .lines) (all-weaken SoundLine (λ x. onLine (λ f. 1) x ≤ 8) (λ x h. subst (λ (n : ℕ). n ≤ 8) (sym (total-ones (x .held))) (h .few)) (c .lines) (s .lines))) in
+      let all = total-most (onChip (λ f. 1)) 48 (meshOf l .chips) (all-weaken SoundChip (λ c. onChip (λ f. 1) c ≤ 48) chip (meshOf l .chips) (held-sound .chips)) in
+      let few : length (meshOf l .chips) ≤ 144 = subst (λ (n : ℕ). n ≤ 144) (sym (held-sound .many)) (sizes.chips-small (meshOf l .width) (meshOf l .height) (held-sound .size)) in
+      omega (arith, all, few)
+
+  pub held-elapsed : getD l 5 0 ≤ 65535
+  unfolding meshOf
+  held-elapsed =
+      let rounds : meshOf l .rounds ≤ 65535 = omega (arith, leb-true, simp and-eq-true-iff at (held-sound .rounds)) in
+      omega (arith, held-sound .elapsed, rounds)
+
+module _ (t : Tables) (l log : List ℕ) where
+  pub round-holds : firstOf (roundRefusals (holdsMesh l) (chipsOf l) (inFlight (meshOf l)) t (length log)) ≡ 0 → holdsMesh l ≡ true
+  round-holds none = round-goes (holdsMesh l) (chipsOf l) (inFlight (meshOf l)) t (length log) none .holds
+
+  pub round-refused : (r : ℕ) → r ≡ firstOf (roundRefusals (holdsMesh l) (chipsOf l) (inFlight (meshOf l)) t (length log)) → (r ≡ 0 → ⊥)
+      → (record { refusal = r; added = 0 } ≡ addedOf (roundLeft l t (length log))) × (Leaves l l (roundLeft l t (length log)) × (log ≡ loggedOn (roundLeft l t (length log) .log) log))
+  unfolding meshOf
+  round-refused r e some =
+      subst (λ (k : ℕ). (record { refusal = k; added = 0 } ≡ addedOf (roundLeft l t (length log))) × (Leaves l l (roundLeft l t (length log)) × (log ≡ loggedOn (roundLeft l t (length log) .log) log))) (sym e)
+      (refused-leaves (firstOf (roundRefusals (holdsMesh l) (chipsOf l) (inFlight (meshOf l)) t (length log))) (meshOf l) (rounded t same (meshOf l)) (λ z. some (e ∙ z)) l log)
+
+module _ (t : Tables) (l log : List ℕ) (none : firstOf (roundRefusals (holdsMesh l) (chipsOf l) (inFlight (meshOf l)) t (length log)) ≡ 0) (l₁ : List ℕ) (u : AsideUpto (chipsOf l) (chipsOf l) l l₁) where
+  go : RoundGoes (holdsMesh l) (chipsOf l) (inFlight (meshOf l)) t (length log)
+  go = round-goes (holdsMesh l) (chipsOf l) (inFlight (meshOf l)) t (length log) none
+
+  number : (i : ℕ) → i < 6 → getD l₁ i 0 ≡ getD l i 0
+  number = head-same l l₁ (u .head)
+
+  chips-same : chipsOf l₁ ≡ chipsOf l
+  chips-same = λ i. number 1 (lit< tt) i * number 0 (lit< tt) i
+
+  all-aside : upTo (asideAt l₁) (chipsOf l) ≡ arrivals (meshOf l)
+  all-aside = aside-arrivals l l₁ u (held-head l (go .holds))
+
+  -- ---- what is due once all is set aside
+
+  pub round-due : DueAside t (upTo (asideAt l₁) (chipsOf l)) l₁ log 0
+  unfolding meshOf
+  round-due =
+      record {
+        due = record {
+          head = head-fine-same l l₁ (u .head) ∙ holds-head l (go .holds);
+          long = subst (λ (k : ℕ). wordsFor (getD l₁ 0 0) (getD l₁ 1 0) ≤ k) (sym (u .long)) (subst (λ (k : ℕ). k ≤ length l) (λ i. wordsFor (sym (number 0 (lit< tt)) i) (sym (number 1 (lit< tt)) i)) (words-enough l (go .holds)));
+          lent = subst (Lent t) (sym chips-same) (go .lent);
+          room = omega (arith, go .room, ap length all-aside ∙ held-count l (go .holds));
+          each = subst (λ (k : ℕ). All (Arrives k) (upTo (asideAt l₁) (chipsOf l))) (sym chips-same)
+              (subst (All (Arrives (chipsOf l))) (sym all-aside) (sound-arrivals (held-sound l (go .holds))));
+        };
+        few = few-aside l l₁ u (held-head l (go .holds)) (held-few l (go .holds));
+      }
+
+  -- ---- what is left
+
+  module _ (l₂ log₂ : List ℕ) (n : ℕ) (p : Passed t (upTo (asideAt l₁) (chipsOf l)) l₁ log 0 l₂ log₂ n) where
+    going : goingIn l₂ log₂ n ≡ foldl (passAt t same) (record { mesh = setAside (meshOf l); log = [] }) (arrivals (meshOf l))
+    going = p .going ∙ (λ i. foldl (passAt t same) (record { mesh = mesh-aside l l₁ u i; log = [] }) (all-aside i))
+
+    long-enough : 6 ≤ length l₂
+    long-enough = omega (arith, p .long, u .long, words-enough l (go .holds))
+
+    pub over-requires : (6 ≤ length l₂) × (getD l₂ 5 0 ≤ 65535)
+    over-requires =
+        let e : getD l₂ 5 0 ≡ getD l 5 0 = head-same l₁ l₂ (p .head) 5 (lit< tt) ∙ number 5 (lit< tt) in
+        (long-enough, subst (λ (k : ℕ). k ≤ 65535) (sym e) (held-elapsed l (go .holds)))
+
+    mesh-left : meshOf (overWords l₂) ≡ rounded t same (meshOf l) .mesh
+    mesh-left = mesh-over l₂ long-enough ∙ ap (λ (g : Going (Unit {0})). roundOver (g .mesh)) going
+
+    arrived : length (upTo (asideAt l₁) (chipsOf l)) ≡ inFlight (meshOf l)
+    arrived = ap length all-aside ∙ held-count l (go .holds)
+
+    pub count-small : n ≤ 6912
+    count-small = omega (arith, p .few, arrived, held-most l (go .holds))
+
+    -- the links' states are as they were
+    states-left : StatesFine (overWords l₂)
+    unfolding meshOf
+    states-left c j hc hj =
+        let over : chipWords c (overWords l₂) ≡ chipWords c l₂ = ap (take 322) (over-behind l₂ (chipPlace c) (omega arith)) in
+        let same-size : chipsOf (overWords l₂) ≡ chipsOf l =
+        ap (λ (m : Mesh (Unit {0})). m .height * m .width) (mesh-over l₂ long-enough) ∙ (λ i. head-same l₁ l₂ (p .head) 1 (lit< tt) i * head-same l₁ l₂ (p .head) 0 (lit< tt) i) ∙ chips-same in
+        let there : c < chipsOf l = subst (λ (k : ℕ). c < k) same-size hc in
+        let e : getD (lineWords j (chipWords c (overWords l₂))) 0 0 ≡ getD (lineWords j (chipWords c l)) 0 0 =
+        ap (λ (w : List ℕ). getD (lineWords j w) 0 0) over ∙ ap (λ (w : List ℕ). getD w 0 0) (p .still c j hj) ∙ u .done c there .states j hj in
+        subst (λ (k : ℕ). k ≤ 1) (sym e) (holds-states l (go .holds) c j there hj)
+
+    long-left : length (overWords l₂) ≡ length l
+    long-left = length-over l₂ ∙ p .long ∙ u .long
+
+    words-left : wordsFor (getD (overWords l₂) 0 0) (getD (overWords l₂) 1 0) ≡ wordsFor (getD l 0 0) (getD l 1 0)
+    unfolding meshOf
+    words-left =
+        ap (λ (m : Mesh (Unit {0})). wordsFor (m .width) (m .height)) (mesh-over l₂ long-enough)
+        ∙ (λ i. wordsFor (head-same l₁ l₂ (p .head) 0 (lit< tt) i) (head-same l₁ l₂ (p .head) 1 (lit< tt) i))
+        ∙ (λ i. wordsFor (number 0 (lit< tt) i) (number 1 (lit< tt) i))
+
+    holds-left : holdsMesh (overWords l₂) ≡ true
+    unfolding meshOf
+    holds-left =
+        sound-holds (overWords l₂) (subst SoundMesh (sym mesh-left) (sound-rounded t same (held-sound l (go .holds)) (go .lent .codes))) states-left
+        (subst (λ (k : ℕ). wordsFor (getD (overWords l₂) 0 0) (getD (overWords l₂) 1 0) ≤ k) (sym long-left) (subst (λ (k : ℕ). k ≤ length l) (sym words-left) (words-enough l (go .holds))))
+
+    past-left : drop (wordsFor (getD l 0 0) (getD l 1 0)) (overWords l₂) ≡ drop (wordsFor (getD l 0 0) (getD l 1 0)) l
+    past-left =
+        over-behind l₂ (wordsFor (getD l 0 0) (getD l 1 0)) (omega arith)
+        ∙ subst (λ (k : ℕ). drop k l₂ ≡ drop k l₁) (λ i. wordsFor (number 0 (lit< tt) i) (number 1 (lit< tt) i)) (p .past)
+        ∙ u .past
+
+    pub round-leaves : (record { refusal = 0; added = n } ≡ addedOf (roundLeft l t (length log)))
+        × (Leaves l (overWords l₂) (roundLeft l t (length log)) × (log₂ ≡ loggedOn (roundLeft l t (length log) .log) log))
+    unfolding meshOf
+    round-leaves =
+        let r = firstOf (roundRefusals (holdsMesh l) (chipsOf l) (inFlight (meshOf l)) t (length log)) in
+        let g = rounded t same (meshOf l) in
+        let told = accepted-log r (meshOf l) g none log log₂ n (ap (λ (x : Going (Unit {0})). x .log) going) (p .behind) (p .room) (omega (arith, p .few, arrived, go .room)) in
+        (told .0, (accepted-leaves r (meshOf l) g none l (overWords l₂) mesh-left holds-left long-left past-left, told .1))

@@ -1,0 +1,48 @@
+-- A ready link has room for two, so that a pass with the chip's own ready set fits the chip's words.
+use mathlib.Core.Path.{_≡_, sym, ap, _∙_}
+use mathlib.Core.Bool.{true, and-eq-true-iff}
+use mathlib.Core.List.{List}
+use Prim.Native.Nat.{ℕ, _≤_, _<_}
+use lib.Dec.{leb}
+use lib.ListN.{length, getD}
+use borrow.Author.Tests.{leb-true}
+use Rattle.packet.specs.declared.Packet.{Packet}
+use Rattle.steps.specs.declared.Setting.{Setting}
+use Rattle.steps.specs.Links.{has}
+use Rattle.steps.specs.Deciding.{outcomeOf, Source, Checked}
+use Rattle.steps.proofs.Bounds.{outcome-sets}
+use Rattle.steps.proofs.Sets.{has-set}
+use Rattle.links.specs.Line.{isReady, idle}
+use Rattle.links.specs.Words.{lineIn}
+use Rattle.links.proofs.Places.{length-places}
+use Rattle.mesh.specs.Mesh.{readyOf}
+use Rattle.mesh.proofs.Fitting.{sends-ready, legs-ready, sent-right, leg-right, sent-no-error, leg-no-error}
+use Rattle.buffer.specs.Layout.{chipIn}
+use Rattle.buffer.specs.Chips.{lineWords, Takes}
+use Rattle.buffer.proofs.ChipParts.{line-at}
+
+-- a ready link holds at most 6
+pub ready-room : (l : List ℕ) (i : ℕ) → i < 6 → has (readyOf (chipIn l)) i ≡ true → getD (lineWords i l) 1 0 ≤ 6
+ready-room l i hi h =
+    let t : isReady (getD (chipIn l .lines) i idle) ≡ true = sym (has-set (λ j. isReady (getD (chipIn l .lines) j idle)) i hi) ∙ h in
+    let u : isReady (lineIn (lineWords i l)) ≡ true = sym (ap isReady (line-at i hi l)) ∙ t in
+    let k : leb (length (lineIn (lineWords i l) .held)) 6 ≡ true =
+    and-eq-true-iff (lineIn (lineWords i l) .up) (leb (length (lineIn (lineWords i l) .held)) 6) .0 u .1 in
+    leb-true _ _ (rw length-places at k)
+
+module _ (p : Packet) (s : ℕ) (rows codes : List ℕ) (t : Setting) (h : Checked p s codes t) (from : Source s) where
+  -- so the pass fits the chip
+  pub takes : (l : List ℕ) → length l ≡ 322 → t .ready ≡ readyOf (chipIn l) → Takes l (outcomeOf p s rows codes t)
+  takes l long ready =
+      let o = outcome-sets p s rows codes t in
+      record {
+        long = long;
+        dropped = o .dropped;
+        lost = o .lost;
+        room = λ i hi. (λ sent. ready-room l i hi (by-ready i (sends-ready p s rows codes t h from i hi sent)), λ leg. ready-room l i hi (by-ready i (legs-ready p s rows codes t h from i hi leg)));
+        right = λ i hi sent. sent-right p s rows codes t h from (sent-no-error p s rows codes t h from i hi sent) i;
+        leg = λ i hi leg. leg-right p s rows codes t h from (leg-no-error p s rows codes t h from i hi leg);
+      }
+    where
+      by-ready : (i : ℕ) → has (t .ready) i ≡ true → has (readyOf (chipIn l)) i ≡ true
+      by-ready i f = ap (λ (r : ℕ). has r i) (sym ready) ∙ f

@@ -1,0 +1,119 @@
+-- A chip's words while its links are being changed, one after the other; and what the chip is once a pass has been put into all six. Assumes
+-- nothing.
+use mathlib.Core.Path.{_≡_, refl, sym, ap, _∙_, subst}
+use mathlib.Core.Logic.{_⊎_, inl, inr}
+use mathlib.Core.List.{List, [], _∷_}
+use Prim.Native.Nat.{ℕ, suc, _+_, _≤_, _<_}
+use native.Mathlib.Omega.{arith}
+use lib.ListN.{length, drop, length-drop}
+use lib.Seq.{length-take-le}
+use lib.Dec.{lit<}
+use Rattle.steps.specs.declared.Outcome.{Outcome}
+use Rattle.kept.specs.Keeping.{keptOf}
+use Rattle.kept.specs.Counting.{countedOf}
+use Rattle.links.specs.Line.{lineAfter}
+use Rattle.lists.specs.Lists.{part, putBack}
+use Rattle.links.specs.Words.{lineIn, linePlace}
+use Rattle.links.specs.Lines.{sentWords, Room, still}
+use Rattle.mesh.specs.Steps.{linesAfter}
+use Rattle.buffer.specs.Layout.{registersIn}
+use Rattle.buffer.specs.Chips.{changedOn, sending, registerWords, lineWords, Takes, ChipStep, Upto}
+use Rattle.lists.proofs.Parts.{length-back, part-same, part-before, part-behind}
+use Rattle.buffer.proofs.ChipParts.{order, words-other, words-same}
+use Rattle.links.proofs.Places.{line-sent, still-sent, length-sent}
+
+pub line-long : (j : ℕ) (l : List ℕ) → j < 6 → length l ≡ 322 → length (lineWords j l) ≡ 51
+line-long j l h k = length-take-le 51 (drop (linePlace j) l) (simp length-drop (omega arith))
+
+module _ (f : ℕ → List ℕ → List ℕ) where
+  -- no link yet
+  pub begin : (l : List ℕ) → length l ≡ 322 → Upto f 0 l l
+  begin l h = record { long = h; registers = refl; counters = refl; done = λ j f. absurd (omega arith); todo = λ j f hj. refl }
+
+  -- one link more
+  pub next : (k : ℕ) (before l : List ℕ) → k < 6 → length (f k (lineWords k before)) ≡ 51 → Upto f k before l → Upto f (suc k) before (changedOn f l k)
+  next k before l hk sized u =
+      record {
+        long = length-back (linePlace k) 51 ys l fits long ∙ u .long;
+        registers = part-before (linePlace k) 51 ys l fits long 0 6 (omega arith) ∙ u .registers;
+        counters = part-before (linePlace k) 51 ys l fits long 6 10 (omega arith) ∙ u .counters;
+        done = finished;
+        todo = λ j h hj. words-other k hk ys l (u .long) long j (λ e. omega arith) ∙ u .todo j (omega arith) hj;
+      }
+    where
+      same : lineWords k l ≡ lineWords k before
+      same = u .todo k (omega arith) hk
+
+      ys : List ℕ
+      ys = f k (lineWords k l)
+
+      long : length (f k (lineWords k l)) ≡ 51
+      long = ap (λ (w : List ℕ). length (f k w)) same ∙ sized
+
+      fits : linePlace k + 51 ≤ length l
+      fits = omega (arith, u .long)
+
+      finished : (j : ℕ) → j < suc k → lineWords j (changedOn f l k) ≡ f j (lineWords j before)
+      finished j h = go (order k j)
+        where
+          go : (k < j) ⊎ ((k ≡ j) ⊎ (j < k)) → lineWords j (changedOn f l k) ≡ f j (lineWords j before)
+          go (inl g) = absurd (omega arith)
+          go (inr (inl e)) = subst (λ (m : ℕ). lineWords m (changedOn f l k) ≡ f m (lineWords m before)) e
+              (words-same k hk ys l (u .long) long ∙ ap (f k) same)
+          go (inr (inr g)) = words-other k hk ys l (u .long) long j (λ e. omega arith) ∙ u .done j g
+
+-- what a pass sends fits
+pub sends-long : (k : ℕ) (l : List ℕ) (o : Outcome) → k < 6 → Takes l o → length (sending o k (lineWords k l)) ≡ 51
+sends-long k l o hk t = length-sent (lineWords k l) o k (line-long k l hk (t .long)) (t .room k hk)
+
+-- a chip after a pass: registers and counters first, then all six links
+module _ (l ws cs : List ℕ) (o : Outcome) (h : length l ≡ 322) (lw : length ws ≡ 6) (lc : length cs ≡ 10) where
+  fits₀ : 0 + 6 ≤ length l
+  fits₀ = omega arith
+
+  longer : length (putBack 0 6 ws l) ≡ 322
+  longer = length-back 0 6 ws l fits₀ lw ∙ h
+
+  fits₁ : 6 + 10 ≤ length (putBack 0 6 ws l)
+  fits₁ = omega (arith, longer)
+
+  pub after-long : length (putBack 6 10 cs (putBack 0 6 ws l)) ≡ 322
+  after-long = length-back 6 10 cs (putBack 0 6 ws l) fits₁ lc ∙ longer
+
+  untouched : (j : ℕ) → lineWords j (putBack 6 10 cs (putBack 0 6 ws l)) ≡ lineWords j l
+  untouched j = part-behind 6 10 cs (putBack 0 6 ws l) fits₁ lc (linePlace j) 51 (omega arith) ∙ part-behind 0 6 ws l fits₀ lw (linePlace j) 51 (omega arith)
+
+  -- what the pass asks of the chip it still asks of its links
+  pub takes-on : Takes l o → Takes (putBack 6 10 cs (putBack 0 6 ws l)) o
+  takes-on t =
+      record {
+        long = after-long;
+        dropped = t .dropped;
+        lost = t .lost;
+        room = λ i hi. subst (λ (w : List ℕ). Room w o i) (sym (untouched i)) (t .room i hi);
+        right = t .right;
+        leg = t .leg;
+      }
+
+  pub finish : ws ≡ registerWords (keptOf (registersIn (part 0 6 l)) o) → cs ≡ countedOf (record { count = part 6 10 (putBack 0 6 ws l) }) o .count → Takes l o
+      → (k : List ℕ) → Upto (sending o) 6 (putBack 6 10 cs (putBack 0 6 ws l)) k → ChipStep l k o
+  unfolding linesAfter
+  finish ew ec t k u =
+      let r : part 0 6 k ≡ registerWords (keptOf (registersIn (part 0 6 l)) o) =
+      u .registers ∙ part-before 6 10 cs (putBack 0 6 ws l) fits₁ lc 0 6 (omega arith) ∙ part-same 0 6 ws l fits₀ lw ∙ ew in
+      let c : part 6 10 k ≡ countedOf (record { count = part 6 10 l }) o .count =
+      u .counters ∙ part-same 6 10 cs (putBack 0 6 ws l) fits₁ lc ∙ ec
+      ∙ ap (λ (w : List ℕ). countedOf (record { count = w }) o .count) (part-behind 0 6 ws l fits₀ lw 6 10 (omega arith)) in
+      let words : (j : ℕ) → j < 6 → lineWords j k ≡ sentWords (lineWords j l) o j =
+      λ j hj. u .done j hj ∙ ap (λ (w : List ℕ). sentWords w o j) (untouched j) in
+      let line : (j : ℕ) → j < 6 → lineIn (lineWords j k) ≡ lineAfter o tt j (lineIn (lineWords j l)) =
+      λ j hj. ap lineIn (words j hj) ∙ line-sent (lineWords j l) o j (line-long j l hj h) (t .room j hj) (t .right j hj) (t .leg j hj) in
+      record {
+        long = u .long;
+        chip = λ i. record {
+          registers = registersIn (r i);
+          counters = record { count = c i };
+          lines = line 0 (lit< tt) i ∷ line 1 (lit< tt) i ∷ line 2 (lit< tt) i ∷ line 3 (lit< tt) i ∷ line 4 (lit< tt) i ∷ line 5 (lit< tt) i ∷ [];
+        };
+        still = λ j hj. ap still (words j hj) ∙ still-sent (lineWords j l) o j (line-long j l hj h) (t .room j hj);
+      }

@@ -1,0 +1,104 @@
+use mathlib.Core.Path.{_≡_, sym, _∙_, subst}
+use native.Mathlib.Omega.{arith}
+use native.Mathlib.Nat.{add-sub-cancel-left}
+use native.Mathlib.Numerals.{add-one}
+use Prim.Native.Nat.{ℕ, suc, _+_, _*_, _-_, _≤_, _<_}
+use mathlib.Core.List.{List}
+use lib.ListN.{getD}
+use Rattle.lists.specs.Lists.{putBack}
+use Rattle.buffer.specs.Chips.{lineWords, Upto}
+use Rattle.buffer.specs.Aside.{asideOn}
+use Rattle.buffer.proofs.Upto.{begin, next, line-long}
+use Rattle.buffer.proofs.Asides.{length-aside}
+use Rattle.buffer.proofs.AsideChips.{chip-set-aside}
+use Rattle.buffer.proofs.aside.chip_aside.Statement.{statement}
+use Rattle.buffer.proofs.aside.chip_aside.Tie as tie
+
+abbrev Inv-loop : tie.InvT-loop
+Inv-loop chip₀ i₀ chip i = (i ≤ 6) × Upto asideOn i chip₀ chip
+
+abbrev μ-loop : tie.MeasureT-loop
+μ-loop chip₀ i₀ chip i = 6 - i
+
+loop-holds : tie.Need-loop-holds Inv-loop μ-loop
+loop-holds c = (omega arith, begin asideOn _ (c .before .pre .long))
+
+mul-at : tie.Need-mul-at Inv-loop μ-loop
+mul-at c = omega arith
+
+add-at : tie.Need-add-at Inv-loop μ-loop
+add-at c = omega arith
+
+add-line-aside : tie.Need-add-line-aside Inv-loop μ-loop
+add-line-aside c = omega arith
+
+mul-line-aside : tie.Need-mul-line-aside Inv-loop μ-loop
+mul-line-aside c = omega arith
+
+sub-line-aside : tie.Need-sub-line-aside Inv-loop μ-loop
+sub-line-aside c = omega arith
+
+part-line-aside-start : tie.Need-part-line-aside-start Inv-loop μ-loop
+part-line-aside-start c = omega arith
+
+part-line-aside-end : tie.Need-part-line-aside-end Inv-loop μ-loop
+part-line-aside-end c = omega (arith, c .before .loop .inv .1 .long)
+
+line-aside-requires : tie.Need-line-aside-requires Inv-loop μ-loop
+line-aside-requires c κs =
+    let at = c .before .before .loop in
+    let i = at .i in
+    let u = at .inv .1 in
+    let hi : i < 6 = c .before .loop-test .taken in
+    rw (add-sub-cancel-left (16 + i * 51) 51)
+    (line-long i (at .chip) hi (u .long), subst (λ (w : List ℕ). getD w 1 0 ≤ 8) (sym (u .todo i (omega arith) hi)) (c .before .before .before .before .pre .few i hi))
+
+add-i : tie.Need-add-i Inv-loop μ-loop
+add-i c = omega arith
+
+loop-less : tie.Need-loop-less Inv-loop μ-loop
+loop-less c = omega arith
+
+loop-again : tie.Need-loop-again Inv-loop μ-loop
+loop-again c =
+    let at = c .before .before .before .before .before .loop in
+    let i = at .i in
+    let l = c .before .before .before .before .before .before .before .args .chip .now in
+    let pre = c .before .before .before .before .before .before .before .pre in
+    let hi : i < 6 = c .before .before .before .before .loop-test .taken in
+    let sized = length-aside (lineWords i l) (line-long i l hi (pre .long)) (pre .few i hi) in (
+      omega arith,
+      rw (add-sub-cancel-left (16 + i * 51) 51, add-one)
+          (subst (λ (ys : List ℕ). Upto asideOn (suc i) l (putBack (16 + i * 51) 51 ys (at .chip))) (sym (rw (add-sub-cancel-left (16 + i * 51) 51) at (c .before .before .line-aside .ensures)))
+          (next asideOn i l (at .chip) hi sized (at .inv .1))),
+    )
+
+same-length : tie.Need-same-length Inv-loop μ-loop
+same-length c = c .before .loop .inv .1 .long ∙ sym (c .before .before .before .pre .long)
+
+returns : tie.Need-returns Inv-loop μ-loop
+returns c =
+    let pre = c .before .before .before .pre in
+    let e : c .before .loop .i ≡ 6 = omega arith in
+    chip-set-aside _ _ pre (rw e at (c .before .loop .inv .1))
+
+pub chip-aside-spec : {M : Type 1} → statement M
+chip-aside-spec =
+    tie.close
+    (tie.spec
+    Inv-loop
+    μ-loop
+    loop-holds
+    mul-at
+    add-at
+    add-line-aside
+    mul-line-aside
+    sub-line-aside
+    part-line-aside-start
+    part-line-aside-end
+    line-aside-requires
+    add-i
+    loop-less
+    loop-again
+    same-length
+    returns)

@@ -1,0 +1,19 @@
+use borrow.Author.Needs.{needs}
+use mathlib.Core.Path.{sym, _∙_}
+use Rattle.buffer.proofs.opening.size.Statement.{statement}
+use Rattle.buffer.proofs.opening.size.Tie as tie
+
+size-fine-requires : tie.Need-size-fine-requires
+size-fine-requires c κs = search needs
+
+words-for-requires : tie.Need-words-for-requires
+words-for-requires c κs = sym (c .before .size-fine .ensures) ∙ c .if1 .taken
+
+returns : tie.Need-returns
+returns c = simp (c .words-for .ensures, sym (c .before .before .size-fine .ensures) ∙ c .before .if1 .taken)
+
+returns-2 : tie.Need-returns-2
+returns-2 c = simp (sym (c .before .size-fine .ensures) ∙ c .if1 .left)
+
+pub size-spec : {M : Type 1} → statement M
+size-spec = tie.close (tie.spec size-fine-requires words-for-requires returns returns-2)

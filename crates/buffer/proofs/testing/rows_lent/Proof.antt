@@ -1,0 +1,21 @@
+use borrow.Author.Needs.{needs}
+use mathlib.Core.Path.{_∙_, sym}
+use mathlib.Core.Bool.{and-true, and-false}
+use borrow.Author.Tests.{not-true, not-false}
+use Rattle.buffer.proofs.testing.rows_lent.Statement.{statement}
+use Rattle.buffer.proofs.testing.rows_lent.Tie as tie
+
+starts-fine-requires : tie.Need-starts-fine-requires
+starts-fine-requires c κs = search needs
+
+returns : tie.Need-returns
+returns c = simp (sym (c .before .starts-fine .ensures) ∙ not-true _ (c .if1 .taken), and-false)
+
+routes-fine-requires : tie.Need-routes-fine-requires
+routes-fine-requires c κs = search needs
+
+returns-2 : tie.Need-returns-2
+returns-2 c = c .routes-fine .ensures ∙ simp (sym (c .before .before .starts-fine .ensures) ∙ not-false _ (c .before .if1 .left), and-true)
+
+pub rows-lent-spec : {M : Type 1} → statement M
+rows-lent-spec = tie.close (tie.spec starts-fine-requires returns routes-fine-requires returns-2)

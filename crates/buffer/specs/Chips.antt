@@ -1,0 +1,53 @@
+-- What the functions on a chip's words do to them, part by part.
+use Prim.Native.Nat.{ℕ, _≤_, _<_}
+use mathlib.Core.Path.{_≡_}
+use mathlib.Core.Bool.{true}
+use mathlib.Core.List.{List, [], _∷_}
+use lib.ListN.{length}
+use Rattle.steps.specs.declared.Outcome.{Outcome}
+use Rattle.kept.specs.declared.Registers.{Registers}
+use Rattle.steps.specs.Links.{has}
+use Rattle.steps.specs.Deciding.{packetOn, legPacket}
+use Rattle.lists.specs.Lists.{part, putBack}
+use Rattle.links.specs.Words.{linePlace}
+use Rattle.links.specs.Lines.{sentWords, Room, still, Right}
+use Rattle.buffer.specs.Layout.{chipIn}
+use Rattle.mesh.specs.Steps.{chipAfter}
+
+abbrev pub registerWords : Registers → List ℕ
+registerWords r = r .control ∷ r .word ∷ r .payload ∷ r .link ∷ r .leg ∷ r .more ∷ []
+
+-- The words of link i changed by f.
+abbrev pub changedOn : (ℕ → List ℕ → List ℕ) → List ℕ → ℕ → List ℕ
+changedOn f l i = putBack (linePlace i) 51 (f i (part (linePlace i) 51 l)) l
+
+-- the words of link j
+abbrev pub lineWords : ℕ → List ℕ → List ℕ
+lineWords j l = part (linePlace j) 51 l
+
+-- What a pass may ask of a chip: it sends only where there is room, and only packets whose length is right.
+pub record Takes (l : List ℕ) (o : Outcome) : Type 0 where
+  pub long : length l ≡ 322
+  pub dropped : o .dropped < 64
+  pub lost : o .lost < 64
+  pub room : (i : ℕ) → i < 6 → Room (lineWords i l) o i
+  pub right : (i : ℕ) → i < 6 → has (o .sent) i ≡ true → Right (packetOn o i)
+  pub leg : (i : ℕ) → i < 6 → has (o .leg) i ≡ true → Right (legPacket o)
+
+-- A chip's words before and after a pass: the chip is as the pass leaves it; the links' states and what is set aside are as they were.
+pub record ChipStep (before after : List ℕ) (o : Outcome) : Type 0 where
+  pub long : length after ≡ 322
+  pub chip : chipIn after ≡ chipAfter o tt (chipIn before)
+  pub still : (j : ℕ) → j < 6 → still (lineWords j after) ≡ still (lineWords j before)
+
+-- A chip's words before and after the words of its links below k were changed by f: all else is as it was.
+pub record Upto (f : ℕ → List ℕ → List ℕ) (k : ℕ) (before after : List ℕ) : Type 0 where
+  pub long : length after ≡ 322
+  pub registers : part 0 6 after ≡ part 0 6 before
+  pub counters : part 6 10 after ≡ part 6 10 before
+  pub done : (j : ℕ) → j < k → lineWords j after ≡ f j (lineWords j before)
+  pub todo : (j : ℕ) → k ≤ j → j < 6 → lineWords j after ≡ lineWords j before
+
+-- What a pass makes of a link's words.
+abbrev pub sending : Outcome → ℕ → List ℕ → List ℕ
+sending o i w = sentWords w o i

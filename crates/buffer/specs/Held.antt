@@ -1,0 +1,16 @@
+-- How many packets a chip's links hold, by its words.
+use Prim.Native.Nat.{ℕ, _≤_, _<_}
+use mathlib.Core.Path.{_≡_}
+use mathlib.Core.List.{List}
+use lib.ListN.{length, getD}
+use Rattle.buffer.specs.Layout.{chipIn}
+use Rattle.buffer.specs.Chips.{lineWords}
+use Rattle.mesh.specs.Weights.{onChip}
+
+abbrev pub chipFlight : List ℕ → ℕ
+chipFlight l = onChip (λ f. 1) (chipIn l)
+
+-- "Every directed link holds at most 8 packets."
+pub record Few (l : List ℕ) : Type 0 where
+  pub long : length l ≡ 322
+  pub few : (j : ℕ) → j < 6 → getD (lineWords j l) 1 0 ≤ 8

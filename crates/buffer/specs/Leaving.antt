@@ -1,0 +1,42 @@
+-- The calls on a buffer: what each leaves, and what it does to the memory that is lent to it, word by word.
+use Prim.Native.Nat.{ℕ, _+_}
+use mathlib.Core.Path.{_≡_}
+use mathlib.Core.Bool.{Bool, true, cond}
+use mathlib.Core.List.{List}
+use lib.Dec.{ltb}
+use lib.ListN.{length, getD, drop, set}
+use Rattle.buffer.specs.Layout.{meshOf, wordsFor}
+use Rattle.buffer.specs.Holding.{holdsMesh}
+use Rattle.links.specs.Phase.{nextPhase}
+use Rattle.links.specs.Lines.{stateOf}
+use Rattle.mesh.specs.Steps.{Tables, same}
+use Rattle.mesh.specs.Calls.{Left, injecting, rounding, linking, emptying}
+
+-- A mesh buffer before and after a call that leaves r. "A refusal returns its number ..., and lent memory stays as it came." "Each buffer left by opening
+-- or by an accepted call holds one [a mesh]". Words past the needed length are never touched.
+pub record Leaves (before after : List ℕ) (r : Left (Unit {0})) : Type 0 where
+  pub refused : (r .refusal ≡ 0 → ⊥) → after ≡ before
+  pub mesh : r .refusal ≡ 0 → meshOf after ≡ r .mesh
+  pub holds : r .refusal ≡ 0 → holdsMesh after ≡ true
+  pub long : length after ≡ length before
+  pub past : drop (wordsFor (getD before 0 0) (getD before 1 0)) after ≡ drop (wordsFor (getD before 0 0) (getD before 1 0)) before
+
+abbrev pub injectLeft : List ℕ → Tables → ℕ → ℕ → List ℕ → Left (Unit {0})
+injectLeft l t room chip bytes = injecting (holdsMesh l) t same (meshOf l) room chip bytes tt
+
+abbrev pub roundLeft : List ℕ → Tables → ℕ → Left (Unit {0})
+roundLeft l t room = rounding (holdsMesh l) t same (meshOf l) room
+
+abbrev pub linkLeft : List ℕ → ℕ → ℕ → Bool → Left (Unit {0})
+linkLeft l chip link up = linking (holdsMesh l) (meshOf l) chip link up
+
+abbrev pub registersLeft : List ℕ → ℕ → Left (Unit {0})
+registersLeft l chip = emptying (holdsMesh l) (meshOf l) chip
+
+-- The words after a round: the phase steps on after each F rounds.
+abbrev pub overWords : List ℕ → List ℕ
+overWords l = cond (ltb (getD l 5 0 + 1) (getD l 2 0)) (set l 5 (getD l 5 0 + 1)) (set (set l 5 0) 4 (nextPhase (getD l 4 0)))
+
+-- A link's words with its state set.
+abbrev pub stateOn : Bool → ℕ → List ℕ → List ℕ
+stateOn up j w = set w 0 (stateOf up)

@@ -1,0 +1,85 @@
+// What was set aside arrives: chips by number, arrival links 0 to 5, oldest first.
+use super::going::pass_one;
+use links::across::aside_place;
+use links::line::packet_at;
+ghost use mathlib.Core.Path.{_≡_};
+ghost use lib.ListN.{getD};
+ghost use Prim.Native.Nat.{_≤_, _<_};
+ghost use Rattle.links.specs.Across.{asidePlace};
+ghost use Rattle.mesh.specs.Steps.{tablesOf};
+ghost use Rattle.buffer.specs.Going.{chipsOf, asideBy, asideAt, DueAside, Passed};
+ghost use Rattle.lists.specs.Lists.{upTo};
+
+// At the first chips.
+pub fn pass_chips(
+    mesh: &mut [u32],
+    log: &mut [u32],
+    count: usize,
+    rows: &[u32],
+    starts: &[u32],
+    codes: &[u8],
+) -> usize
+    requires { ⌜ (count ≤ chipsOf (now mesh)) × DueAside (tablesOf (now rows) (now starts) (now codes)) (upTo (asideAt (now mesh)) count) (now mesh) (now log) 0 ⌝ }
+    ensures { λ r. ⌜ Passed (tablesOf (now (rows .entry)) (now (starts .entry)) (now (codes .entry))) (upTo (asideAt (now (mesh .entry))) count) (now (mesh .entry)) (now (log .entry)) 0 (now (mesh .exit)) (now (log .exit)) r ⌝ }
+{
+    let mut n = 0;
+    let mut chip = 0;
+    while chip < count {
+        n = pass_links(mesh, log, n, chip, rows, starts, codes);
+        chip += 1;
+    }
+    n
+}
+
+// At one chip.
+fn pass_links(
+    mesh: &mut [u32],
+    log: &mut [u32],
+    n: usize,
+    chip: usize,
+    rows: &[u32],
+    starts: &[u32],
+    codes: &[u8],
+) -> usize
+    requires { ⌜ (chip < chipsOf (now mesh)) × DueAside (tablesOf (now rows) (now starts) (now codes)) (asideAt (now mesh) chip) (now mesh) (now log) n ⌝ }
+    ensures { λ r. ⌜ Passed (tablesOf (now (rows .entry)) (now (starts .entry)) (now (codes .entry))) (asideAt (now (mesh .entry)) chip) (now (mesh .entry)) (now (log .entry)) n (now (mesh .exit)) (now (log .exit)) r ⌝ }
+{
+    let width = mesh[0];
+    let height = mesh[1];
+    let x = (chip as u32) % width;
+    let y = (chip as u32) / width;
+    let mut done = n;
+    let mut source = 0;
+    while source < 6 {
+        let at = aside_place(width, height, x, y, source);
+        done = pass_link(mesh, log, done, chip, source, at, rows, starts, codes);
+        source += 1;
+    }
+    done
+}
+
+// At one chip by one link: how many were set aside stands at a place, and they behind it.
+fn pass_link(
+    mesh: &mut [u32],
+    log: &mut [u32],
+    n: usize,
+    chip: usize,
+    source: u32,
+    at: usize,
+    rows: &[u32],
+    starts: &[u32],
+    codes: &[u8],
+) -> usize
+    requires { ⌜ ((at ≡ asidePlace (getD (now mesh) 0 0) (getD (now mesh) 1 0) chip source) × (source < 6)) × DueAside (tablesOf (now rows) (now starts) (now codes)) (asideBy (now mesh) chip source) (now mesh) (now log) n ⌝ }
+    ensures { λ r. ⌜ Passed (tablesOf (now (rows .entry)) (now (starts .entry)) (now (codes .entry))) (asideBy (now (mesh .entry)) chip source) (now (mesh .entry)) (now (log .entry)) n (now (mesh .exit)) (now (log .exit)) r ⌝ }
+{
+    let count = mesh[at] as usize;
+    let mut done = n;
+    let mut i = 0;
+    while i < count {
+        let p = packet_at(mesh, at + 1 + i * 3);
+        done = pass_one(mesh, log, done, chip, source, p, rows, starts, codes);
+        i += 1;
+    }
+    done
+}

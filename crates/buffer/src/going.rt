@@ -1,0 +1,47 @@
+// Passes one after the other, each at a chip with its own tables and with its record in the log.
+use super::logging::write_record;
+use super::passing::pass_at;
+use packet::Packet;
+use tables::size::chips;
+ghost use mathlib.Core.Path.{_≡_};
+ghost use mathlib.Core.List.{[], _∷_};
+ghost use Prim.Native.Nat.{_*_};
+ghost use Rattle.mesh.specs.Steps.{tablesOf};
+ghost use Rattle.buffer.specs.Going.{arrival, Due, Passed};
+
+// One pass. The log has n records before; answers how many it has then.
+pub fn pass_one(
+    mesh: &mut [u32],
+    log: &mut [u32],
+    n: usize,
+    chip: usize,
+    source: u32,
+    p: Packet,
+    rows: &[u32],
+    starts: &[u32],
+    codes: &[u8],
+) -> usize
+    requires { ⌜ Due (tablesOf (now rows) (now starts) (now codes)) (arrival chip source p ∷ []) (now mesh) (now log) n ⌝ }
+    ensures { λ r. ⌜ Passed (tablesOf (now (rows .entry)) (now (starts .entry)) (now (codes .entry))) (arrival chip source p ∷ []) (now (mesh .entry)) (now (log .entry)) n (now (mesh .exit)) (now (log .exit)) r ⌝ }
+{
+    let first = row_place(starts[chip]);
+    let next = row_place(starts[chip + 1]);
+    let all = chips(mesh[0], mesh[1]);
+    let at = chip * all;
+    let o = pass_at(
+        mesh,
+        chip,
+        source,
+        p,
+        &rows[first..next],
+        &codes[at..at + all],
+    );
+    write_record(log, n, chip, o)
+}
+
+// Where a row starts, three numbers a row.
+fn row_place(row: u32) -> usize
+    ensures { λ r. ⌜ r ≡ row * 3 ⌝ }
+{
+    (row as usize) * 3
+}

@@ -1,0 +1,139 @@
+// The calls that only look.
+use super::flight::in_flight;
+use super::holding::holds;
+use super::refusing::number_refusal;
+use links::line::is_ready;
+use links::line::packet_at;
+use links::words::CHIP;
+use links::words::COUNTERS;
+use links::words::HEADER;
+use links::words::LINE;
+use links::words::LINES;
+use mesh::CountRead;
+use mesh::FlightRead;
+use mesh::LinkRead;
+use mesh::MeshRead;
+use packet::Packet;
+use steps::errors::flag_of;
+use tables::size::chips;
+ghost use mathlib.Core.Path.{_≡_};
+ghost use lib.ListN.{length, getD};
+ghost use Prim.Native.Nat.{_≤_};
+ghost use Rattle.links.specs.Words.{lineIn};
+ghost use Rattle.buffer.specs.Layout.{meshOf};
+ghost use Rattle.buffer.specs.Holding.{holdsMesh};
+ghost use Rattle.mesh.specs.Calls.{countRead, meshRead, lineRead, linkRead, noFlight, placeRead, flightRead};
+
+// One of a chip's ten counters. Refusals, the first that applies: 8 no mesh, 9 chip or counter.
+pub fn read_counter(mesh: &[u32], chip: u32, counter: u32) -> CountRead
+    ensures { λ r. ⌜ r ≡ countRead (holdsMesh (now (mesh .entry))) (meshOf (now (mesh .entry))) chip counter ⌝ }
+{
+    let refusal = number_refusal(mesh, holds(mesh), chip, counter, 10);
+    if refusal != 0 {
+        return CountRead { refusal, count: 0 };
+    }
+    let at = HEADER + (chip as usize) * CHIP + (COUNTERS + counter as usize);
+    CountRead {
+        refusal: 0,
+        count: mesh[at],
+    }
+}
+
+// The mesh's size, phase and monitor, and how many packets are in flight: 8 where there is no mesh.
+pub fn look_mesh(mesh: &[u32]) -> MeshRead
+    ensures { λ r. ⌜ r ≡ meshRead (holdsMesh (now (mesh .entry))) (meshOf (now (mesh .entry))) ⌝ }
+{
+    if !holds(mesh) {
+        return MeshRead {
+            refusal: 8,
+            width: 0,
+            height: 0,
+            rounds_per_phase: 0,
+            monitor: 0,
+            phase: 0,
+            rounds_in_phase: 0,
+            in_flight: 0,
+        };
+    }
+    let all = chips(mesh[0], mesh[1]);
+    MeshRead {
+        refusal: 0,
+        width: mesh[0],
+        height: mesh[1],
+        rounds_per_phase: mesh[2],
+        monitor: mesh[3],
+        phase: mesh[4],
+        rounds_in_phase: mesh[5],
+        in_flight: in_flight(mesh, all),
+    }
+}
+
+// One directed link of a chip: whether it is up, how many packets it holds, whether it is ready. Refusals, the first that
+// applies: 8 no mesh, 9 chip or link.
+pub fn look_link(mesh: &[u32], chip: u32, link: u32) -> LinkRead
+    ensures { λ r. ⌜ r ≡ linkRead (holdsMesh (now (mesh .entry))) (meshOf (now (mesh .entry))) chip link ⌝ }
+{
+    let refusal = number_refusal(mesh, holds(mesh), chip, link, 6);
+    if refusal != 0 {
+        return LinkRead {
+            refusal,
+            up: 0,
+            held: 0,
+            ready: 0,
+        };
+    }
+    let at = HEADER + (chip as usize) * CHIP + (LINES + (link as usize) * LINE);
+    look_line(&mesh[at..at + LINE])
+}
+
+// The packet at a place of a directed link, 0 the oldest. Refusals, the first that applies: 8 no mesh, 9 chip or link, or a place
+// where the link holds none.
+pub fn look_flight(mesh: &[u32], chip: u32, link: u32, place: u32) -> FlightRead
+    ensures { λ r. ⌜ r ≡ flightRead (holdsMesh (now (mesh .entry))) (meshOf (now (mesh .entry))) chip link place ⌝ }
+{
+    let refusal = number_refusal(mesh, holds(mesh), chip, link, 6);
+    if refusal != 0 {
+        return no_flight(refusal);
+    }
+    let at = HEADER + (chip as usize) * CHIP + (LINES + (link as usize) * LINE);
+    look_place(&mesh[at..at + LINE], place)
+}
+
+fn look_line(line: &[u32]) -> LinkRead
+    requires { ⌜ length (now line) ≡ 51 ⌝ }
+    ensures { λ r. ⌜ r ≡ lineRead (lineIn (now (line .entry))) ⌝ }
+{
+    LinkRead {
+        refusal: 0,
+        up: flag_of(line[0] == 0, 1),
+        held: line[1],
+        ready: flag_of(is_ready(line), 1),
+    }
+}
+
+fn look_place(line: &[u32], place: u32) -> FlightRead
+    requires { ⌜ (length (now line) ≡ 51) × (getD (now line) 1 0 ≤ 8) ⌝ }
+    ensures { λ r. ⌜ r ≡ placeRead (lineIn (now (line .entry))) place ⌝ }
+{
+    if line[1] <= place {
+        return no_flight(9);
+    }
+    FlightRead {
+        refusal: 0,
+        packet: packet_at(line, 2 + (place as usize) * 3),
+    }
+}
+
+fn no_flight(refusal: u32) -> FlightRead
+    ensures { λ r. ⌜ r ≡ noFlight refusal ⌝ }
+{
+    FlightRead {
+        refusal,
+        packet: Packet {
+            control: 0,
+            nine: 0,
+            word: 0,
+            payload: 0,
+        },
+    }
+}

@@ -1,0 +1,119 @@
+// The calls that move packets: injection and round.
+use super::arriving::pass_chips;
+use super::aside::set_aside;
+use super::going::pass_one;
+use super::refusing::inject_refusal;
+use super::refusing::round_refusal;
+use super::testing::Tested;
+use super::testing::test;
+use links::phase::next_phase;
+use mesh::Added;
+use packet::bytes::take;
+use tables::size::chips;
+ghost use mathlib.Core.Path.{_≡_};
+ghost use lib.ListN.{length, getD};
+ghost use Prim.Native.Nat.{_≤_};
+ghost use Rattle.mesh.specs.Steps.{tablesOf};
+ghost use Rattle.mesh.specs.Calls.{addedOf, loggedOn};
+ghost use Rattle.buffer.specs.Leaving.{Leaves, injectLeft, roundLeft, overWords};
+ghost use Rattle.buffer.specs.Testing.{testedOf};
+
+// Passes a local packet at a chip, at once. Refusals, the first that applies: 8 no mesh, 9 chip, 5 rows, 11 codes, 10 log,
+// 2 length, 3 type 11, 4 NN with T = 1.
+pub fn inject(
+    mesh: &mut [u32],
+    log: &mut [u32],
+    chip: u32,
+    bytes: &[u8],
+    rows: &[u32],
+    starts: &[u32],
+    codes: &[u8],
+) -> Added
+    ensures { λ r. ⌜ r ≡ addedOf (injectLeft (now (mesh .entry)) (tablesOf (now (rows .entry)) (now (starts .entry)) (now (codes .entry))) (length (now (log .entry))) chip (now (bytes .entry))) ⌝ }
+    ensures { λ r. ⌜ Leaves (now (mesh .entry)) (now (mesh .exit)) (injectLeft (now (mesh .entry)) (tablesOf (now (rows .entry)) (now (starts .entry)) (now (codes .entry))) (length (now (log .entry))) chip (now (bytes .entry))) ⌝ }
+    ensures { λ r. ⌜ now (log .exit) ≡ loggedOn (injectLeft (now (mesh .entry)) (tablesOf (now (rows .entry)) (now (starts .entry)) (now (codes .entry))) (length (now (log .entry))) chip (now (bytes .entry)) .log) (now (log .entry)) ⌝ }
+{
+    let tested = test(mesh, rows, starts, codes);
+    inject_tested(mesh, log, chip, bytes, rows, starts, codes, tested)
+}
+
+// Passes all that is in flight; then, after each F rounds, the phase steps on. Refusals, the first that applies: 8 no mesh,
+// 5 rows, 11 codes, 10 log.
+pub fn round(mesh: &mut [u32], log: &mut [u32], rows: &[u32], starts: &[u32], codes: &[u8]) -> Added
+    ensures { λ r. ⌜ r ≡ addedOf (roundLeft (now (mesh .entry)) (tablesOf (now (rows .entry)) (now (starts .entry)) (now (codes .entry))) (length (now (log .entry)))) ⌝ }
+    ensures { λ r. ⌜ Leaves (now (mesh .entry)) (now (mesh .exit)) (roundLeft (now (mesh .entry)) (tablesOf (now (rows .entry)) (now (starts .entry)) (now (codes .entry))) (length (now (log .entry)))) ⌝ }
+    ensures { λ r. ⌜ now (log .exit) ≡ loggedOn (roundLeft (now (mesh .entry)) (tablesOf (now (rows .entry)) (now (starts .entry)) (now (codes .entry))) (length (now (log .entry))) .log) (now (log .entry)) ⌝ }
+{
+    let tested = test(mesh, rows, starts, codes);
+    round_tested(mesh, log, rows, starts, codes, tested)
+}
+
+// An injection where buffer and tables were tested.
+pub fn inject_tested(
+    mesh: &mut [u32],
+    log: &mut [u32],
+    chip: u32,
+    bytes: &[u8],
+    rows: &[u32],
+    starts: &[u32],
+    codes: &[u8],
+    tested: Tested,
+) -> Added
+    requires { ⌜ tested ≡ testedOf (now mesh) (tablesOf (now rows) (now starts) (now codes)) ⌝ }
+    ensures { λ r. ⌜ r ≡ addedOf (injectLeft (now (mesh .entry)) (tablesOf (now (rows .entry)) (now (starts .entry)) (now (codes .entry))) (length (now (log .entry))) chip (now (bytes .entry))) ⌝ }
+    ensures { λ r. ⌜ Leaves (now (mesh .entry)) (now (mesh .exit)) (injectLeft (now (mesh .entry)) (tablesOf (now (rows .entry)) (now (starts .entry)) (now (codes .entry))) (length (now (log .entry))) chip (now (bytes .entry))) ⌝ }
+    ensures { λ r. ⌜ now (log .exit) ≡ loggedOn (injectLeft (now (mesh .entry)) (tablesOf (now (rows .entry)) (now (starts .entry)) (now (codes .entry))) (length (now (log .entry))) chip (now (bytes .entry)) .log) (now (log .entry)) ⌝ }
+{
+    let refusal = inject_refusal(mesh, tested, log.len(), chip, bytes);
+    if refusal != 0 {
+        return Added { refusal, added: 0 };
+    }
+    let taken = take(bytes);
+    let p = taken.packet;
+    let n = pass_one(mesh, log, 0, chip as usize, 7, p, rows, starts, codes);
+    Added {
+        refusal: 0,
+        added: n as u32,
+    }
+}
+
+// A round where buffer and tables were tested.
+pub fn round_tested(
+    mesh: &mut [u32],
+    log: &mut [u32],
+    rows: &[u32],
+    starts: &[u32],
+    codes: &[u8],
+    tested: Tested,
+) -> Added
+    requires { ⌜ tested ≡ testedOf (now mesh) (tablesOf (now rows) (now starts) (now codes)) ⌝ }
+    ensures { λ r. ⌜ r ≡ addedOf (roundLeft (now (mesh .entry)) (tablesOf (now (rows .entry)) (now (starts .entry)) (now (codes .entry))) (length (now (log .entry)))) ⌝ }
+    ensures { λ r. ⌜ Leaves (now (mesh .entry)) (now (mesh .exit)) (roundLeft (now (mesh .entry)) (tablesOf (now (rows .entry)) (now (starts .entry)) (now (codes .entry))) (length (now (log .entry)))) ⌝ }
+    ensures { λ r. ⌜ now (log .exit) ≡ loggedOn (roundLeft (now (mesh .entry)) (tablesOf (now (rows .entry)) (now (starts .entry)) (now (codes .entry))) (length (now (log .entry))) .log) (now (log .entry)) ⌝ }
+{
+    let refusal = round_refusal(mesh, tested, log.len());
+    if refusal != 0 {
+        return Added { refusal, added: 0 };
+    }
+    let all = chips(mesh[0], mesh[1]);
+    set_aside(mesh, all);
+    let n = pass_chips(mesh, log, all, rows, starts, codes);
+    round_over(mesh);
+    Added {
+        refusal: 0,
+        added: n as u32,
+    }
+}
+
+fn round_over(mesh: &mut [u32])
+    requires { ⌜ (6 ≤ length (now mesh)) × (getD (now mesh) 5 0 ≤ 65535) ⌝ }
+    ensures { λ _. ⌜ now (mesh .exit) ≡ overWords (now (mesh .entry)) ⌝ }
+{
+    let next = mesh[5] + 1;
+    if next < mesh[2] {
+        mesh[5] = next;
+    } else {
+        mesh[5] = 0;
+        mesh[4] = next_phase(mesh[4]);
+    }
+}

@@ -1,0 +1,38 @@
+// One pass at a chip of the mesh: that of the router, with the chip's own ready set.
+use super::chip::after;
+use super::chip::ready_of;
+use links::words::CHIP;
+use links::words::HEADER;
+use packet::Packet;
+use steps::Outcome;
+use steps::Setting;
+use steps::deciding::outcome_of;
+ghost use mathlib.Core.Path.{_≡_};
+ghost use Rattle.steps.specs.Deciding.{outcomeOf};
+ghost use Rattle.buffer.specs.Passing.{settingIn, Ready, MeshStep};
+
+pub fn pass_at(
+    mesh: &mut [u32],
+    chip: usize,
+    source: u32,
+    p: Packet,
+    rows: &[u32],
+    codes: &[u8],
+) -> Outcome
+    requires { ⌜ Ready (now mesh) chip source p (now codes) ⌝ }
+    ensures { λ o. ⌜ o ≡ outcomeOf p source (now (rows .entry)) (now (codes .entry)) (settingIn (now (mesh .entry)) chip) ⌝ }
+    ensures { λ o. ⌜ MeshStep (now (mesh .entry)) (now (mesh .exit)) chip o ⌝ }
+{
+    let at = HEADER + chip * CHIP;
+    let ready = ready_of(&mesh[at..at + CHIP]);
+    let t = Setting {
+        width: mesh[0],
+        height: mesh[1],
+        monitor: mesh[3],
+        phase: mesh[4],
+        ready,
+    };
+    let o = outcome_of(p, source, rows, codes, t);
+    after(&mut mesh[at..at + CHIP], o);
+    o
+}

@@ -1,0 +1,6 @@
+pub mod Alls
+pub mod Parts
+pub mod Six
+pub mod Sums
+pub mod Totals
+pub mod UpTo

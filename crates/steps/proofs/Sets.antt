@@ -1,0 +1,52 @@
+-- A set made of six tests has just the links that pass them. Assumes nothing.
+use mathlib.Core.Path.{_≡_, refl, ap, _∙_}
+use mathlib.Core.Bool.{Bool, true, false, cond}
+use Prim.Native.Nat.{ℕ, zero, suc, _+_, _*_, _/_, _%_, _^_, _≤_, _<_}
+use native.Mathlib.Omega.{arith}
+use lib.Dec.{eqb}
+use Rattle.steps.specs.Links.{has, setOf}
+
+bit : Bool → ℕ
+bit b = cond b 1 0
+
+bit-le : (b : Bool) → bit b ≤ 1
+unfolding bit
+bit-le true = omega arith
+bit-le false = omega arith
+
+-- a bit at a place
+placed : (b : Bool) (n : ℕ) → cond b n 0 ≡ n * bit b
+unfolding bit
+placed true n = omega arith
+placed false n = omega arith
+
+shown : (b : Bool) → eqb (bit b) 1 ≡ b
+unfolding bit
+shown true = refl
+shown false = refl
+
+-- six bits, and one of them taken out
+digits : (a b c d e f : ℕ) → ℕ
+digits a b c d e f = a + 2 * b + 4 * c + 8 * d + 16 * e + 32 * f
+
+module _ (f : ℕ → Bool) where
+  whole : setOf f ≡ digits (bit (f 0)) (bit (f 1)) (bit (f 2)) (bit (f 3)) (bit (f 4)) (bit (f 5))
+  unfolding digits
+  whole = omega (arith, placed (f 0) 1, placed (f 1) 2, placed (f 2) 4, placed (f 3) 8, placed (f 4) 16, placed (f 5) 32)
+
+  small : (i : ℕ) → bit (f i) ≤ 1
+  small i = bit-le (f i)
+
+  -- the lowest bit, and the bits above it
+  out : (k n m : ℕ) → n ≡ m → m / 2 ^ k % 2 ≡ bit (f k) → has n k ≡ f k
+  out k n m e g = ap (λ (x : ℕ). eqb (x / 2 ^ k % 2) 1) e ∙ ap (λ (x : ℕ). eqb x 1) g ∙ shown (f k)
+
+  pub has-set : (i : ℕ) → i < 6 → has (setOf f) i ≡ f i
+  unfolding digits
+  has-set zero h = out 0 _ _ whole (omega (arith, small 0))
+  has-set (suc zero) h = out 1 _ _ whole (omega (arith, small 0, small 1))
+  has-set (suc (suc zero)) h = out 2 _ _ whole (omega (arith, small 0, small 1, small 2))
+  has-set (suc (suc (suc zero))) h = out 3 _ _ whole (omega (arith, small 0, small 1, small 2, small 3))
+  has-set (suc (suc (suc (suc zero)))) h = out 4 _ _ whole (omega (arith, small 0, small 1, small 2, small 3, small 4))
+  has-set (suc (suc (suc (suc (suc zero))))) h = out 5 _ _ whole (omega (arith, small 0, small 1, small 2, small 3, small 4, small 5))
+  has-set (suc (suc (suc (suc (suc (suc i)))))) h = absurd (omega arith)
