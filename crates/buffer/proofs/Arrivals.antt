@@ -7,16 +7,17 @@ use lib.Dec.{lit<}
 use lib.ListN.{length, getD, drop, length-append, length-map, List·getD-map}
 use lib.Seq.{getD-drop, drop-drop}
 use Rattle.packet.specs.declared.Packet.{Packet}
+use Rattle.links.specs.Offsets.{widthAt, heightAt, heldAt, placeLong, depth, asideAt, asidePlacesAt, chipPlace, linePlace}
 use Rattle.links.specs.Line.{Flight}
 use Rattle.links.specs.Across.{across, opposite, asidePlace}
-use Rattle.links.specs.Words.{packetIn, placesIn, asideIn, linePlace, chipPlace}
+use Rattle.links.specs.Words.{packetIn, placesIn, asideIn}
 use Rattle.links.specs.Lines.{still}
-use Rattle.buffer.specs.Layout.{wordsFor}
+use Rattle.buffer.specs.Layout.{chipsOf, wordsOf}
 use Rattle.mesh.specs.Steps.{Tables, Arrival}
 use Rattle.buffer.specs.Chips.{lineWords}
 use Rattle.buffer.specs.Passing.{chipWords}
 use Rattle.mesh.specs.Sound.{Arrives}
-use Rattle.buffer.specs.Going.{chipsOf, arrival, asideFor, asideBy, asideAt, AsideFew, Due, DueAside, Passed}
+use Rattle.buffer.specs.Going.{arrival, asideFor, asideBy, asideFrom, AsideFew, Due, DueAside, Passed}
 use Rattle.lists.specs.Lists.{upTo}
 use Rattle.lists.proofs.Alls.{all-left}
 use Rattle.links.proofs.Places.{length-places}
@@ -30,8 +31,8 @@ use Rattle.buffer.proofs.Goings.{passed-none, passed-append, due-next}
 
 aside-still : (w w′ : List ℕ) → still w′ ≡ still w → asideIn w′ ≡ asideIn w
 aside-still w w′ e =
-    let same : drop 26 w′ ≡ drop 26 w = ap (drop 1) e in
-    let read : (v : List ℕ) → asideIn v ≡ placesIn (getD (drop 26 v) 0 0) (drop 1 (drop 26 v)) = λ v. λ i. placesIn (sym (getD-drop 26 v 0 0) i) (sym (drop-drop 1 26 v) i) in
+    let same : drop asideAt w′ ≡ drop asideAt w = ap (drop 1) e in
+    let read : (v : List ℕ) → asideIn v ≡ placesIn (getD (drop asideAt v) 0 0) (drop 1 (drop asideAt v)) = λ v. λ i. placesIn (sym (getD-drop asideAt v 0 0) i) (sym (drop-drop 1 asideAt v) i) in
     read w′ ∙ (λ i. placesIn (getD (same i) 0 0) (drop 1 (same i))) ∙ sym (read w)
 
 module _ (t : Tables) (xs : List (Arrival (Unit {0}))) (l log : List ℕ) (n : ℕ) (l₁ log₁ : List ℕ) (n₁ : ℕ) (p : Passed t xs l log n l₁ log₁ n₁) where
@@ -41,14 +42,14 @@ module _ (t : Tables) (xs : List (Arrival (Unit {0}))) (l log : List ℕ) (n : �
   pub aside-same : (chip source : ℕ) → asideBy l₁ chip source ≡ asideBy l chip source
   aside-same chip source =
       ap (map (λ (f : Flight (Unit {0})). record { chip = chip; source = source; flight = f }))
-      ((λ i. asideIn (lineWords (opposite source) (chipWords (across (number 0 (lit< tt) i) (number 1 (lit< tt) i) chip source) l₁)))
-      ∙ aside-still (asideFor l chip source) (lineWords (opposite source) (chipWords (across (getD l 0 0) (getD l 1 0) chip source) l₁)) (p .still (across (getD l 0 0) (getD l 1 0) chip source) (opposite source) (opposite-there source)))
+      ((λ i. asideIn (lineWords (opposite source) (chipWords (across (number widthAt (lit< tt) i) (number heightAt (lit< tt) i) chip source) l₁)))
+      ∙ aside-still (asideFor l chip source) (lineWords (opposite source) (chipWords (across (getD l widthAt 0) (getD l heightAt 0) chip source) l₁)) (p .still (across (getD l widthAt 0) (getD l heightAt 0) chip source) (opposite source) (opposite-there source)))
 
   pub few-same : AsideFew l → AsideFew l₁
   few-same few c j hc hj =
-      let e : getD (lineWords j (chipWords c l₁)) 26 0 ≡ getD (lineWords j (chipWords c l)) 26 0 =
-      sym (getD-drop 26 (lineWords j (chipWords c l₁)) 0 0) ∙ ap (λ (w : List ℕ). getD w 1 0) (p .still c j hj) ∙ getD-drop 26 (lineWords j (chipWords c l)) 0 0 in
-      subst (λ (k : ℕ). k ≤ 8) (sym e) (few c j (subst (λ (k : ℕ). c < k) (λ i. number 1 (lit< tt) i * number 0 (lit< tt) i) hc) hj)
+      let e : getD (lineWords j (chipWords c l₁)) asideAt 0 ≡ getD (lineWords j (chipWords c l)) asideAt 0 =
+      sym (getD-drop asideAt (lineWords j (chipWords c l₁)) 0 0) ∙ ap (λ (w : List ℕ). getD w heldAt 0) (p .still c j hj) ∙ getD-drop asideAt (lineWords j (chipWords c l)) 0 0 in
+      subst (λ (k : ℕ). k ≤ 8) (sym e) (few c j (subst (λ (k : ℕ). c < k) (λ i. number heightAt (lit< tt) i * number widthAt (lit< tt) i) hc) hj)
 
 -- ---- what is due next
 
@@ -79,34 +80,34 @@ module _ (t : Tables) (f : ℕ → List (Arrival (Unit {0}))) (k m : ℕ) (h : k
 
 -- the packet that the code reads, where what was set aside has its place
 abbrev pub one : List ℕ → ℕ → ℕ → ℕ → ℕ → List (Arrival (Unit {0}))
-one l place chip source k = arrival chip source (packetIn (drop (place + 1 + k * 3) l)) ∷ []
+one l place chip source k = arrival chip source (packetIn (drop (place + 1 + k * placeLong) l)) ∷ []
 
-module _ (l : List ℕ) (chip source : ℕ) (fine : Head l) (enough : wordsFor (getD l 0 0) (getD l 1 0) ≤ length l) (few : AsideFew l) (hs : source < 6) where
+module _ (l : List ℕ) (chip source : ℕ) (fine : Head l) (enough : wordsOf l ≤ length l) (few : AsideFew l) (hs : source < 6) where
   abbrev from : ℕ
-  from = across (getD l 0 0) (getD l 1 0) chip source
+  from = across (getD l widthAt 0) (getD l heightAt 0) chip source
 
   abbrev place : ℕ
-  place = asidePlace (getD l 0 0) (getD l 1 0) chip source
+  place = asidePlace (getD l widthAt 0) (getD l heightAt 0) chip source
 
-  from-there : across (getD l 0 0) (getD l 1 0) chip source < chipsOf l
-  from-there = across-there (getD l 0 0) (getD l 1 0) chip source (fine .wide) (fine .tall)
+  from-there : across (getD l widthAt 0) (getD l heightAt 0) chip source < chipsOf l
+  from-there = across-there (getD l widthAt 0) (getD l heightAt 0) chip source (fine .wide) (fine .tall)
 
   -- how many there are stands at their place
-  pub count-at : getD l (asidePlace (getD l 0 0) (getD l 1 0) chip source) 0 ≡ length (asideBy l chip source)
+  pub count-at : getD l (asidePlace (getD l widthAt 0) (getD l heightAt 0) chip source) 0 ≡ length (asideBy l chip source)
   count-at =
-      sym (word-at from (opposite source) 26 l (opposite-there source) (lit< tt)) ∙ sym (length-places (getD (asideFor l chip source) 26 0) (drop 27 (asideFor l chip source)))
+      sym (word-at from (opposite source) asideAt l (opposite-there source) (lit< tt)) ∙ sym (length-places (getD (asideFor l chip source) asideAt 0) (drop asidePlacesAt (asideFor l chip source)))
       ∙ sym (length-map (asideIn (asideFor l chip source)) _)
 
-  pub count-few : getD l (asidePlace (getD l 0 0) (getD l 1 0) chip source) 0 ≤ 8
+  pub count-few : getD l (asidePlace (getD l widthAt 0) (getD l heightAt 0) chip source) 0 ≤ 8
   count-few =
-      subst (λ (k : ℕ). k ≤ 8) (word-at from (opposite source) 26 l (opposite-there source) (lit< tt)) (few from (opposite source) from-there (opposite-there source))
+      subst (λ (k : ℕ). k ≤ 8) (word-at from (opposite source) asideAt l (opposite-there source) (lit< tt)) (few from (opposite source) from-there (opposite-there source))
 
   -- all of their words are there
-  pub places-there : asidePlace (getD l 0 0) (getD l 1 0) chip source + 25 ≤ length l
+  pub places-there : asidePlace (getD l widthAt 0) (getD l heightAt 0) chip source + (1 + depth * placeLong) ≤ length l
   places-there = omega (arith, from-there, enough, opposite-there source)
 
   -- they are the packets that the code reads
-  pub aside-read : asideBy l chip source ≡ upTo (one l (asidePlace (getD l 0 0) (getD l 1 0) chip source) chip source) (getD l (asidePlace (getD l 0 0) (getD l 1 0) chip source) 0)
+  pub aside-read : asideBy l chip source ≡ upTo (one l (asidePlace (getD l widthAt 0) (getD l heightAt 0) chip source) chip source) (getD l (asidePlace (getD l widthAt 0) (getD l heightAt 0) chip source) 0)
   aside-read =
       one-by-one d (asideBy l chip source) ∙ ap (upTo (λ k. getD (asideBy l chip source) k d ∷ [])) (sym count-at)
       ∙ upto-same (λ k. getD (asideBy l chip source) k d ∷ []) (one l place chip source) (getD l place 0) (λ k h. λ i. read k h i ∷ [])
@@ -117,39 +118,39 @@ module _ (l : List ℕ) (chip source : ℕ) (fine : Head l) (enough : wordsFor (
       d : Arrival (Unit {0})
       d = record { chip = chip; source = source; flight = nothing }
 
-      read : (k : ℕ) → k < getD l place 0 → getD (asideBy l chip source) k d ≡ arrival chip source (packetIn (drop (place + 1 + k * 3) l))
+      read : (k : ℕ) → k < getD l place 0 → getD (asideBy l chip source) k d ≡ arrival chip source (packetIn (drop (place + 1 + k * placeLong) l))
       read k h =
           let small : getD l place 0 ≤ 8 = count-few in
-          let e : place + 1 + k * 3 ≡ chipPlace from + linePlace (opposite source) + (27 + k * 3) = omega arith in
+          let e : place + 1 + k * placeLong ≡ chipPlace from + linePlace (opposite source) + (asidePlacesAt + k * placeLong) = omega arith in
           let f : Flight (Unit {0}) → Arrival (Unit {0}) = λ x. record { chip = chip; source = source; flight = x } in
           List·getD-map f (asideIn (asideFor l chip source)) k nothing
-          ∙ ap f (places-at (getD (asideFor l chip source) 26 0) k (drop 27 (asideFor l chip source)) nothing (subst (λ (m : ℕ). k < m) (sym (word-at from (opposite source) 26 l (opposite-there source) (lit< tt))) h))
+          ∙ ap f (places-at (getD (asideFor l chip source) asideAt 0) k (drop asidePlacesAt (asideFor l chip source)) nothing (subst (λ (m : ℕ). k < m) (sym (word-at from (opposite source) asideAt l (opposite-there source) (lit< tt))) h))
           ∙ ap (arrival chip source)
-          (ap packetIn (drop-drop (k * 3) 27 (asideFor l chip source)) ∙ packet-there from (opposite source) (27 + k * 3) l (opposite-there source) (omega arith)
+          (ap packetIn (drop-drop (k * placeLong) asidePlacesAt (asideFor l chip source)) ∙ packet-there from (opposite source) (asidePlacesAt + k * placeLong) l (opposite-there source) (omega arith)
           ∙ ap (λ (m : ℕ). packetIn (drop m l)) (sym e))
 
   -- and after some passes they are as they were
   pub packet-same : (t : Tables) (xs : List (Arrival (Unit {0}))) (log : List ℕ) (n : ℕ) (l₁ log₁ : List ℕ) (n₁ : ℕ) → Passed t xs l log n l₁ log₁ n₁ → (k : ℕ) → k < 8
-      → packetIn (drop (asidePlace (getD l 0 0) (getD l 1 0) chip source + 1 + k * 3) l₁) ≡ packetIn (drop (asidePlace (getD l 0 0) (getD l 1 0) chip source + 1 + k * 3) l)
+      → packetIn (drop (asidePlace (getD l widthAt 0) (getD l heightAt 0) chip source + 1 + k * placeLong) l₁) ≡ packetIn (drop (asidePlace (getD l widthAt 0) (getD l heightAt 0) chip source + 1 + k * placeLong) l)
   packet-same t xs log n l₁ log₁ n₁ p k h =
       let j = opposite source in
-      let e : place + 1 + k * 3 ≡ chipPlace from + linePlace j + (27 + k * 3) = omega arith in
-      let shift : 27 + k * 3 ≡ 26 + (1 + k * 3) = omega arith in
-      let there : (m : List ℕ) → packetIn (drop (place + 1 + k * 3) m) ≡ packetIn (drop (1 + k * 3) (drop 26 (lineWords j (chipWords from m)))) =
-      λ m. ap (λ (i : ℕ). packetIn (drop i m)) e ∙ sym (packet-there from j (27 + k * 3) m (opposite-there source) (omega arith))
-      ∙ ap packetIn (ap (λ (i : ℕ). drop i (lineWords j (chipWords from m))) shift ∙ sym (drop-drop (1 + k * 3) 26 (lineWords j (chipWords from m)))) in
-      there l₁ ∙ ap (λ (w : List ℕ). packetIn (drop (1 + k * 3) (drop 1 w))) (p .still from j (opposite-there source)) ∙ sym (there l)
+      let e : place + 1 + k * placeLong ≡ chipPlace from + linePlace j + (asidePlacesAt + k * placeLong) = omega arith in
+      let shift : asidePlacesAt + k * placeLong ≡ asideAt + (1 + k * placeLong) = omega arith in
+      let there : (m : List ℕ) → packetIn (drop (place + 1 + k * placeLong) m) ≡ packetIn (drop (1 + k * placeLong) (drop asideAt (lineWords j (chipWords from m)))) =
+      λ m. ap (λ (i : ℕ). packetIn (drop i m)) e ∙ sym (packet-there from j (asidePlacesAt + k * placeLong) m (opposite-there source) (omega arith))
+      ∙ ap packetIn (ap (λ (i : ℕ). drop i (lineWords j (chipWords from m))) shift ∙ sym (drop-drop (1 + k * placeLong) asideAt (lineWords j (chipWords from m)))) in
+      there l₁ ∙ ap (λ (w : List ℕ). packetIn (drop (1 + k * placeLong) (drop 1 w))) (p .still from j (opposite-there source)) ∙ sym (there l)
 
 pub passed-begin : (t : Tables) (f : ℕ → List (Arrival (Unit {0}))) (l log : List ℕ) (n : ℕ) → Passed t (upTo f 0) l log n l log n
 unfolding upTo
 passed-begin t f l log n = passed-none t l log n
 
 -- what the code does with them, from its place for them: each is due, and makes one more; then all have passed
-module _ (t : Tables) (l : List ℕ) (chip source : ℕ) (log : List ℕ) (n : ℕ) (hs : source < 6) (d : DueAside t (asideBy l chip source) l log n) (at : ℕ) (e : at ≡ asidePlace (getD l 0 0) (getD l 1 0) chip source) where
+module _ (t : Tables) (l : List ℕ) (chip source : ℕ) (log : List ℕ) (n : ℕ) (hs : source < 6) (d : DueAside t (asideBy l chip source) l log n) (at : ℕ) (e : at ≡ asidePlace (getD l widthAt 0) (getD l heightAt 0) chip source) where
   fine : Head l
   fine = head-range l (d .due .head)
 
-  pub place-few : (getD l at 0 ≤ 8) × (at + 25 ≤ length l)
+  pub place-few : (getD l at 0 ≤ 8) × (at + (1 + depth * placeLong) ≤ length l)
   place-few = rw e (count-few l chip source fine (d .due .long) (d .few) hs, places-there l chip source fine (d .due .long) (d .few) hs)
 
   all-read : asideBy l chip source ≡ upTo (one l at chip source) (getD l at 0)
@@ -158,8 +159,8 @@ module _ (t : Tables) (l : List ℕ) (chip source : ℕ) (log : List ℕ) (n : �
   pub link-end : (l₁ log₁ : List ℕ) (n₁ : ℕ) → Passed t (upTo (one l at chip source) (getD l at 0)) l log n l₁ log₁ n₁ → Passed t (asideBy l chip source) l log n l₁ log₁ n₁
   link-end l₁ log₁ n₁ = subst (λ (xs : List (Arrival (Unit {0}))). Passed t xs l log n l₁ log₁ n₁) (sym all-read)
 
-  module _ (k : ℕ) (h : k < getD l at 0) (l₁ log₁ : List ℕ) (n₁ : ℕ) (p : Passed t (upTo (one l at chip source) k) l log n l₁ log₁ n₁) (q : Packet) (r : q ≡ packetIn (drop (at + 1 + k * 3) l₁)) where
-    same-packet : q ≡ packetIn (drop (at + 1 + k * 3) l)
+  module _ (k : ℕ) (h : k < getD l at 0) (l₁ log₁ : List ℕ) (n₁ : ℕ) (p : Passed t (upTo (one l at chip source) k) l log n l₁ log₁ n₁) (q : Packet) (r : q ≡ packetIn (drop (at + 1 + k * placeLong) l₁)) where
+    same-packet : q ≡ packetIn (drop (at + 1 + k * placeLong) l)
     same-packet =
         r ∙ rw e (packet-same l chip source fine (d .due .long) (d .few) hs t (upTo (one l at chip source) k) log n l₁ log₁ n₁ p k (omega (arith, place-few)))
 
@@ -182,10 +183,10 @@ module _ (t : Tables) (l log : List ℕ) (n : ℕ) (l₁ log₁ : List ℕ) (n�
   chips-same xs p = λ i. number t xs l log n l₁ log₁ n₁ p 1 (lit< tt) i * number t xs l log n l₁ log₁ n₁ p 0 (lit< tt) i
 
   -- how many there are stands where it stood
-  pub place-same : (chip source : ℕ) (xs : List (Arrival (Unit {0}))) → Passed t xs l log n l₁ log₁ n₁ → asidePlace (getD l 0 0) (getD l 1 0) chip source ≡ asidePlace (getD l₁ 0 0) (getD l₁ 1 0) chip source
+  pub place-same : (chip source : ℕ) (xs : List (Arrival (Unit {0}))) → Passed t xs l log n l₁ log₁ n₁ → asidePlace (getD l widthAt 0) (getD l heightAt 0) chip source ≡ asidePlace (getD l₁ widthAt 0) (getD l₁ heightAt 0) chip source
   place-same chip source xs p = sym (λ i. asidePlace (number t xs l log n l₁ log₁ n₁ p 0 (lit< tt) i) (number t xs l log n l₁ log₁ n₁ p 1 (lit< tt) i) chip source)
 
-  module _ (chip k : ℕ) (h : k < 6) (d : DueAside t (asideAt l chip) l log n) (p : Passed t (upTo (asideBy l chip) k) l log n l₁ log₁ n₁) where
+  module _ (chip k : ℕ) (h : k < 6) (d : DueAside t (asideFrom l chip) l log n) (p : Passed t (upTo (asideBy l chip) k) l log n l₁ log₁ n₁) where
     pub links-due : DueAside t (asideBy l₁ chip k) l₁ log₁ n₁
     links-due =
         subst (λ (xs : List (Arrival (Unit {0}))). DueAside t xs l₁ log₁ n₁) (sym (aside-same t (upTo (asideBy l chip) k) l log n l₁ log₁ n₁ p chip k))
@@ -196,13 +197,13 @@ module _ (t : Tables) (l log : List ℕ) (n : ℕ) (l₁ log₁ : List ℕ) (n�
         passed-step t (asideBy l chip) k 6 h l log n d l₁ log₁ n₁ p l₂ log₂ n₂
         (subst (λ (xs : List (Arrival (Unit {0}))). Passed t xs l₁ log₁ n₁ l₂ log₂ n₂) (aside-same t (upTo (asideBy l chip) k) l log n l₁ log₁ n₁ p chip k) q)
 
-  module _ (k m : ℕ) (h : k < m) (d : DueAside t (upTo (asideAt l) m) l log n) (p : Passed t (upTo (asideAt l) k) l log n l₁ log₁ n₁) where
-    at-same : asideAt l₁ k ≡ asideAt l k
-    at-same = upto-same (asideBy l₁ k) (asideBy l k) 6 (λ s hs. aside-same t (upTo (asideAt l) k) l log n l₁ log₁ n₁ p k s)
+  module _ (k m : ℕ) (h : k < m) (d : DueAside t (upTo (asideFrom l) m) l log n) (p : Passed t (upTo (asideFrom l) k) l log n l₁ log₁ n₁) where
+    at-same : asideFrom l₁ k ≡ asideFrom l k
+    at-same = upto-same (asideBy l₁ k) (asideBy l k) 6 (λ s hs. aside-same t (upTo (asideFrom l) k) l log n l₁ log₁ n₁ p k s)
 
-    pub chips-due : DueAside t (asideAt l₁ k) l₁ log₁ n₁
-    chips-due = subst (λ (xs : List (Arrival (Unit {0}))). DueAside t xs l₁ log₁ n₁) (sym at-same) (due-step t (asideAt l) k m h l log n d l₁ log₁ n₁ p)
+    pub chips-due : DueAside t (asideFrom l₁ k) l₁ log₁ n₁
+    chips-due = subst (λ (xs : List (Arrival (Unit {0}))). DueAside t xs l₁ log₁ n₁) (sym at-same) (due-step t (asideFrom l) k m h l log n d l₁ log₁ n₁ p)
 
-    pub chips-step : (l₂ log₂ : List ℕ) (n₂ : ℕ) → Passed t (asideAt l₁ k) l₁ log₁ n₁ l₂ log₂ n₂ → Passed t (upTo (asideAt l) (suc k)) l log n l₂ log₂ n₂
+    pub chips-step : (l₂ log₂ : List ℕ) (n₂ : ℕ) → Passed t (asideFrom l₁ k) l₁ log₁ n₁ l₂ log₂ n₂ → Passed t (upTo (asideFrom l) (suc k)) l log n l₂ log₂ n₂
     chips-step l₂ log₂ n₂ q =
-        passed-step t (asideAt l) k m h l log n d l₁ log₁ n₁ p l₂ log₂ n₂ (subst (λ (xs : List (Arrival (Unit {0}))). Passed t xs l₁ log₁ n₁ l₂ log₂ n₂) at-same q)
+        passed-step t (asideFrom l) k m h l log n d l₁ log₁ n₁ p l₂ log₂ n₂ (subst (λ (xs : List (Arrival (Unit {0}))). Passed t xs l₁ log₁ n₁ l₂ log₂ n₂) at-same q)

@@ -7,7 +7,8 @@ use native.Mathlib.Omega.{arith}
 use lib.Dec.{lit<}
 use lib.ListN.{length, getD}
 use Rattle.mesh.specs.Steps.{emptied}
-use Rattle.links.specs.Words.{lineIn, asideIn, chipPlace}
+use Rattle.links.specs.Offsets.{stateAt, chipLong, chipPlace}
+use Rattle.links.specs.Words.{lineIn, asideIn}
 use Rattle.buffer.specs.Layout.{registersIn}
 use Rattle.lists.specs.Lists.{putBack}
 use Rattle.buffer.specs.Chips.{lineWords, Upto}
@@ -31,7 +32,7 @@ chip-set-aside l k h u =
         lines = line 0 (lit< tt) i ∷ line 1 (lit< tt) i ∷ line 2 (lit< tt) i ∷ line 3 (lit< tt) i ∷ line 4 (lit< tt) i ∷ line 5 (lit< tt) i ∷ [];
       };
       aside = λ j hj. ap asideIn (u .done j hj) ∙ aside-held (lineWords j l) (line-long j l hj (h .long)) (h .few j hj);
-      states = λ j hj. ap (λ (w : List ℕ). getD w 0 0) (u .done j hj) ∙ state-aside (lineWords j l) (line-long j l hj (h .long)) (h .few j hj);
+      states = λ j hj. ap (λ (w : List ℕ). getD w stateAt 0) (u .done j hj) ∙ state-aside (lineWords j l) (line-long j l hj (h .long)) (h .few j hj);
     }
 
 -- ---- chip after chip
@@ -40,26 +41,26 @@ pub aside-begin : (n : ℕ) (l : List ℕ) → AsideUpto n 0 l l
 aside-begin n l = record { long = refl; head = refl; done = λ c h. absurd (omega arith); todo = λ c h. refl; past = refl }
 
 module _ (n k : ℕ) (before l ys : List ℕ) (fits : chipPlace n ≤ length before) (below : k < n) (u : AsideUpto n k before l) (step : ChipAside (chipWords k l) ys) where
-  room : chipPlace k + 322 ≤ length l
+  room : chipPlace k + chipLong ≤ length l
   room = omega (arith, u .long)
 
-  done-next : (c : ℕ) → c < suc k → ChipAside (chipWords c before) (chipWords c (putBack (chipPlace k) 322 ys l))
+  done-next : (c : ℕ) → c < suc k → ChipAside (chipWords c before) (chipWords c (putBack (chipPlace k) chipLong ys l))
   done-next c h = go (order k c)
     where
-      go : (k < c) ⊎ ((k ≡ c) ⊎ (c < k)) → ChipAside (chipWords c before) (chipWords c (putBack (chipPlace k) 322 ys l))
+      go : (k < c) ⊎ ((k ≡ c) ⊎ (c < k)) → ChipAside (chipWords c before) (chipWords c (putBack (chipPlace k) chipLong ys l))
       go (inl f) = absurd (omega arith)
-      go (inr (inl e)) = subst (λ (m : ℕ). ChipAside (chipWords m before) (chipWords m (putBack (chipPlace k) 322 ys l))) e
-          (subst (ChipAside (chipWords k before)) (sym (part-same (chipPlace k) 322 ys l room (step .long)))
+      go (inr (inl e)) = subst (λ (m : ℕ). ChipAside (chipWords m before) (chipWords m (putBack (chipPlace k) chipLong ys l))) e
+          (subst (ChipAside (chipWords k before)) (sym (part-same (chipPlace k) chipLong ys l room (step .long)))
           (subst (λ (w : List ℕ). ChipAside w ys) (u .todo k (omega arith)) step))
       go (inr (inr f)) =
-          subst (ChipAside (chipWords c before)) (sym (part-before (chipPlace k) 322 ys l room (step .long) (chipPlace c) 322 (omega arith))) (u .done c f)
+          subst (ChipAside (chipWords c before)) (sym (part-before (chipPlace k) chipLong ys l room (step .long) (chipPlace c) chipLong (omega arith))) (u .done c f)
 
-  pub aside-next : AsideUpto n (suc k) before (putBack (chipPlace k) 322 ys l)
+  pub aside-next : AsideUpto n (suc k) before (putBack (chipPlace k) chipLong ys l)
   aside-next =
       record {
-        long = length-back (chipPlace k) 322 ys l room (step .long) ∙ u .long;
-        head = take-before (chipPlace k) 322 ys l room (step .long) 6 (omega arith) ∙ u .head;
+        long = length-back (chipPlace k) chipLong ys l room (step .long) ∙ u .long;
+        head = take-before (chipPlace k) chipLong ys l room (step .long) 6 (omega arith) ∙ u .head;
         done = done-next;
-        todo = λ c h. part-behind (chipPlace k) 322 ys l room (step .long) (chipPlace c) 322 (omega arith) ∙ u .todo c (omega arith);
-        past = drop-behind (chipPlace k) 322 ys l room (step .long) (chipPlace n) (omega arith) ∙ u .past;
+        todo = λ c h. part-behind (chipPlace k) chipLong ys l room (step .long) (chipPlace c) chipLong (omega arith) ∙ u .todo c (omega arith);
+        past = drop-behind (chipPlace k) chipLong ys l room (step .long) (chipPlace n) (omega arith) ∙ u .past;
       }

@@ -6,72 +6,73 @@ use native.Mathlib.Omega.{arith}
 use lib.Dec.{eqb}
 use lib.ListN.{length, getD, take, drop, set, length-set, length-drop, List·getD-append}
 use lib.Seq.{paste, length-paste, length-take-le, length-paste-head, getD-take, getD-set-same, getD-set-other, drop-set-lt, drop-append-le, drop-at}
+use Rattle.links.specs.Offsets.{stateAt, heldAt, placesAt, placeLong, depth, asideAt, asidePlacesAt, lineLong}
 use Rattle.links.specs.Line.{Flight}
 use Rattle.links.specs.Words.{packetIn, placesIn, lineIn, asideIn}
 use Rattle.mesh.specs.Steps.{emptied}
 use Rattle.buffer.specs.Aside.{asideWords}
 
-module _ (w : List ℕ) (n : ℕ) (long : length w ≡ 51) (few : n ≤ 24) where
-  behind : n ≤ length (drop 2 w)
+module _ (w : List ℕ) (n : ℕ) (long : length w ≡ lineLong) (few : n ≤ depth * placeLong) where
+  behind : n ≤ length (drop placesAt w)
   behind = simp length-drop (omega arith)
 
-  pub length-copied : length (paste w 27 (drop 2 w) n) ≡ 51
-  length-copied = length-paste w 27 (drop 2 w) n (omega arith) behind ∙ long
+  pub length-copied : length (paste w asidePlacesAt (drop placesAt w) n) ≡ lineLong
+  length-copied = length-paste w asidePlacesAt (drop placesAt w) n (omega arith) behind ∙ long
 
   -- the words before the copy are as they were
-  pub copied-before : (i : ℕ) → i < 27 → getD (paste w 27 (drop 2 w) n) i 0 ≡ getD w i 0
+  pub copied-before : (i : ℕ) → i < asidePlacesAt → getD (paste w asidePlacesAt (drop placesAt w) n) i 0 ≡ getD w i 0
   copied-before i h =
-      let first : length (take 27 w) ≡ 27 = length-take-le 27 w (omega arith) in
-      let both : length (take 27 w ++ take n (drop 2 w)) ≡ 27 + n = length-paste-head w 27 (drop 2 w) n (omega arith) behind in
-      List·getD-append (take 27 w ++ take n (drop 2 w)) (drop (27 + n) w) 0 i (omega (arith, both))
-      ∙ List·getD-append (take 27 w) (take n (drop 2 w)) 0 i (omega (arith, first))
-      ∙ getD-take 27 w i 0 h
+      let first : length (take asidePlacesAt w) ≡ asidePlacesAt = length-take-le asidePlacesAt w (omega arith) in
+      let both : length (take asidePlacesAt w ++ take n (drop placesAt w)) ≡ asidePlacesAt + n = length-paste-head w asidePlacesAt (drop placesAt w) n (omega arith) behind in
+      List·getD-append (take asidePlacesAt w ++ take n (drop placesAt w)) (drop (asidePlacesAt + n) w) 0 i (omega (arith, both))
+      ∙ List·getD-append (take asidePlacesAt w) (take n (drop placesAt w)) 0 i (omega (arith, first))
+      ∙ getD-take asidePlacesAt w i 0 h
 
   -- and the copy stands behind them
-  pub copied-behind : drop 27 (paste w 27 (drop 2 w) n) ≡ take n (drop 2 w) ++ drop (27 + n) w
+  pub copied-behind : drop asidePlacesAt (paste w asidePlacesAt (drop placesAt w) n) ≡ take n (drop placesAt w) ++ drop (asidePlacesAt + n) w
   copied-behind =
-      let first : length (take 27 w) ≡ 27 = length-take-le 27 w (omega arith) in
-      let both : length (take 27 w ++ take n (drop 2 w)) ≡ 27 + n = length-paste-head w 27 (drop 2 w) n (omega arith) behind in
-      drop-append-le 27 (take 27 w ++ take n (drop 2 w)) (drop (27 + n) w) (omega (arith, both))
-      ∙ ap (λ (l : List ℕ). l ++ drop (27 + n) w) (drop-at (take 27 w) (take n (drop 2 w)) 27 first)
+      let first : length (take asidePlacesAt w) ≡ asidePlacesAt = length-take-le asidePlacesAt w (omega arith) in
+      let both : length (take asidePlacesAt w ++ take n (drop placesAt w)) ≡ asidePlacesAt + n = length-paste-head w asidePlacesAt (drop placesAt w) n (omega arith) behind in
+      drop-append-le asidePlacesAt (take asidePlacesAt w ++ take n (drop placesAt w)) (drop (asidePlacesAt + n) w) (omega (arith, both))
+      ∙ ap (λ (l : List ℕ). l ++ drop (asidePlacesAt + n) w) (drop-at (take asidePlacesAt w) (take n (drop placesAt w)) asidePlacesAt first)
 
 -- the packets in n places are read from their words alone
-places-front : (n : ℕ) (l rest : List ℕ) → n * 3 ≤ length l → placesIn n (take (n * 3) l ++ rest) ≡ placesIn n l
+places-front : (n : ℕ) (l rest : List ℕ) → n * placeLong ≤ length l → placesIn n (take (n * placeLong) l ++ rest) ≡ placesIn n l
 unfolding placesIn
 places-front zero l rest h = refl
 places-front (suc n) [] rest h = absurd (omega arith)
 places-front (suc n) (x ∷ []) rest h = absurd (omega arith)
 places-front (suc n) (x ∷ y ∷ []) rest h = absurd (omega arith)
 places-front (suc n) (x ∷ y ∷ z ∷ l) rest h =
-    let e : suc n * 3 ≡ suc (suc (suc (n * 3))) = omega arith in
+    let e : suc n * placeLong ≡ suc (suc (suc (n * placeLong))) = omega arith in
     ap (λ (k : ℕ). placesIn (suc n) (take k (x ∷ y ∷ z ∷ l) ++ rest)) e
     ∙ ap (λ (fs : List (Flight (Unit {0}))). record { packet = packetIn (x ∷ y ∷ z ∷ l); tag = tt } ∷ fs) (places-front n l rest (omega arith))
 
-module _ (w : List ℕ) (long : length w ≡ 51) (few : getD w 1 0 ≤ 8) where
+module _ (w : List ℕ) (long : length w ≡ lineLong) (few : getD w heldAt 0 ≤ 8) where
   abbrev copied : List ℕ
-  copied = paste w 27 (drop 2 w) (getD w 1 0 * 3)
+  copied = paste w asidePlacesAt (drop placesAt w) (getD w heldAt 0 * placeLong)
 
-  within : getD w 1 0 * 3 ≤ 24
+  within : getD w heldAt 0 * placeLong ≤ depth * placeLong
   within = omega arith
 
-  sized : length (paste w 27 (drop 2 w) (getD w 1 0 * 3)) ≡ 51
-  sized = length-copied w (getD w 1 0 * 3) long within
+  sized : length (paste w asidePlacesAt (drop placesAt w) (getD w heldAt 0 * placeLong)) ≡ lineLong
+  sized = length-copied w (getD w heldAt 0 * placeLong) long within
 
-  pub length-aside : length (asideWords w) ≡ 51
+  pub length-aside : length (asideWords w) ≡ lineLong
   length-aside = simp length-set sized
 
-  pub state-aside : getD (asideWords w) 0 0 ≡ getD w 0 0
+  pub state-aside : getD (asideWords w) stateAt 0 ≡ getD w stateAt 0
   state-aside =
-      getD-set-other (set copied 26 (getD w 1 0)) 1 0 0 0 (λ e. omega arith)
-      ∙ getD-set-other copied 26 0 (getD w 1 0) 0 (λ e. omega arith)
-      ∙ copied-before w (getD w 1 0 * 3) long within 0 (omega arith)
+      getD-set-other (set copied asideAt (getD w heldAt 0)) heldAt stateAt 0 0 (λ e. omega arith)
+      ∙ getD-set-other copied asideAt stateAt (getD w heldAt 0) 0 (λ e. omega arith)
+      ∙ copied-before w (getD w heldAt 0 * placeLong) long within 0 (omega arith)
 
-  none-held : getD (asideWords w) 1 0 ≡ 0
-  none-held = getD-set-same (set copied 26 (getD w 1 0)) 1 0 0 (simp length-set (omega (arith, sized)))
+  none-held : getD (asideWords w) heldAt 0 ≡ 0
+  none-held = getD-set-same (set copied asideAt (getD w heldAt 0)) heldAt 0 0 (simp length-set (omega (arith, sized)))
 
-  count-aside : getD (asideWords w) 26 0 ≡ getD w 1 0
+  count-aside : getD (asideWords w) asideAt 0 ≡ getD w heldAt 0
   count-aside =
-      getD-set-other (set copied 26 (getD w 1 0)) 1 26 0 0 (λ e. omega arith) ∙ getD-set-same copied 26 (getD w 1 0) 0 (omega (arith, sized))
+      getD-set-other (set copied asideAt (getD w heldAt 0)) heldAt asideAt 0 0 (λ e. omega arith) ∙ getD-set-same copied asideAt (getD w heldAt 0) 0 (omega (arith, sized))
 
   pub line-aside : lineIn (asideWords w) ≡ emptied (lineIn w)
   unfolding placesIn
@@ -80,9 +81,9 @@ module _ (w : List ℕ) (long : length w ≡ 51) (few : getD w 1 0 ≤ 8) where
 
   pub aside-held : asideIn (asideWords w) ≡ lineIn w .held
   aside-held =
-      (λ i. placesIn (count-aside i) (drop 27 (asideWords w)))
-      ∙ ap (placesIn (getD w 1 0))
-      (drop-set-lt 27 (set copied 26 (getD w 1 0)) 1 0 (omega arith)
-      ∙ drop-set-lt 27 copied 26 (getD w 1 0) (omega arith)
-      ∙ copied-behind w (getD w 1 0 * 3) long within)
-      ∙ places-front (getD w 1 0) (drop 2 w) (drop (27 + getD w 1 0 * 3) w) (simp length-drop (omega arith))
+      (λ i. placesIn (count-aside i) (drop asidePlacesAt (asideWords w)))
+      ∙ ap (placesIn (getD w heldAt 0))
+      (drop-set-lt asidePlacesAt (set copied asideAt (getD w heldAt 0)) heldAt 0 (omega arith)
+      ∙ drop-set-lt asidePlacesAt copied asideAt (getD w heldAt 0) (omega arith)
+      ∙ copied-behind w (getD w heldAt 0 * placeLong) long within)
+      ∙ places-front (getD w heldAt 0) (drop placesAt w) (drop (asidePlacesAt + getD w heldAt 0 * placeLong) w) (simp length-drop (omega arith))

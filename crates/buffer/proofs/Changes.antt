@@ -10,16 +10,16 @@ use lib.ListN.{length, getD, set, length-set}
 use lib.Seq.{getD-set-same, getD-set-other, drop-set-lt}
 use Rattle.packet.specs.Refusal.{firstOf}
 use Rattle.mesh.specs.declared.Added.{Added}
-use Rattle.links.specs.Words.{placesIn, lineIn, linePlace, chipPlace}
+use Rattle.links.specs.Offsets.{widthAt, heightAt, stateAt, heldAt, lineLong, chipLong, chipPlace, linePlace}
+use Rattle.links.specs.Words.{placesIn, lineIn}
 use Rattle.links.specs.Lines.{stateOf}
-use Rattle.buffer.specs.Layout.{meshOf, wordsFor}
+use Rattle.buffer.specs.Layout.{meshOf, wordsFor, chipsOf, wordsOf}
 use Rattle.mesh.specs.Steps.{Going, withChip}
 use Rattle.buffer.specs.Holding.{holdsMesh, StatesFine}
 use Rattle.lists.specs.Lists.{putBack}
 use Rattle.buffer.specs.Chips.{changedOn, lineWords}
 use Rattle.buffer.specs.Passing.{chipWords}
 use Rattle.mesh.specs.Sound.{SoundMesh}
-use Rattle.buffer.specs.Going.{chipsOf}
 use Rattle.mesh.specs.Calls.{numberRefusals, unless, lineOf, withUp, withLink}
 use Rattle.buffer.specs.Leaving.{Leaves, linkLeft, stateOn}
 use Rattle.lists.proofs.Parts.{length-back, part-same, part-before, part-behind, take-before, drop-behind}
@@ -36,40 +36,40 @@ use Rattle.buffer.proofs.Looks.{There, number-there, line-of}
 
 -- ---- one chip's words changed
 
-module _ (l : List ℕ) (chip : ℕ) (h : There l chip) (ys : List ℕ) (sized : length ys ≡ 322)
-    (states : (j : ℕ) → j < 6 → getD (lineWords j (chipWords chip l)) 0 0 ≤ 1 → getD (lineWords j ys) 0 0 ≤ 1) where
+module _ (l : List ℕ) (chip : ℕ) (h : There l chip) (ys : List ℕ) (sized : length ys ≡ chipLong)
+    (states : (j : ℕ) → j < 6 → getD (lineWords j (chipWords chip l)) stateAt 0 ≤ 1 → getD (lineWords j ys) stateAt 0 ≤ 1) where
   abbrev changed : List ℕ
-  changed = putBack (chipPlace chip) 322 ys l
+  changed = putBack (chipPlace chip) chipLong ys l
 
   number : (i : ℕ) → i < 6 → getD changed i 0 ≡ getD l i 0
-  number = head-same l changed (take-before (chipPlace chip) 322 ys l (h .fits) sized 6 (omega arith))
+  number = head-same l changed (take-before (chipPlace chip) chipLong ys l (h .fits) sized 6 (omega arith))
 
-  states-changed : StatesFine (putBack (chipPlace chip) 322 ys l)
+  states-changed : StatesFine (putBack (chipPlace chip) chipLong ys l)
   states-changed c j hc hj = go (order chip c)
     where
       there : c < chipsOf l
-      there = subst (λ (k : ℕ). c < k) (λ i. number 1 (lit< tt) i * number 0 (lit< tt) i) hc
+      there = subst (λ (k : ℕ). c < k) (λ i. number heightAt (lit< tt) i * number widthAt (lit< tt) i) hc
 
-      old : getD (lineWords j (chipWords c l)) 0 0 ≤ 1
+      old : getD (lineWords j (chipWords c l)) stateAt 0 ≤ 1
       old = holds-states l (h .holds) c j there hj
 
-      by : (w : List ℕ) → chipWords c changed ≡ w → getD (lineWords j w) 0 0 ≤ 1 → getD (lineWords j (chipWords c changed)) 0 0 ≤ 1
-      by w e f = subst (λ (v : List ℕ). getD (lineWords j v) 0 0 ≤ 1) (sym e) f
+      by : (w : List ℕ) → chipWords c changed ≡ w → getD (lineWords j w) stateAt 0 ≤ 1 → getD (lineWords j (chipWords c changed)) stateAt 0 ≤ 1
+      by w e f = subst (λ (v : List ℕ). getD (lineWords j v) stateAt 0 ≤ 1) (sym e) f
 
-      go : (chip < c) ⊎ ((chip ≡ c) ⊎ (c < chip)) → getD (lineWords j (chipWords c changed)) 0 0 ≤ 1
-      go (inl f) = by (chipWords c l) (part-behind (chipPlace chip) 322 ys l (h .fits) sized (chipPlace c) 322 (omega arith)) old
-      go (inr (inl e)) = subst (λ (k : ℕ). getD (lineWords j (chipWords k changed)) 0 0 ≤ 1) e
-          (subst (λ (v : List ℕ). getD (lineWords j v) 0 0 ≤ 1) (sym (part-same (chipPlace chip) 322 ys l (h .fits) sized)) (states j hj (holds-states l (h .holds) chip j (h .near) hj)))
-      go (inr (inr f)) = by (chipWords c l) (part-before (chipPlace chip) 322 ys l (h .fits) sized (chipPlace c) 322 (omega arith)) old
+      go : (chip < c) ⊎ ((chip ≡ c) ⊎ (c < chip)) → getD (lineWords j (chipWords c changed)) stateAt 0 ≤ 1
+      go (inl f) = by (chipWords c l) (part-behind (chipPlace chip) chipLong ys l (h .fits) sized (chipPlace c) chipLong (omega arith)) old
+      go (inr (inl e)) = subst (λ (k : ℕ). getD (lineWords j (chipWords k changed)) stateAt 0 ≤ 1) e
+          (subst (λ (v : List ℕ). getD (lineWords j v) stateAt 0 ≤ 1) (sym (part-same (chipPlace chip) chipLong ys l (h .fits) sized)) (states j hj (holds-states l (h .holds) chip j (h .near) hj)))
+      go (inr (inr f)) = by (chipWords c l) (part-before (chipPlace chip) chipLong ys l (h .fits) sized (chipPlace c) chipLong (omega arith)) old
 
   -- an accepted call that changes one chip, to a sound mesh
-  pub chip-leaves : (r : ℕ) → r ≡ 0 → (g : Going (Unit {0})) → meshOf (putBack (chipPlace chip) 322 ys l) ≡ g .mesh → SoundMesh (g .mesh) → Leaves l (putBack (chipPlace chip) 322 ys l) (unless r (meshOf l) g)
+  pub chip-leaves : (r : ℕ) → r ≡ 0 → (g : Going (Unit {0})) → meshOf (putBack (chipPlace chip) chipLong ys l) ≡ g .mesh → SoundMesh (g .mesh) → Leaves l (putBack (chipPlace chip) chipLong ys l) (unless r (meshOf l) g)
   chip-leaves r none g mesh sound =
-      let long = length-back (chipPlace chip) 322 ys l (h .fits) sized in
-      let words : wordsFor (getD changed 0 0) (getD changed 1 0) ≤ length changed =
-      subst (λ (k : ℕ). wordsFor (getD changed 0 0) (getD changed 1 0) ≤ k) (sym long) (subst (λ (k : ℕ). k ≤ length l) (λ i. wordsFor (sym (number 0 (lit< tt)) i) (sym (number 1 (lit< tt)) i)) (words-enough l (h .holds))) in
+      let long = length-back (chipPlace chip) chipLong ys l (h .fits) sized in
+      let words : wordsOf changed ≤ length changed =
+      subst (λ (k : ℕ). wordsOf changed ≤ k) (sym long) (subst (λ (k : ℕ). k ≤ length l) (λ i. wordsFor (sym (number widthAt (lit< tt)) i) (sym (number heightAt (lit< tt)) i)) (words-enough l (h .holds))) in
       accepted-leaves r (meshOf l) g none l changed mesh (sound-holds changed (subst SoundMesh (sym mesh) sound) states-changed words) long
-      (drop-behind (chipPlace chip) 322 ys l (h .fits) sized (wordsFor (getD l 0 0) (getD l 1 0)) (omega (arith, h .near)))
+      (drop-behind (chipPlace chip) chipLong ys l (h .fits) sized (wordsOf l) (omega (arith, h .near)))
 
 -- ---- a link taken up or down
 
@@ -81,9 +81,9 @@ state-up : (up : Bool) → eqb (stateOf up) 0 ≡ up
 state-up true = refl
 state-up false = refl
 
-line-state : (up : Bool) (w : List ℕ) → length w ≡ 51 → lineIn (stateOn up 0 w) ≡ withUp up (lineIn w)
+line-state : (up : Bool) (w : List ℕ) → length w ≡ lineLong → lineIn (stateOn up 0 w) ≡ withUp up (lineIn w)
 line-state up w long =
-    let count : getD (set w 0 (stateOf up)) 1 0 ≡ getD w 1 0 = getD-set-other w 0 1 (stateOf up) 0 (λ e. omega arith) in
+    let count : getD (set w stateAt (stateOf up)) heldAt 0 ≡ getD w heldAt 0 = getD-set-other w stateAt heldAt (stateOf up) 0 (λ e. omega arith) in
     λ i. record {
       up = (ap (λ (k : ℕ). eqb k 0) (getD-set-same w 0 (stateOf up) 0 (omega arith)) ∙ state-up up) i;
       held = placesIn (count i) (drop-set-lt 2 w 0 (stateOf up) (lit< tt) i);
@@ -97,19 +97,19 @@ module _ (l : List ℕ) (chip link : ℕ) (up : Bool) where
       (e ∙ ap (λ (a : Added). a .refusal) (f .0), f .1 .0)
 
   pub link-leaves : firstOf (numberRefusals (holdsMesh l) (chipsOf l) chip link 6) ≡ 0
-      → (0 ≡ linkLeft l chip link up .refusal) × Leaves l (putBack (chipPlace chip) 322 (changedOn (stateOn up) (chipWords chip l) link) l) (linkLeft l chip link up)
+      → (0 ≡ linkLeft l chip link up .refusal) × Leaves l (putBack (chipPlace chip) chipLong (changedOn (stateOn up) (chipWords chip l) link) l) (linkLeft l chip link up)
   unfolding meshOf
   link-leaves none =
       let h = number-there l chip link 6 none in
       let w = lineWords link (chipWords chip l) in
-      let whole : length (chipWords chip l) ≡ 322 = chip-long l chip (h .0 .fits) in
-      let long : length (stateOn up link w) ≡ 51 = length-set w 0 (stateOf up) ∙ line-long link (chipWords chip l) (h .1) whole in
+      let whole : length (chipWords chip l) ≡ chipLong = chip-long l chip (h .0 .fits) in
+      let long : length (stateOn up link w) ≡ lineLong = length-set w stateAt (stateOf up) ∙ line-long link (chipWords chip l) (h .1) whole in
       let ys = changedOn (stateOn up) (chipWords chip l) link in
-      let sized : length ys ≡ 322 = length-back (linePlace link) 51 (stateOn up link w) (chipWords chip l) (omega (arith, h .1, whole)) long ∙ whole in
-      let states : (j : ℕ) → j < 6 → getD (lineWords j (chipWords chip l)) 0 0 ≤ 1 → getD (lineWords j ys) 0 0 ≤ 1 = λ j hj old. go j hj old (order link j) h whole long in
+      let sized : length ys ≡ chipLong = length-back (linePlace link) lineLong (stateOn up link w) (chipWords chip l) (omega (arith, h .1, whole)) long ∙ whole in
+      let states : (j : ℕ) → j < 6 → getD (lineWords j (chipWords chip l)) stateAt 0 ≤ 1 → getD (lineWords j ys) stateAt 0 ≤ 1 = λ j hj old. go j hj old (order link j) h whole long in
       let c = chip-line link (h .1) (stateOn up link w) (chipWords chip l) whole long in
       let line : lineIn (stateOn up link w) ≡ withUp up (lineOf (meshOf l) chip link) = line-state up w (line-long link (chipWords chip l) (h .1) whole) ∙ ap (withUp up) (sym (line-of l chip link (h .0 .near) (h .1))) in
-      let mesh : meshOf (putBack (chipPlace chip) 322 ys l) ≡ withLink (meshOf l) chip link up =
+      let mesh : meshOf (putBack (chipPlace chip) chipLong ys l) ≡ withLink (meshOf l) chip link up =
       mesh-put chip ys l (h .0 .fits) sized (h .0 .near) ∙ ap (withChip (meshOf l) chip) c
       ∙ (λ i. withChip (meshOf l) chip (record {
         registers = sym (mesh-chip l chip (h .0 .near)) i .registers;
@@ -120,11 +120,11 @@ module _ (l : List ℕ) (chip link : ℕ) (up : Bool) where
         chip-leaves l chip (h .0) ys sized states (firstOf (numberRefusals (holdsMesh l) (chipsOf l) chip link 6)) none (record { mesh = withLink (meshOf l) chip link up; log = [] }) mesh (sound-linked (holds-sound l (h .0 .holds)) chip link up (h .0 .near) (h .1)),
       )
     where
-      go : (j : ℕ) → j < 6 → getD (lineWords j (chipWords chip l)) 0 0 ≤ 1 → (link < j) ⊎ ((link ≡ j) ⊎ (j < link)) → There l chip × (link < 6) → length (chipWords chip l) ≡ 322
-          → length (stateOn up link (lineWords link (chipWords chip l))) ≡ 51 → getD (lineWords j (changedOn (stateOn up) (chipWords chip l) link)) 0 0 ≤ 1
-      go j hj old (inl f) h whole long = subst (λ (v : List ℕ). getD v 0 0 ≤ 1) (sym (words-other link (h .1) (stateOn up link (lineWords link (chipWords chip l))) (chipWords chip l) whole long j (λ e. omega arith))) old
-      go j hj old (inr (inr f)) h whole long = subst (λ (v : List ℕ). getD v 0 0 ≤ 1) (sym (words-other link (h .1) (stateOn up link (lineWords link (chipWords chip l))) (chipWords chip l) whole long j (λ e. omega arith))) old
+      go : (j : ℕ) → j < 6 → getD (lineWords j (chipWords chip l)) stateAt 0 ≤ 1 → (link < j) ⊎ ((link ≡ j) ⊎ (j < link)) → There l chip × (link < 6) → length (chipWords chip l) ≡ chipLong
+          → length (stateOn up link (lineWords link (chipWords chip l))) ≡ lineLong → getD (lineWords j (changedOn (stateOn up) (chipWords chip l) link)) stateAt 0 ≤ 1
+      go j hj old (inl f) h whole long = subst (λ (v : List ℕ). getD v stateAt 0 ≤ 1) (sym (words-other link (h .1) (stateOn up link (lineWords link (chipWords chip l))) (chipWords chip l) whole long j (λ e. omega arith))) old
+      go j hj old (inr (inr f)) h whole long = subst (λ (v : List ℕ). getD v stateAt 0 ≤ 1) (sym (words-other link (h .1) (stateOn up link (lineWords link (chipWords chip l))) (chipWords chip l) whole long j (λ e. omega arith))) old
       go j hj old (inr (inl e)) h whole long =
-          subst (λ (k : ℕ). getD (lineWords k (changedOn (stateOn up) (chipWords chip l) link)) 0 0 ≤ 1) e
-          (subst (λ (v : List ℕ). getD v 0 0 ≤ 1) (sym (words-same link (h .1) (stateOn up link (lineWords link (chipWords chip l))) (chipWords chip l) whole long))
+          subst (λ (k : ℕ). getD (lineWords k (changedOn (stateOn up) (chipWords chip l) link)) stateAt 0 ≤ 1) e
+          (subst (λ (v : List ℕ). getD v stateAt 0 ≤ 1) (sym (words-same link (h .1) (stateOn up link (lineWords link (chipWords chip l))) (chipWords chip l) whole long))
           (subst (λ (k : ℕ). k ≤ 1) (sym (getD-set-same (lineWords link (chipWords chip l)) 0 (stateOf up) 0 (omega (arith, line-long link (chipWords chip l) (h .1) whole)))) (state-fine up)))

@@ -12,8 +12,7 @@ use borrow.Author.Tests.{leb-true}
 use Rattle.tables.specs.Sizes.{sizeFine}
 use Rattle.tables.proofs.Sizes.{chips-small}
 use Rattle.lists.specs.Lists.{part}
-use Rattle.links.specs.Words.{chipPlace}
-use Rattle.buffer.specs.Layout.{registersIn, wordsFor}
+use Rattle.buffer.specs.Layout.{registersIn, chipsOf, wordsOf}
 use Rattle.buffer.specs.Chips.{lineWords}
 use Rattle.buffer.specs.Passing.{chipWords}
 use Rattle.mesh.specs.Sound.{registersFine}
@@ -21,6 +20,7 @@ use Rattle.buffer.specs.Holding.{placesFine, lineFine, chipFine, chipsFi
 use Rattle.buffer.specs.Held.{Few}
 use Rattle.buffer.proofs.ChipParts.{order}
 use Rattle.buffer.proofs.FineSteps.{head-size}
+use Rattle.links.specs.Offsets.{widthAt, heightAt, headerLong, stateAt, heldAt, placesAt, registersLong, chipLong, chipPlace}
 
 -- ---- what a mesh that holds keeps
 
@@ -34,19 +34,19 @@ four : (a b c d : Bool) → (a && b && c && d) ≡ true → Parts a b c d
 four a b c d e = let t = simp and-eq-true-iff at e in record { first = t .0 .0 .0; second = t .0 .0 .1; third = t .0 .1; fourth = t .1 }
 
 module _ (l : List ℕ) (holds : holdsMesh l ≡ true) where
-  parts : Parts (leb 6 (length l)) (headFine l) (leb (wordsFor (getD l 0 0) (getD l 1 0)) (length l)) (chipsFine 0 (getD l 1 0 * getD l 0 0) l)
+  parts : Parts (leb headerLong (length l)) (headFine l) (leb (wordsOf l) (length l)) (chipsFine 0 (chipsOf l) l)
   parts = four _ _ _ _ holds
 
   pub holds-head : headFine l ≡ true
   holds-head = parts .second
 
-  pub holds-chips : chipsFine 0 (getD l 1 0 * getD l 0 0) l ≡ true
+  pub holds-chips : chipsFine 0 (chipsOf l) l ≡ true
   holds-chips = parts .fourth
 
-  pub holds-size : sizeFine (getD l 0 0) (getD l 1 0) ≡ true
+  pub holds-size : sizeFine (getD l widthAt 0) (getD l heightAt 0) ≡ true
   holds-size = head-size l (parts .second)
 
-  pub words-enough : wordsFor (getD l 0 0) (getD l 1 0) ≤ length l
+  pub words-enough : wordsOf l ≤ length l
   words-enough = leb-true _ _ (parts .third)
 
 -- each chip
@@ -63,8 +63,8 @@ chips-at (suc n) c k l e low high = go (order c k) (λ t h. chips-at n (suc c) k
     go (inr (inl h)) ih = subst (λ (i : ℕ). chipFine (chipWords i l) ≡ true) h (both .0)
     go (inr (inr h)) ih = absurd (omega arith)
 
-pub chip-held : (l : List ℕ) → holdsMesh l ≡ true → (c : ℕ) → c < getD l 1 0 * getD l 0 0 → chipFine (chipWords c l) ≡ true
-chip-held l holds c h = chips-at (getD l 1 0 * getD l 0 0) 0 c l (parts l holds .fourth) (omega arith) (omega arith)
+pub chip-held : (l : List ℕ) → holdsMesh l ≡ true → (c : ℕ) → c < chipsOf l → chipFine (chipWords c l) ≡ true
+chip-held l holds c h = chips-at (chipsOf l) 0 c l (parts l holds .fourth) (omega arith) (omega arith)
 
 -- each link of a chip
 six-true : (r : Bool) (q : ℕ → Bool) → (r && q 0 && q 1 && q 2 && q 3 && q 4 && q 5) ≡ true → (j : ℕ) → j < 6 → q j ≡ true
@@ -80,33 +80,33 @@ before-six : (r : Bool) (q : ℕ → Bool) → (r && q 0 && q 1 && q 2 && q 3 &&
 before-six r q e = let t = simp and-eq-true-iff at e in t .0 .0 .0 .0 .0 .0
 
 pub line-held : (l : List ℕ) → chipFine l ≡ true → (j : ℕ) → j < 6 → lineFine (lineWords j l) ≡ true
-line-held l e = six-true (registersFine (registersIn (part 0 6 l))) (λ (j : ℕ). lineFine (lineWords j l)) e
+line-held l e = six-true (registersFine (registersIn (part 0 registersLong l))) (λ (j : ℕ). lineFine (lineWords j l)) e
 
-pub registers-held : (l : List ℕ) → chipFine l ≡ true → registersFine (registersIn (part 0 6 l)) ≡ true
-registers-held l e = before-six (registersFine (registersIn (part 0 6 l))) (λ (j : ℕ). lineFine (lineWords j l)) e
+pub registers-held : (l : List ℕ) → chipFine l ≡ true → registersFine (registersIn (part 0 registersLong l)) ≡ true
+registers-held l e = before-six (registersFine (registersIn (part 0 registersLong l))) (λ (j : ℕ). lineFine (lineWords j l)) e
 
 -- the count word of each
-pub held-few : (l : List ℕ) → holdsMesh l ≡ true → (c j : ℕ) → c < getD l 1 0 * getD l 0 0 → j < 6 → getD (lineWords j (chipWords c l)) 1 0 ≤ 8
+pub held-few : (l : List ℕ) → holdsMesh l ≡ true → (c j : ℕ) → c < chipsOf l → j < 6 → getD (lineWords j (chipWords c l)) heldAt 0 ≤ 8
 held-few l holds c j hc hj =
     let x = lineWords j (chipWords c l) in
-    let up = leb (getD x 0 0) 1 in
-    let few = leb (getD x 1 0) 8 in
-    let t = and-eq-true-iff (up && few) (placesFine (getD x 1 0) (drop 2 x)) .0 (line-held (chipWords c l) (chip-held l holds c hc) j hj) in
+    let up = leb (getD x stateAt 0) 1 in
+    let few = leb (getD x heldAt 0) 8 in
+    let t = and-eq-true-iff (up && few) (placesFine (getD x heldAt 0) (drop placesAt x)) .0 (line-held (chipWords c l) (chip-held l holds c hc) j hj) in
     leb-true _ _ (and-eq-true-iff up few .0 (t .0) .1)
 
 -- each chip's words may be counted
-pub few-held : (l : List ℕ) → holdsMesh l ≡ true → (c : ℕ) → c < getD l 1 0 * getD l 0 0 → Few (chipWords c l)
+pub few-held : (l : List ℕ) → holdsMesh l ≡ true → (c : ℕ) → c < chipsOf l → Few (chipWords c l)
 few-held l holds c h =
-    record { long = length-take-le 322 (drop (chipPlace c) l) (simp length-drop (omega (arith, words-enough l holds))); few = λ j hj. held-few l holds c j h hj }
+    record { long = length-take-le chipLong (drop (chipPlace c) l) (simp length-drop (omega (arith, words-enough l holds))); few = λ j hj. held-few l holds c j h hj }
 
 -- the chips: at most 144, all of them within the words
 pub record Chips (l : List ℕ) (count : ℕ) : Type 0 where
   pub many : count ≤ 144
-  pub fit : 6 + count * 322 ≤ length l
+  pub fit : headerLong + count * chipLong ≤ length l
 
-pub chips-held : (l : List ℕ) (count : ℕ) → holdsMesh l ≡ true → count ≡ getD l 1 0 * getD l 0 0 → Chips l count
+pub chips-held : (l : List ℕ) (count : ℕ) → holdsMesh l ≡ true → count ≡ chipsOf l → Chips l count
 chips-held l count holds e =
     record {
-      many = omega (arith, chips-small (getD l 0 0) (getD l 1 0) (holds-size l holds));
+      many = omega (arith, chips-small (getD l widthAt 0) (getD l heightAt 0) (holds-size l holds));
       fit = omega (arith, words-enough l holds);
     }

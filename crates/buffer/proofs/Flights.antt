@@ -8,8 +8,9 @@ use native.Mathlib.Omega.{arith}
 use lib.Dec.{lit<}
 use lib.ListN.{getD, drop}
 use lib.Seq.{getD-take, getD-drop}
-use Rattle.links.specs.Words.{linePlace, lineIn}
-use Rattle.buffer.specs.Layout.{chipsIn, meshOf}
+use Rattle.links.specs.Offsets.{heldAt, placesAt, lineLong, linePlace}
+use Rattle.links.specs.Words.{lineIn}
+use Rattle.buffer.specs.Layout.{chipsIn, meshOf, chipsOf}
 use Rattle.buffer.specs.Chips.{lineWords}
 use Rattle.buffer.specs.Passing.{chipWords}
 use Rattle.buffer.specs.Holding.{holdsMesh}
@@ -22,13 +23,13 @@ use Rattle.lists.proofs.Totals.{total-ones}
 
 -- ---- on one chip
 
-word-at : (j : ℕ) (l : List ℕ) → getD (lineWords j l) 1 0 ≡ getD l (linePlace j + 1) 0
-word-at j l = getD-take 51 (drop (linePlace j) l) 1 0 (lit< tt) ∙ getD-drop (linePlace j) l 1 0
+word-at : (j : ℕ) (l : List ℕ) → getD (lineWords j l) heldAt 0 ≡ getD l (linePlace j + 1) 0
+word-at j l = getD-take lineLong (drop (linePlace j) l) 1 0 (lit< tt) ∙ getD-drop (linePlace j) l 1 0
 
-line-count : (l : List ℕ) → onLine (λ f. 1) (lineIn l) ≡ getD l 1 0
-line-count l = total-ones (lineIn l .held) ∙ length-places (getD l 1 0) (drop 2 l)
+line-count : (l : List ℕ) → onLine (λ f. 1) (lineIn l) ≡ getD l heldAt 0
+line-count l = total-ones (lineIn l .held) ∙ length-places (getD l heldAt 0) (drop placesAt l)
 
-pub chip-count : (l : List ℕ) → chipFlight l ≡ getD l 17 0 + getD l 68 0 + getD l 119 0 + getD l 170 0 + getD l 221 0 + getD l 272 0
+pub chip-count : (l : List ℕ) → chipFlight l ≡ getD l (linePlace 0 + heldAt) 0 + getD l (linePlace 1 + heldAt) 0 + getD l (linePlace 2 + heldAt) 0 + getD l (linePlace 3 + heldAt) 0 + getD l (linePlace 4 + heldAt) 0 + getD l (linePlace 5 + heldAt) 0
 unfolding total
 chip-count l =
     let e : (j : ℕ) → onLine (λ f. 1) (lineIn (lineWords j l)) ≡ getD l (linePlace j + 1) 0 = λ j. line-count (lineWords j l) ∙ word-at j l in
@@ -36,12 +37,12 @@ chip-count l =
 
 -- each of the six words is at most 8, and all together at most 48
 pub record Small (l : List ℕ) : Type 0 where
-  pub east : getD l 17 0 ≤ 8
-  pub north-east : getD l 68 0 ≤ 8
-  pub north : getD l 119 0 ≤ 8
-  pub west : getD l 170 0 ≤ 8
-  pub south-west : getD l 221 0 ≤ 8
-  pub south : getD l 272 0 ≤ 8
+  pub east : getD l (linePlace 0 + heldAt) 0 ≤ 8
+  pub north-east : getD l (linePlace 1 + heldAt) 0 ≤ 8
+  pub north : getD l (linePlace 2 + heldAt) 0 ≤ 8
+  pub west : getD l (linePlace 3 + heldAt) 0 ≤ 8
+  pub south-west : getD l (linePlace 4 + heldAt) 0 ≤ 8
+  pub south : getD l (linePlace 5 + heldAt) 0 ≤ 8
 
 pub words-small : (l : List ℕ) → Few l → Small l
 words-small l h =
@@ -75,7 +76,7 @@ flight-end : (n i : ℕ) (l : List ℕ) → n ≤ i → flightFrom i (n - i) l �
 unfolding total chipsIn
 flight-end n i l h = let e : n - i ≡ 0 = omega arith in ap (λ (k : ℕ). flightFrom i k l) e
 
-flight-all : (l : List ℕ) (n : ℕ) → n ≡ getD l 1 0 * getD l 0 0 → flightFrom 0 n l ≡ inFlight (meshOf l)
+flight-all : (l : List ℕ) (n : ℕ) → n ≡ chipsOf l → flightFrom 0 n l ≡ inFlight (meshOf l)
 unfolding meshOf
 flight-all l n e = ap (λ (k : ℕ). flightFrom 0 k l) e
 
@@ -87,7 +88,7 @@ pub record Summed (l : List ℕ) (n i sum : ℕ) : Type 0 where
 pub summed-first : (l : List ℕ) (n : ℕ) → Summed l n 0 0
 summed-first l n = record { few = omega arith; all = omega (arith, ap (λ (k : ℕ). flightFrom 0 k l) (sub-zero n)) }
 
-module _ (l : List ℕ) (n i sum : ℕ) (count : n ≡ getD l 1 0 * getD l 0 0) (s : Summed l n i sum) where
+module _ (l : List ℕ) (n i sum : ℕ) (count : n ≡ chipsOf l) (s : Summed l n i sum) where
   pub summed-next : holdsMesh l ≡ true → (r : ℕ) → i < n → r ≡ chipFlight (chipWords i l) → Summed l n (i + 1) (sum + r)
   summed-next holds r h e =
       let few : chipFlight (chipWords i l) ≤ 48 = chip-few (chipWords i l) (few-held l holds i (omega arith)) in

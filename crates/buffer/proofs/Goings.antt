@@ -14,14 +14,14 @@ use Rattle.steps.specs.Deciding.{outcomeOf}
 use Rattle.tables.specs.Accept.{climbs}
 use Rattle.tables.proofs.Starts.{start-below, start-end}
 use Rattle.mesh.specs.Mesh.{Chip, fresh}
-use Rattle.links.specs.Words.{chipPlace}
+use Rattle.links.specs.Offsets.{widthAt, heightAt, headerLong, chipLong, chipPlace}
 use Rattle.links.specs.Lines.{still}
-use Rattle.buffer.specs.Layout.{chipIn, meshOf, wordsFor}
+use Rattle.buffer.specs.Layout.{chipIn, meshOf, wordsFor, chipsOf, wordsOf}
 use Rattle.mesh.specs.Steps.{Tables, Arrival, Going, rowsAt, codesAt, logOf, outcomeAt, settingAt, chipAfter, withChip, passAt, same}
 use Rattle.buffer.specs.Passing.{chipWords, settingIn, Ready, MeshStep}
 use Rattle.buffer.specs.Holding.{headFine}
 use Rattle.buffer.specs.Logs.{Logged}
-use Rattle.buffer.specs.Going.{chipsOf, goingIn, Due, Passed}
+use Rattle.buffer.specs.Going.{goingIn, Due, Passed}
 use Rattle.mesh.specs.Calls.{Lent}
 use Rattle.lists.proofs.Alls.{all-right}
 use Rattle.buffer.proofs.Headers.{Head, head-range, head-same, head-fine-same}
@@ -62,7 +62,7 @@ module _ (t : Tables) (a : Arrival (Unit {0})) (l log : List ℕ) (n : ℕ) (d :
   head = head-range l (d .head)
 
   -- what the code computes with stays small
-  pub start-here : (a .chip < 144) × ((a .chip + 1 < length (t .starts)) × (n * 6 + 6 ≤ length log))
+  pub start-here : (a .chip < 144) × ((a .chip + 1 < length (t .starts)) × (n * 6 + headerLong ≤ length log))
   start-here =
       (omega (arith, arrives .there, head .few), (omega (arith, arrives .there, starts-long t (chipsOf l) (a .chip) (d .lent) (arrives .there)), omega (arith, d .room)))
 
@@ -78,7 +78,7 @@ module _ (t : Tables) (a : Arrival (Unit {0})) (l log : List ℕ) (n : ℕ) (d :
   pub codes-here : a .chip * chipsOf l + chipsOf l ≤ length (t .codes)
   codes-here = codes-end t (chipsOf l) (a .chip) (d .lent) (arrives .there)
 
-  within : chipPlace (a .chip) + 322 ≤ length l
+  within : chipPlace (a .chip) + chipLong ≤ length l
   within = omega (arith, arrives .there, d .long)
 
   pub ready-one : Ready l (a .chip) (a .source) (a .flight .packet) (codesAt t (chipsOf l) (a .chip))
@@ -145,8 +145,8 @@ module _ (t : Tables) (xs ys : List (Arrival (Unit {0}))) (l log : List ℕ) (n 
   number : (i : ℕ) → i < 6 → getD l₁ i 0 ≡ getD l i 0
   number = head-same l l₁ (p .head)
 
-  words : wordsFor (getD l₁ 0 0) (getD l₁ 1 0) ≡ wordsFor (getD l 0 0) (getD l 1 0)
-  words = λ i. wordsFor (number 0 (lit< tt) i) (number 1 (lit< tt) i)
+  words : wordsOf l₁ ≡ wordsOf l
+  words = λ i. wordsFor (number widthAt (lit< tt) i) (number heightAt (lit< tt) i)
 
   pub passed-append : (l₂ log₂ : List ℕ) (n₂ : ℕ) → Passed t ys l₁ log₁ n₁ l₂ log₂ n₂ → Passed t (xs ++ ys) l log n l₂ log₂ n₂
   passed-append l₂ log₂ n₂ q =
@@ -169,7 +169,7 @@ module _ (t : Tables) (xs ys : List (Arrival (Unit {0}))) (l log : List ℕ) (n 
           ∙ drop-drop (n₂ * 6 - n₁ * 6) (n₁ * 6) log ∙ ap (λ (k : ℕ). drop k log) e
 
   chips-same : chipsOf l₁ ≡ chipsOf l
-  chips-same = λ i. number 1 (lit< tt) i * number 0 (lit< tt) i
+  chips-same = λ i. number heightAt (lit< tt) i * number widthAt (lit< tt) i
 
   headFine-same : headFine l₁ ≡ headFine l
   headFine-same = head-fine-same l l₁ (p .head)
@@ -178,7 +178,7 @@ module _ (t : Tables) (xs ys : List (Arrival (Unit {0}))) (l log : List ℕ) (n 
   due-next d =
       record {
         head = headFine-same ∙ d .head;
-        long = subst (λ (k : ℕ). wordsFor (getD l₁ 0 0) (getD l₁ 1 0) ≤ k) (sym (p .long)) (subst (λ (k : ℕ). k ≤ length l) (sym words) (d .long));
+        long = subst (λ (k : ℕ). wordsOf l₁ ≤ k) (sym (p .long)) (subst (λ (k : ℕ). k ≤ length l) (sym words) (d .long));
         lent = subst (Lent t) (sym chips-same) (d .lent);
         room = omega (arith, p .room, p .few, simp length-append at (d .room));
         each = all-right (Arrives (chipsOf l₁)) xs ys (subst (λ (k : ℕ). All (Arrives k) (xs ++ ys)) (sym chips-same) (d .each));

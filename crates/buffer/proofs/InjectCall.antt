@@ -10,12 +10,12 @@ use lib.ListN.{length, getD}
 use Rattle.packet.specs.declared.Taken.{Taken}
 use Rattle.packet.specs.Bytes.{packetAt, takenOf}
 use Rattle.packet.specs.Refusal.{firstOf}
-use Rattle.buffer.specs.Layout.{meshOf, wordsFor}
+use Rattle.buffer.specs.Layout.{meshOf, wordsFor, chipsOf, wordsOf}
 use Rattle.mesh.specs.Steps.{Tables, Going, injected, same}
 use Rattle.buffer.specs.Holding.{holdsMesh, StatesFine}
 use Rattle.lists.specs.Lists.{All}
 use Rattle.mesh.specs.Sound.{SoundMesh}
-use Rattle.buffer.specs.Going.{chipsOf, arrival, Due, Passed}
+use Rattle.buffer.specs.Going.{arrival, Due, Passed}
 use Rattle.mesh.specs.Calls.{injectRefusals, addedOf, loggedOn}
 use Rattle.buffer.specs.Leaving.{Leaves, injectLeft}
 use Rattle.buffer.proofs.Counts.{holds-head, words-enough}
@@ -24,6 +24,7 @@ use Rattle.buffer.proofs.SoundWords.{holds-sound, holds-states, sound-h
 use Rattle.buffer.proofs.Headers.{head-same}
 use Rattle.buffer.proofs.Leaving.{refused-leaves, accepted-leaves, accepted-log}
 use Rattle.mesh.proofs.Accepts.{InjectGoes, inject-goes}
+use Rattle.links.specs.Offsets.{widthAt, heightAt, stateAt}
 
 pub inject-refused : (t : Tables) (l log : List ℕ) (chip : ℕ) (bytes : List ℕ) (r : ℕ) → r ≡ firstOf (injectRefusals (holdsMesh l) (chipsOf l) chip t (length log) bytes) → (r ≡ 0 → ⊥)
     → (record { refusal = r; added = 0 } ≡ addedOf (injectLeft l t (length log) chip bytes))
@@ -63,8 +64,8 @@ module _ (t : Tables) (l log : List ℕ) (chip : ℕ) (bytes : List ℕ) (none :
 
     states-left : StatesFine l₁
     states-left c j hc hj =
-        let there : c < chipsOf l = subst (λ (k : ℕ). c < k) (λ i. number 1 (lit< tt) i * number 0 (lit< tt) i) hc in
-        subst (λ (k : ℕ). k ≤ 1) (sym (ap (λ (w : List ℕ). getD w 0 0) (p .still c j hj))) (holds-states l (go .holds) c j there hj)
+        let there : c < chipsOf l = subst (λ (k : ℕ). c < k) (λ i. number heightAt (lit< tt) i * number widthAt (lit< tt) i) hc in
+        subst (λ (k : ℕ). k ≤ 1) (sym (ap (λ (w : List ℕ). getD w stateAt 0) (p .still c j hj))) (holds-states l (go .holds) c j there hj)
 
     holds-left : holdsMesh l₁ ≡ true
     unfolding meshOf
@@ -72,7 +73,7 @@ module _ (t : Tables) (l log : List ℕ) (chip : ℕ) (bytes : List ℕ) (none :
         sound-holds l₁
         (subst SoundMesh (sym (ap (λ (g : Going (Unit {0})). g .mesh) (p .going))) (sound-injected t same (meshOf l) chip (record { packet = packetAt bytes; tag = tt }) (holds-sound l (go .holds)) (go .there) (go .passable) (go .lent .codes)))
         states-left
-        (subst (λ (k : ℕ). wordsFor (getD l₁ 0 0) (getD l₁ 1 0) ≤ k) (sym (p .long)) (subst (λ (k : ℕ). k ≤ length l) (λ i. wordsFor (sym (number 0 (lit< tt)) i) (sym (number 1 (lit< tt)) i)) (words-enough l (go .holds))))
+        (subst (λ (k : ℕ). wordsOf l₁ ≤ k) (sym (p .long)) (subst (λ (k : ℕ). k ≤ length l) (λ i. wordsFor (sym (number widthAt (lit< tt)) i) (sym (number heightAt (lit< tt)) i)) (words-enough l (go .holds))))
 
     pub inject-leaves : (record { refusal = 0; added = n } ≡ addedOf (injectLeft l t (length log) chip bytes))
         × (Leaves l l₁ (injectLeft l t (length log) chip bytes) × (log₁ ≡ loggedOn (injectLeft l t (length log) chip bytes .log) log))

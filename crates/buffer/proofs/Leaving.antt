@@ -4,15 +4,16 @@ use mathlib.Core.Bool.{true}
 use mathlib.Core.List.{List, [], _++_}
 use Prim.Native.Nat.{ℕ, _*_, _/_, _≤_}
 use native.Mathlib.Omega.{arith}
-use lib.ListN.{length, getD, take, drop, take-append-drop}
+use lib.ListN.{length, take, drop, take-append-drop}
 use lib.Seq.{length-take-le}
 use borrow.Author.Tests.{eq-eqb, ne-eqb}
 use Rattle.mesh.specs.Mesh.{Mesh}
 use Rattle.mesh.specs.Steps.{Going}
-use Rattle.buffer.specs.Layout.{meshOf, wordsFor}
+use Rattle.buffer.specs.Layout.{meshOf, wordsOf}
 use Rattle.buffer.specs.Holding.{holdsMesh}
 use Rattle.mesh.specs.Calls.{addedOf, loggedOn, unless}
 use Rattle.buffer.specs.Leaving.{Leaves}
+use Rattle.links.specs.Offsets.{headerLong}
 
 module _ (r : ℕ) (m : Mesh (Unit {0})) (g : Going (Unit {0})) where
   go-left : r ≡ 0 → unless r m g ≡ record { refusal = 0; mesh = g .mesh; log = g .log }
@@ -27,7 +28,7 @@ module _ (r : ℕ) (m : Mesh (Unit {0})) (g : Going (Unit {0})) where
 
   -- An accepted call leaves what it makes of the mesh.
   pub accepted-leaves : r ≡ 0 → (l l′ : List ℕ) → meshOf l′ ≡ g .mesh → holdsMesh l′ ≡ true → length l′ ≡ length l
-      → drop (wordsFor (getD l 0 0) (getD l 1 0)) l′ ≡ drop (wordsFor (getD l 0 0) (getD l 1 0)) l → Leaves l l′ (unless r m g)
+      → drop (wordsOf l) l′ ≡ drop (wordsOf l) l → Leaves l l′ (unless r m g)
   accepted-leaves none l l′ mesh holds long past =
       rw (go-left none) (record { refused = λ z. absurd (z refl); mesh = λ z. mesh; holds = λ z. holds; long = long; past = past })
 
@@ -35,7 +36,7 @@ module _ (r : ℕ) (m : Mesh (Unit {0})) (g : Going (Unit {0})) where
   accepted-refusal none = rw (go-left none) refl
 
   -- and the records that it makes, n of them
-  pub accepted-log : r ≡ 0 → (log log′ : List ℕ) (n : ℕ) → take (n * 6) log′ ≡ g .log → drop (n * 6) log′ ≡ drop (n * 6) log → length log′ ≡ length log → n * 6 ≤ length log
+  pub accepted-log : r ≡ 0 → (log log′ : List ℕ) (n : ℕ) → take (n * 6) log′ ≡ g .log → drop (n * 6) log′ ≡ drop (n * 6) log → length log′ ≡ length log → n * headerLong ≤ length log
       → ((record { refusal = 0; added = n } ≡ addedOf (unless r m g)) × (log′ ≡ loggedOn (unless r m g .log) log))
   accepted-log none log log′ n front behind long fits =
       let size : length (g .log) ≡ n * 6 = ap length (sym front) ∙ length-take-le (n * 6) log′ (omega arith) in

@@ -6,23 +6,24 @@ use native.Mathlib.Omega.{arith}
 use lib.ListN.{getD, drop}
 use lib.Seq.{getD-take, getD-drop, drop-drop}
 use Rattle.packet.specs.Control.{carriesOf}
+use Rattle.links.specs.Offsets.{placeLong, lineLong, chipLong, chipPlace, linePlace}
 use Rattle.links.specs.Line.{Flight}
-use Rattle.links.specs.Words.{packetIn, placesIn, linePlace, chipPlace}
+use Rattle.links.specs.Words.{packetIn, placesIn}
 use Rattle.buffer.specs.Chips.{lineWords}
 use Rattle.buffer.specs.Passing.{chipWords}
 use Rattle.links.proofs.Places.{packet-at}
 
 -- a word of a link of a chip
-pub word-at : (c j k : ℕ) (l : List ℕ) → j < 6 → k < 51 → getD (lineWords j (chipWords c l)) k 0 ≡ getD l (chipPlace c + linePlace j + k) 0
+pub word-at : (c j k : ℕ) (l : List ℕ) → j < 6 → k < lineLong → getD (lineWords j (chipWords c l)) k 0 ≡ getD l (chipPlace c + linePlace j + k) 0
 word-at c j k l hj hk =
-    getD-take 51 (drop (linePlace j) (chipWords c l)) k 0 hk
+    getD-take lineLong (drop (linePlace j) (chipWords c l)) k 0 hk
     ∙ getD-drop (linePlace j) (chipWords c l) k 0
-    ∙ getD-take 322 (drop (chipPlace c) l) (linePlace j + k) 0 (omega arith)
+    ∙ getD-take chipLong (drop (chipPlace c) l) (linePlace j + k) 0 (omega arith)
     ∙ getD-drop (chipPlace c) l (linePlace j + k) 0
     ∙ ap (λ (i : ℕ). getD l i 0) (omega arith)
 
 -- a packet in a link of a chip
-pub packet-there : (c j k : ℕ) (l : List ℕ) → j < 6 → k + 2 < 51 → packetIn (drop k (lineWords j (chipWords c l))) ≡ packetIn (drop (chipPlace c + linePlace j + k) l)
+pub packet-there : (c j k : ℕ) (l : List ℕ) → j < 6 → k + 2 < lineLong → packetIn (drop k (lineWords j (chipWords c l))) ≡ packetIn (drop (chipPlace c + linePlace j + k) l)
 packet-there c j k l hj hk =
     let w = lineWords j (chipWords c l) in
     let e₀ : getD w k 0 ≡ getD l (chipPlace c + linePlace j + k) 0 = word-at c j k l hj (omega arith) in
@@ -31,10 +32,10 @@ packet-there c j k l hj hk =
     packet-at w k ∙ (λ i. record { control = e₀ i; nine = carriesOf (e₀ i); word = e₁ i; payload = e₂ i }) ∙ sym (packet-at l (chipPlace c + linePlace j + k))
 
 -- the packet at one of n places
-pub places-at : (n i : ℕ) (w : List ℕ) (d : Flight (Unit {0})) → i < n → getD (placesIn n w) i d ≡ record { packet = packetIn (drop (i * 3) w); tag = tt }
+pub places-at : (n i : ℕ) (w : List ℕ) (d : Flight (Unit {0})) → i < n → getD (placesIn n w) i d ≡ record { packet = packetIn (drop (i * placeLong) w); tag = tt }
 unfolding placesIn
 places-at zero i w d h = absurd (omega arith)
 places-at (suc n) zero w d h = refl
 places-at (suc n) (suc i) w d h =
-    let e : 3 + i * 3 ≡ suc i * 3 = omega arith in
-    places-at n i (drop 3 w) d (omega arith) ∙ (λ k. record { packet = packetIn ((drop-drop (i * 3) 3 w ∙ ap (λ (m : ℕ). drop m w) e) k); tag = tt })
+    let e : placeLong + i * placeLong ≡ suc i * placeLong = omega arith in
+    places-at n i (drop placeLong w) d (omega arith) ∙ (λ k. record { packet = packetIn ((drop-drop (i * placeLong) placeLong w ∙ ap (λ (m : ℕ). drop m w) e) k); tag = tt })

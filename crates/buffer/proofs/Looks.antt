@@ -11,15 +11,15 @@ use borrow.Author.Tests.{ltb-true, eq-eqb, ne-eqb, not-false}
 use Rattle.packet.specs.Refusal.{firstOf}
 use Rattle.packet.proofs.First.{none-applies}
 use Rattle.mesh.specs.Weights.{inFlight}
+use Rattle.links.specs.Offsets.{widthAt, heightAt, roundsAt, monitorAt, phaseAt, elapsedAt, lineLong, countersLong, countersAt, chipLong, chipPlace, linePlace}
 use Rattle.links.specs.Line.{idle}
 use Rattle.lists.specs.Lists.{part}
-use Rattle.links.specs.Words.{lineIn, linePlace, chipPlace}
+use Rattle.links.specs.Words.{lineIn}
 use Rattle.mesh.specs.Mesh.{Chip, fresh}
-use Rattle.buffer.specs.Layout.{meshOf}
+use Rattle.buffer.specs.Layout.{meshOf, chipsOf}
 use Rattle.buffer.specs.Holding.{holdsMesh}
 use Rattle.buffer.specs.Chips.{lineWords}
 use Rattle.buffer.specs.Passing.{chipWords}
-use Rattle.buffer.specs.Going.{chipsOf}
 use Rattle.mesh.specs.Calls.{numberRefusals, chipRefusals, lineOf, countRead, meshRead, lineRead, linkRead}
 use Rattle.lists.proofs.Parts.{take-drop}
 use Rattle.buffer.proofs.ChipParts.{line-at}
@@ -31,7 +31,7 @@ use Rattle.buffer.proofs.Counts.{words-enough}
 pub record There (l : List ℕ) (chip : ℕ) : Type 0 where
   pub holds : holdsMesh l ≡ true
   pub near : chip < chipsOf l
-  pub fits : chipPlace chip + 322 ≤ length l
+  pub fits : chipPlace chip + chipLong ≤ length l
 
 there : (l : List ℕ) (chip : ℕ) → holdsMesh l ≡ true → chip < chipsOf l → There l chip
 there l chip holds h = record { holds = holds; near = h; fits = omega (arith, words-enough l holds) }
@@ -50,23 +50,23 @@ number-there l chip number end e =
 -- ---- what stands there
 
 -- the words of a link, as a part of the whole
-pub line-part : (c j : ℕ) (l : List ℕ) → j < 6 → lineWords j (chipWords c l) ≡ part (chipPlace c + linePlace j) 51 l
+pub line-part : (c j : ℕ) (l : List ℕ) → j < 6 → lineWords j (chipWords c l) ≡ part (chipPlace c + linePlace j) lineLong l
 line-part c j l h =
-    take-drop (linePlace j) 51 (chipWords c l)
-    ∙ ap (drop (linePlace j)) (take-take (linePlace j + 51) 322 (drop (chipPlace c) l) (omega arith))
-    ∙ sym (take-drop (linePlace j) 51 (drop (chipPlace c) l))
-    ∙ ap (take 51) (drop-drop (linePlace j) (chipPlace c) l)
+    take-drop (linePlace j) lineLong (chipWords c l)
+    ∙ ap (drop (linePlace j)) (take-take (linePlace j + lineLong) chipLong (drop (chipPlace c) l) (omega arith))
+    ∙ sym (take-drop (linePlace j) lineLong (drop (chipPlace c) l))
+    ∙ ap (take lineLong) (drop-drop (linePlace j) (chipPlace c) l)
 
 pub line-of : (l : List ℕ) (chip link : ℕ) → chip < chipsOf l → link < 6 → lineOf (meshOf l) chip link ≡ lineIn (lineWords link (chipWords chip l))
 line-of l chip link hc hl = ap (λ (c : Chip (Unit {0})). getD (c .lines) link idle) (mesh-chip l chip hc) ∙ line-at link hl (chipWords chip l)
 
-count-of : (l : List ℕ) (chip k : ℕ) → chip < chipsOf l → k < 10 → getD (getD (meshOf l .chips) chip fresh .counters .count) k 0 ≡ getD l (chipPlace chip + (6 + k)) 0
+count-of : (l : List ℕ) (chip k : ℕ) → chip < chipsOf l → k < 10 → getD (getD (meshOf l .chips) chip fresh .counters .count) k 0 ≡ getD l (chipPlace chip + (countersAt + k)) 0
 count-of l chip k hc hk =
     ap (λ (c : Chip (Unit {0})). getD (c .counters .count) k 0) (mesh-chip l chip hc)
-    ∙ getD-take 10 (drop 6 (chipWords chip l)) k 0 hk
-    ∙ getD-drop 6 (chipWords chip l) k 0
-    ∙ getD-take 322 (drop (chipPlace chip) l) (6 + k) 0 (omega arith)
-    ∙ getD-drop (chipPlace chip) l (6 + k) 0
+    ∙ getD-take countersLong (drop countersAt (chipWords chip l)) k 0 hk
+    ∙ getD-drop countersAt (chipWords chip l) k 0
+    ∙ getD-take chipLong (drop (chipPlace chip) l) (countersAt + k) 0 (omega arith)
+    ∙ getD-drop (chipPlace chip) l (countersAt + k) 0
 
 -- ---- what is answered
 
@@ -77,7 +77,7 @@ module _ (l : List ℕ) (chip number r : ℕ) where
   count-refused e some = λ i. record { refusal = e i; count = sym (ap (λ (b : Bool). cond b (getD (getD (meshOf l .chips) chip fresh .counters .count) number 0) 0) (ne-eqb _ 0 (λ z. some (e ∙ z)))) i }
 
   pub count-found : r ≡ firstOf (numberRefusals (holdsMesh l) (chipsOf l) chip number 10) → r ≡ 0
-      → record { refusal = 0; count = getD l (chipPlace chip + (6 + number)) 0 } ≡ countRead (holdsMesh l) (meshOf l) chip number
+      → record { refusal = 0; count = getD l (chipPlace chip + (countersAt + number)) 0 } ≡ countRead (holdsMesh l) (meshOf l) chip number
   unfolding meshOf
   count-found e none =
       let zero-now : firstOf (numberRefusals (holdsMesh l) (chipsOf l) chip number 10) ≡ 0 = sym e ∙ none in
@@ -95,7 +95,7 @@ module _ (l : List ℕ) (chip number r : ℕ) where
       ∙ sym (ap (λ (b : Bool). cond b (lineRead (lineOf (meshOf l) chip number)) (record { refusal = firstOf (numberRefusals (holdsMesh l) (chipsOf l) chip number 6); up = 0; held = 0; ready = 0 })) (ne-eqb _ 0 (λ z. some (e ∙ z))))
 
   pub link-found : r ≡ firstOf (numberRefusals (holdsMesh l) (chipsOf l) chip number 6) → r ≡ 0
-      → lineRead (lineIn (part (chipPlace chip + linePlace number) 51 l)) ≡ linkRead (holdsMesh l) (meshOf l) chip number
+      → lineRead (lineIn (part (chipPlace chip + linePlace number) lineLong l)) ≡ linkRead (holdsMesh l) (meshOf l) chip number
   unfolding meshOf
   link-found e none =
       let zero-now : firstOf (numberRefusals (holdsMesh l) (chipsOf l) chip number 6) ≡ 0 = sym e ∙ none in
@@ -104,6 +104,6 @@ module _ (l : List ℕ) (chip number r : ℕ) where
       ∙ sym (ap (λ (b : Bool). cond b (lineRead (lineOf (meshOf l) chip number)) (record { refusal = firstOf (numberRefusals (holdsMesh l) (chipsOf l) chip number 6); up = 0; held = 0; ready = 0 })) (eq-eqb _ 0 zero-now))
 
 pub mesh-found : (l : List ℕ) → holdsMesh l ≡ true → (n : ℕ) → n ≡ inFlight (meshOf l)
-    → record { refusal = 0; width = getD l 0 0; height = getD l 1 0; «rounds_per_phase» = getD l 2 0; monitor = getD l 3 0; phase = getD l 4 0; «rounds_in_phase» = getD l 5 0; «in_flight» = n } ≡ meshRead (holdsMesh l) (meshOf l)
+    → record { refusal = 0; width = getD l widthAt 0; height = getD l heightAt 0; «rounds_per_phase» = getD l roundsAt 0; monitor = getD l monitorAt 0; phase = getD l phaseAt 0; «rounds_in_phase» = getD l elapsedAt 0; «in_flight» = n } ≡ meshRead (holdsMesh l) (meshOf l)
 unfolding meshOf
 mesh-found l holds n e = simp (holds, e)

@@ -10,7 +10,8 @@ use Rattle.packet.specs.Refusal.{firstOf}
 use Rattle.packet.proofs.First.{none-applies}
 use Rattle.mesh.specs.Mesh.{fresh, opened}
 use Rattle.lists.specs.Lists.{part}
-use Rattle.links.specs.Words.{placesIn, chipPlace}
+use Rattle.links.specs.Offsets.{stateAt, chipLong, chipPlace}
+use Rattle.links.specs.Words.{placesIn}
 use Rattle.buffer.specs.Layout.{chipIn, chipsIn, meshOf, wordsFor}
 use Rattle.buffer.specs.Opening.{openRefusals, openedWords}
 use Rattle.buffer.specs.Holding.{holdsMesh, StatesFine}
@@ -32,17 +33,17 @@ part-zeros (suc a) k zero rest h = absurd (omega arith)
 part-zeros (suc a) k (suc m) rest h = part-zeros a k m rest (omega arith)
 
 -- a chip of zeros is a fresh one
-fresh-zeros : chipIn (replicate 322 0) ≡ fresh
+fresh-zeros : chipIn (replicate chipLong 0) ≡ fresh
 unfolding placesIn
 fresh-zeros = refl
 
 module _ (w h f m : ℕ) (rest : List ℕ) (total : ℕ) where
-  words-zeros : (c : ℕ) → c < total → chipWords c (w ∷ h ∷ f ∷ m ∷ 0 ∷ 0 ∷ replicate (total * 322) 0 ++ rest) ≡ replicate 322 0
+  words-zeros : (c : ℕ) → c < total → chipWords c (w ∷ h ∷ f ∷ m ∷ 0 ∷ 0 ∷ replicate (total * chipLong) 0 ++ rest) ≡ replicate chipLong 0
   words-zeros c hc =
-      let e : chipPlace c ≡ suc (suc (suc (suc (suc (suc (c * 322)))))) = omega arith in
-      ap (λ (k : ℕ). part k 322 (w ∷ h ∷ f ∷ m ∷ 0 ∷ 0 ∷ replicate (total * 322) 0 ++ rest)) e ∙ part-zeros (c * 322) 322 (total * 322) rest (omega arith)
+      let e : chipPlace c ≡ suc (suc (suc (suc (suc (suc (c * chipLong)))))) = omega arith in
+      ap (λ (k : ℕ). part k chipLong (w ∷ h ∷ f ∷ m ∷ 0 ∷ 0 ∷ replicate (total * chipLong) 0 ++ rest)) e ∙ part-zeros (c * chipLong) chipLong (total * chipLong) rest (omega arith)
 
-  chips-zeros : (n c : ℕ) → c + n ≤ total → chipsIn c n (w ∷ h ∷ f ∷ m ∷ 0 ∷ 0 ∷ replicate (total * 322) 0 ++ rest) ≡ replicate n fresh
+  chips-zeros : (n c : ℕ) → c + n ≤ total → chipsIn c n (w ∷ h ∷ f ∷ m ∷ 0 ∷ 0 ∷ replicate (total * chipLong) 0 ++ rest) ≡ replicate n fresh
   unfolding chipsIn
   chips-zeros zero c k = refl
   chips-zeros (suc n) c k = λ i. (ap chipIn (words-zeros c (omega arith)) ∙ fresh-zeros) i ∷ chips-zeros n (suc c) (omega arith) i
@@ -55,7 +56,7 @@ opened-mesh l w h f m =
 
 -- ---- and it holds a mesh
 
-line-zeros : (j : ℕ) → j < 6 → getD (lineWords j (replicate 322 0)) 0 0 ≡ 0
+line-zeros : (j : ℕ) → j < 6 → getD (lineWords j (replicate chipLong 0)) stateAt 0 ≡ 0
 line-zeros zero h = refl
 line-zeros (suc zero) h = refl
 line-zeros (suc (suc zero)) h = refl
@@ -69,9 +70,9 @@ pub opened-holds : (l : List ℕ) (w h f m : ℕ) → firstOf (openRefusals (len
 opened-holds l w h f m none =
     let off = none-applies (openRefusals (length l) w h f m) refl none in
     let states : StatesFine (openedWords l w h f m) =
-    λ c j hc hj. omega (arith, ap (λ (x : List ℕ). getD (lineWords j x) 0 0) (words-zeros w h f m (drop (wordsFor w h) l) (h * w) c hc) ∙ line-zeros j hj) in
+    λ c j hc hj. omega (arith, ap (λ (x : List ℕ). getD (lineWords j x) stateAt 0) (words-zeros w h f m (drop (wordsFor w h) l) (h * w) c hc) ∙ line-zeros j hj) in
     let enough : wordsFor w h ≤ length l = ltb-false _ _ (off .1 .1 .1 .0) in
-    let long : length (replicate (h * w * 322) 0 ++ drop (wordsFor w h) l) ≡ h * w * 322 + (length l - wordsFor w h) = simp (length-append, length-replicate, length-drop) in
+    let long : length (replicate (h * w * chipLong) 0 ++ drop (wordsFor w h) l) ≡ h * w * chipLong + (length l - wordsFor w h) = simp (length-append, length-replicate, length-drop) in
     sound-holds (openedWords l w h f m)
     (subst SoundMesh (sym (opened-mesh l w h f m)) (sound-opened w h f m (not-false _ (off .0)) (not-false _ (off .1 .0)) (ltb-false _ _ (off .1 .1 .0))))
     states

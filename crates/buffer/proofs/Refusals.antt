@@ -8,10 +8,9 @@ use Rattle.packet.specs.Refusal.{firstOf, refuse, packetRefusals}
 use Rattle.packet.proofs.First.{first-append}
 use Rattle.mesh.specs.Steps.{Tables}
 use Rattle.buffer.specs.declared.testing.Tested.{Tested}
-use Rattle.buffer.specs.Layout.{meshOf}
+use Rattle.buffer.specs.Layout.{meshOf, chipsOf}
 use Rattle.mesh.specs.Weights.{inFlight}
 use Rattle.buffer.specs.Holding.{holdsMesh}
-use Rattle.buffer.specs.Going.{chipsOf}
 use Rattle.mesh.specs.Calls.{tablesRefusals, injectRefusals, roundRefusals, chipRefusals, numberRefusals}
 use Rattle.buffer.specs.Testing.{testedOf, injectNumber, roundNumber}
 

@@ -12,13 +12,13 @@ use Rattle.kept.specs.declared.Registers.{Registers}
 use Rattle.kept.specs.Keeping.{empty}
 use Rattle.mesh.specs.Mesh.{Chip}
 use Rattle.lists.specs.Lists.{part, putBack}
-use Rattle.links.specs.Words.{lineIn, linePlace, chipPlace}
-use Rattle.buffer.specs.Layout.{registersIn, chipIn, meshOf}
+use Rattle.links.specs.Offsets.{stateAt, lineLong, registersLong, countersLong, countersAt, chipLong, chipPlace, linePlace}
+use Rattle.links.specs.Words.{lineIn}
+use Rattle.buffer.specs.Layout.{registersIn, chipIn, meshOf, chipsOf}
 use Rattle.mesh.specs.Steps.{withChip}
 use Rattle.buffer.specs.Holding.{holdsMesh}
 use Rattle.buffer.specs.Chips.{lineWords}
 use Rattle.buffer.specs.Passing.{chipWords}
-use Rattle.buffer.specs.Going.{chipsOf}
 use Rattle.mesh.specs.Calls.{chipRefusals, chipOf, withEmpty, registersRead}
 use Rattle.buffer.specs.Leaving.{Leaves, registersLeft}
 use Rattle.lists.proofs.Parts.{length-back, part-same, part-behind}
@@ -32,29 +32,29 @@ use Rattle.buffer.proofs.Changes.{chip-leaves}
 
 -- six zeros in the place of the registers
 abbrev zeros : List ℕ → List ℕ
-zeros w = replicate 6 0 ++ drop 6 (part 0 6 w)
+zeros w = replicate registersLong 0 ++ drop registersLong (part 0 registersLong w)
 
-module _ (w : List ℕ) (long : length w ≡ 322) where
+module _ (w : List ℕ) (long : length w ≡ chipLong) where
   sized : length (zeros w) ≡ 6
   sized = simp (length-append, length-drop) (omega (arith, length-take-le 6 w (omega arith)))
 
-  fits : 0 + 6 ≤ length w
+  fits : 0 + registersLong ≤ length w
   fits = omega arith
 
-  behind : (b k : ℕ) → 6 ≤ b → part b k (putBack 0 6 (zeros w) w) ≡ part b k w
+  behind : (b k : ℕ) → registersLong ≤ b → part b k (putBack 0 registersLong (zeros w) w) ≡ part b k w
   behind b k h = part-behind 0 6 (zeros w) w fits sized b k (omega arith)
 
-  emptied-long : length (putBack 0 6 (zeros w) w) ≡ 322
+  emptied-long : length (putBack 0 registersLong (zeros w) w) ≡ chipLong
   emptied-long = length-back 0 6 (zeros w) w fits sized ∙ long
 
-  line-kept : (j : ℕ) → lineWords j (putBack 0 6 (zeros w) w) ≡ lineWords j w
-  line-kept j = behind (linePlace j) 51 (omega arith)
+  line-kept : (j : ℕ) → lineWords j (putBack 0 registersLong (zeros w) w) ≡ lineWords j w
+  line-kept j = behind (linePlace j) lineLong (omega arith)
 
-  chip-emptied : chipIn (putBack 0 6 (zeros w) w) ≡ record { registers = empty; counters = chipIn w .counters; lines = chipIn w .lines }
+  chip-emptied : chipIn (putBack 0 registersLong (zeros w) w) ≡ record { registers = empty; counters = chipIn w .counters; lines = chipIn w .lines }
   chip-emptied =
       λ i. record {
         registers = registersIn (part-same 0 6 (zeros w) w fits sized i);
-        counters = record { count = behind 6 10 (omega arith) i };
+        counters = record { count = behind countersAt countersLong (omega arith) i };
         lines = lineIn (line-kept 0 i) ∷ lineIn (line-kept 1 i) ∷ lineIn (line-kept 2 i) ∷ lineIn (line-kept 3 i) ∷ lineIn (line-kept 4 i) ∷ lineIn (line-kept 5 i) ∷ [];
       }
 
@@ -69,20 +69,20 @@ module _ (l : List ℕ) (chip r : ℕ) (e : r ≡ firstOf (chipRefusals (holdsMe
 
   pub registers-leave : r ≡ 0 → (found : Registers) → found ≡ registersIn (part (chipPlace chip) 6 l)
       → (record { refusal = 0; registers = found } ≡ registersRead (holdsMesh l) (meshOf l) chip)
-      × Leaves l (putBack (chipPlace chip) 322 (putBack 0 6 (replicate 6 0 ++ drop 6 (part 0 6 (chipWords chip l))) (chipWords chip l)) l) (registersLeft l chip)
+      × Leaves l (putBack (chipPlace chip) chipLong (putBack 0 registersLong (replicate registersLong 0 ++ drop registersLong (part 0 registersLong (chipWords chip l))) (chipWords chip l)) l) (registersLeft l chip)
   unfolding meshOf
   registers-leave none found f =
       let off : firstOf (chipRefusals (holdsMesh l) (chipsOf l) chip) ≡ 0 = sym e ∙ none in
       let h = chip-there l chip off in
       let w = chipWords chip l in
-      let whole : length w ≡ 322 = chip-long l chip (h .fits) in
-      let ys = putBack 0 6 (zeros w) w in
-      let mesh : meshOf (putBack (chipPlace chip) 322 ys l) ≡ withEmpty (meshOf l) chip =
+      let whole : length w ≡ chipLong = chip-long l chip (h .fits) in
+      let ys = putBack 0 registersLong (zeros w) w in
+      let mesh : meshOf (putBack (chipPlace chip) chipLong ys l) ≡ withEmpty (meshOf l) chip =
       mesh-put chip ys l (h .fits) (emptied-long w whole) (h .near) ∙ ap (withChip (meshOf l) chip) (chip-emptied w whole)
       ∙ ap (λ (c : Chip (Unit {0})). withChip (meshOf l) chip (record { registers = empty; counters = c .counters; lines = c .lines })) (sym (mesh-chip l chip (h .near))) in
       let registers : found ≡ chipOf (meshOf l) chip .registers =
-      f ∙ ap registersIn (sym (take-take 6 322 (drop (chipPlace chip) l) (omega arith))) ∙ ap (λ (c : Chip (Unit {0})). c .registers) (sym (mesh-chip l chip (h .near))) in (
+      f ∙ ap registersIn (sym (take-take registersLong chipLong (drop (chipPlace chip) l) (omega arith))) ∙ ap (λ (c : Chip (Unit {0})). c .registers) (sym (mesh-chip l chip (h .near))) in (
         (λ i. record { refusal = sym off i; registers = (registers ∙ sym (ap (λ (b : Bool). cond b (chipOf (meshOf l) chip .registers) empty) (eq-eqb _ 0 off))) i }),
-        chip-leaves l chip h ys (emptied-long w whole) (λ j hj old. subst (λ (v : List ℕ). getD v 0 0 ≤ 1) (sym (line-kept w whole j)) old) (firstOf (chipRefusals (holdsMesh l) (chipsOf l) chip)) off
+        chip-leaves l chip h ys (emptied-long w whole) (λ j hj old. subst (λ (v : List ℕ). getD v stateAt 0 ≤ 1) (sym (line-kept w whole j)) old) (firstOf (chipRefusals (holdsMesh l) (chipsOf l) chip)) off
             (record { mesh = withEmpty (meshOf l) chip; log = [] }) mesh (sound-emptied (holds-sound l (h .holds)) chip (h .near)),
       )

@@ -10,8 +10,7 @@ use Rattle.packet.specs.Refusal.{firstOf}
 use Rattle.tables.proofs.Sizes as sizes
 use lib.ListN.{length, getD, take, drop}
 use Rattle.mesh.specs.Mesh.{Chip, Mesh, fresh}
-use Rattle.links.specs.Words.{chipPlace}
-use Rattle.buffer.specs.Layout.{meshOf, wordsFor}
+use Rattle.buffer.specs.Layout.{meshOf, wordsFor, chipsOf, wordsOf}
 use Rattle.mesh.specs.Steps.{Tables, Going, setAside, arrivals, passAt, roundOver, rounded, same}
 use Rattle.buffer.specs.Holding.{holdsMesh, StatesFine}
 use Rattle.buffer.specs.Chips.{lineWords}
@@ -20,7 +19,7 @@ use Rattle.lists.specs.Lists.{All, upTo}
 use Rattle.mesh.specs.Sound.{Arrives, SoundLine, SoundChip, SoundMesh}
 use Rattle.mesh.specs.Weights.{onLine, onChip, inFlight}
 use Rattle.buffer.specs.Aside.{AsideUpto}
-use Rattle.buffer.specs.Going.{chipsOf, asideAt, goingIn, DueAside, Passed}
+use Rattle.buffer.specs.Going.{asideFrom, goingIn, DueAside, Passed}
 use Rattle.mesh.specs.Calls.{Lent, roundRefusals, addedOf, loggedOn}
 use Rattle.buffer.specs.Leaving.{Leaves, roundLeft, overWords}
 use Rattle.lists.proofs.Alls.{all-getD, all-weaken}
@@ -34,6 +33,7 @@ use Rattle.buffer.proofs.Headers.{Head, head-range, head-same, head-fin
 use Rattle.buffer.proofs.RoundWords.{mesh-aside, aside-arrivals, few-aside, mesh-over, length-over, over-behind}
 use Rattle.buffer.proofs.Leaving.{refused-leaves, accepted-leaves, accepted-log}
 use Rattle.mesh.proofs.Accepts.{RoundGoes, round-goes}
+use Rattle.links.specs.Offsets.{widthAt, heightAt, elapsedAt, headerLong, stateAt, chipLong, chipPlace}
 
 -- ---- a mesh that a buffer holds
 
@@ -61,7 +61,7 @@ module _ (l : List ℕ) (holds : holdsMesh l ≡ true) where
       let few : length (meshOf l .chips) ≤ 144 = subst (λ (n : ℕ). n ≤ 144) (sym (held-sound .many)) (sizes.chips-small (meshOf l .width) (meshOf l .height) (held-sound .size)) in
       omega (arith, all, few)
 
-  pub held-elapsed : getD l 5 0 ≤ 65535
+  pub held-elapsed : getD l elapsedAt 0 ≤ 65535
   unfolding meshOf
   held-elapsed =
       let rounds : meshOf l .rounds ≤ 65535 = omega (arith, leb-true, simp and-eq-true-iff at (held-sound .rounds)) in
@@ -86,23 +86,23 @@ module _ (t : Tables) (l log : List ℕ) (none : firstOf (roundRefusals (holdsMe
   number = head-same l l₁ (u .head)
 
   chips-same : chipsOf l₁ ≡ chipsOf l
-  chips-same = λ i. number 1 (lit< tt) i * number 0 (lit< tt) i
+  chips-same = λ i. number heightAt (lit< tt) i * number widthAt (lit< tt) i
 
-  all-aside : upTo (asideAt l₁) (chipsOf l) ≡ arrivals (meshOf l)
+  all-aside : upTo (asideFrom l₁) (chipsOf l) ≡ arrivals (meshOf l)
   all-aside = aside-arrivals l l₁ u (held-head l (go .holds))
 
   -- ---- what is due once all is set aside
 
-  pub round-due : DueAside t (upTo (asideAt l₁) (chipsOf l)) l₁ log 0
+  pub round-due : DueAside t (upTo (asideFrom l₁) (chipsOf l)) l₁ log 0
   unfolding meshOf
   round-due =
       record {
         due = record {
           head = head-fine-same l l₁ (u .head) ∙ holds-head l (go .holds);
-          long = subst (λ (k : ℕ). wordsFor (getD l₁ 0 0) (getD l₁ 1 0) ≤ k) (sym (u .long)) (subst (λ (k : ℕ). k ≤ length l) (λ i. wordsFor (sym (number 0 (lit< tt)) i) (sym (number 1 (lit< tt)) i)) (words-enough l (go .holds)));
+          long = subst (λ (k : ℕ). wordsOf l₁ ≤ k) (sym (u .long)) (subst (λ (k : ℕ). k ≤ length l) (λ i. wordsFor (sym (number widthAt (lit< tt)) i) (sym (number heightAt (lit< tt)) i)) (words-enough l (go .holds)));
           lent = subst (Lent t) (sym chips-same) (go .lent);
           room = omega (arith, go .room, ap length all-aside ∙ held-count l (go .holds));
-          each = subst (λ (k : ℕ). All (Arrives k) (upTo (asideAt l₁) (chipsOf l))) (sym chips-same)
+          each = subst (λ (k : ℕ). All (Arrives k) (upTo (asideFrom l₁) (chipsOf l))) (sym chips-same)
               (subst (All (Arrives (chipsOf l))) (sym all-aside) (sound-arrivals (held-sound l (go .holds))));
         };
         few = few-aside l l₁ u (held-head l (go .holds)) (held-few l (go .holds));
@@ -110,22 +110,22 @@ module _ (t : Tables) (l log : List ℕ) (none : firstOf (roundRefusals (holdsMe
 
   -- ---- what is left
 
-  module _ (l₂ log₂ : List ℕ) (n : ℕ) (p : Passed t (upTo (asideAt l₁) (chipsOf l)) l₁ log 0 l₂ log₂ n) where
+  module _ (l₂ log₂ : List ℕ) (n : ℕ) (p : Passed t (upTo (asideFrom l₁) (chipsOf l)) l₁ log 0 l₂ log₂ n) where
     going : goingIn l₂ log₂ n ≡ foldl (passAt t same) (record { mesh = setAside (meshOf l); log = [] }) (arrivals (meshOf l))
     going = p .going ∙ (λ i. foldl (passAt t same) (record { mesh = mesh-aside l l₁ u i; log = [] }) (all-aside i))
 
-    long-enough : 6 ≤ length l₂
+    long-enough : headerLong ≤ length l₂
     long-enough = omega (arith, p .long, u .long, words-enough l (go .holds))
 
-    pub over-requires : (6 ≤ length l₂) × (getD l₂ 5 0 ≤ 65535)
+    pub over-requires : (headerLong ≤ length l₂) × (getD l₂ elapsedAt 0 ≤ 65535)
     over-requires =
-        let e : getD l₂ 5 0 ≡ getD l 5 0 = head-same l₁ l₂ (p .head) 5 (lit< tt) ∙ number 5 (lit< tt) in
+        let e : getD l₂ elapsedAt 0 ≡ getD l elapsedAt 0 = head-same l₁ l₂ (p .head) elapsedAt (lit< tt) ∙ number elapsedAt (lit< tt) in
         (long-enough, subst (λ (k : ℕ). k ≤ 65535) (sym e) (held-elapsed l (go .holds)))
 
     mesh-left : meshOf (overWords l₂) ≡ rounded t same (meshOf l) .mesh
     mesh-left = mesh-over l₂ long-enough ∙ ap (λ (g : Going (Unit {0})). roundOver (g .mesh)) going
 
-    arrived : length (upTo (asideAt l₁) (chipsOf l)) ≡ inFlight (meshOf l)
+    arrived : length (upTo (asideFrom l₁) (chipsOf l)) ≡ inFlight (meshOf l)
     arrived = ap length all-aside ∙ held-count l (go .holds)
 
     pub count-small : n ≤ 6912
@@ -135,34 +135,34 @@ module _ (t : Tables) (l log : List ℕ) (none : firstOf (roundRefusals (holdsMe
     states-left : StatesFine (overWords l₂)
     unfolding meshOf
     states-left c j hc hj =
-        let over : chipWords c (overWords l₂) ≡ chipWords c l₂ = ap (take 322) (over-behind l₂ (chipPlace c) (omega arith)) in
+        let over : chipWords c (overWords l₂) ≡ chipWords c l₂ = ap (take chipLong) (over-behind l₂ (chipPlace c) (omega arith)) in
         let same-size : chipsOf (overWords l₂) ≡ chipsOf l =
-        ap (λ (m : Mesh (Unit {0})). m .height * m .width) (mesh-over l₂ long-enough) ∙ (λ i. head-same l₁ l₂ (p .head) 1 (lit< tt) i * head-same l₁ l₂ (p .head) 0 (lit< tt) i) ∙ chips-same in
+        ap (λ (m : Mesh (Unit {0})). m .height * m .width) (mesh-over l₂ long-enough) ∙ (λ i. head-same l₁ l₂ (p .head) heightAt (lit< tt) i * head-same l₁ l₂ (p .head) widthAt (lit< tt) i) ∙ chips-same in
         let there : c < chipsOf l = subst (λ (k : ℕ). c < k) same-size hc in
-        let e : getD (lineWords j (chipWords c (overWords l₂))) 0 0 ≡ getD (lineWords j (chipWords c l)) 0 0 =
-        ap (λ (w : List ℕ). getD (lineWords j w) 0 0) over ∙ ap (λ (w : List ℕ). getD w 0 0) (p .still c j hj) ∙ u .done c there .states j hj in
+        let e : getD (lineWords j (chipWords c (overWords l₂))) stateAt 0 ≡ getD (lineWords j (chipWords c l)) stateAt 0 =
+        ap (λ (w : List ℕ). getD (lineWords j w) stateAt 0) over ∙ ap (λ (w : List ℕ). getD w stateAt 0) (p .still c j hj) ∙ u .done c there .states j hj in
         subst (λ (k : ℕ). k ≤ 1) (sym e) (holds-states l (go .holds) c j there hj)
 
     long-left : length (overWords l₂) ≡ length l
     long-left = length-over l₂ ∙ p .long ∙ u .long
 
-    words-left : wordsFor (getD (overWords l₂) 0 0) (getD (overWords l₂) 1 0) ≡ wordsFor (getD l 0 0) (getD l 1 0)
+    words-left : wordsOf (overWords l₂) ≡ wordsOf l
     unfolding meshOf
     words-left =
         ap (λ (m : Mesh (Unit {0})). wordsFor (m .width) (m .height)) (mesh-over l₂ long-enough)
-        ∙ (λ i. wordsFor (head-same l₁ l₂ (p .head) 0 (lit< tt) i) (head-same l₁ l₂ (p .head) 1 (lit< tt) i))
-        ∙ (λ i. wordsFor (number 0 (lit< tt) i) (number 1 (lit< tt) i))
+        ∙ (λ i. wordsFor (head-same l₁ l₂ (p .head) widthAt (lit< tt) i) (head-same l₁ l₂ (p .head) heightAt (lit< tt) i))
+        ∙ (λ i. wordsFor (number widthAt (lit< tt) i) (number heightAt (lit< tt) i))
 
     holds-left : holdsMesh (overWords l₂) ≡ true
     unfolding meshOf
     holds-left =
         sound-holds (overWords l₂) (subst SoundMesh (sym mesh-left) (sound-rounded t same (held-sound l (go .holds)) (go .lent .codes))) states-left
-        (subst (λ (k : ℕ). wordsFor (getD (overWords l₂) 0 0) (getD (overWords l₂) 1 0) ≤ k) (sym long-left) (subst (λ (k : ℕ). k ≤ length l) (sym words-left) (words-enough l (go .holds))))
+        (subst (λ (k : ℕ). wordsOf (overWords l₂) ≤ k) (sym long-left) (subst (λ (k : ℕ). k ≤ length l) (sym words-left) (words-enough l (go .holds))))
 
-    past-left : drop (wordsFor (getD l 0 0) (getD l 1 0)) (overWords l₂) ≡ drop (wordsFor (getD l 0 0) (getD l 1 0)) l
+    past-left : drop (wordsOf l) (overWords l₂) ≡ drop (wordsOf l) l
     past-left =
-        over-behind l₂ (wordsFor (getD l 0 0) (getD l 1 0)) (omega arith)
-        ∙ subst (λ (k : ℕ). drop k l₂ ≡ drop k l₁) (λ i. wordsFor (number 0 (lit< tt) i) (number 1 (lit< tt) i)) (p .past)
+        over-behind l₂ (wordsOf l) (omega arith)
+        ∙ subst (λ (k : ℕ). drop k l₂ ≡ drop k l₁) (λ i. wordsFor (number widthAt (lit< tt) i) (number heightAt (lit< tt) i)) (p .past)
         ∙ u .past
 
     pub round-leaves : (record { refusal = 0; added = n } ≡ addedOf (roundLeft l t (length log)))

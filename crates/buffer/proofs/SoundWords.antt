@@ -2,16 +2,17 @@
 use mathlib.Core.Path.{_≡_, refl, sym, ap, subst}
 use mathlib.Core.Bool.{Bool, true, _&&_, and-eq-true-iff}
 use mathlib.Core.List.{List}
-use Prim.Native.Nat.{ℕ, zero, suc, _+_, _*_, _≤_, _<_}
+use Prim.Native.Nat.{ℕ, zero, suc, _+_, _≤_, _<_}
 use native.Mathlib.Omega.{arith}
 use lib.Dec.{leb, ltb, lit<}
 use lib.ListN.{length, getD, drop}
 use borrow.Author.Tests.{ltb-true, leb-true, le-leb, lt-ltb}
 use Rattle.tables.specs.Sizes.{sizeFine}
+use Rattle.links.specs.Offsets.{widthAt, heightAt, roundsAt, monitorAt, phaseAt, elapsedAt, headerLong, stateAt, heldAt, placesAt, placeLong, registersLong}
 use Rattle.links.specs.Line.{Flight, idle}
 use Rattle.lists.specs.Lists.{part, All}
 use Rattle.links.specs.Words.{packetIn, placesIn, lineIn}
-use Rattle.buffer.specs.Layout.{registersIn, chipIn, chipsIn, meshOf, wordsFor}
+use Rattle.buffer.specs.Layout.{registersIn, chipIn, chipsIn, meshOf, chipsOf, wordsOf}
 use Rattle.buffer.specs.Chips.{lineWords}
 use Rattle.buffer.specs.Passing.{chipWords}
 use Rattle.mesh.specs.Sound.{packetFine, registersFine, SoundPacket, SoundLine, SoundChip, SoundMesh}
@@ -32,28 +33,28 @@ places-sound : (n : ℕ) (l : List ℕ) → placesFine n l ≡ true → All (λ 
 unfolding All placesFine placesIn
 places-sound zero l h = tt
 places-sound (suc n) l h =
-    let t = and-eq-true-iff (packetFine (packetIn l)) (placesFine n (drop 3 l)) .0 h in
-    (record { fine = t .0; right = refl }, places-sound n (drop 3 l) (t .1))
+    let t = and-eq-true-iff (packetFine (packetIn l)) (placesFine n (drop placeLong l)) .0 h in
+    (record { fine = t .0; right = refl }, places-sound n (drop placeLong l) (t .1))
 
 sound-places : (n : ℕ) (l : List ℕ) → All (λ (f : Flight (Unit {0})). SoundPacket (f .packet)) (placesIn n l) → placesFine n l ≡ true
 unfolding All placesFine placesIn
 sound-places zero l h = refl
-sound-places (suc n) l h = and-true-true (h .0 .fine) (sound-places n (drop 3 l) (h .1))
+sound-places (suc n) l h = and-true-true (h .0 .fine) (sound-places n (drop placeLong l) (h .1))
 
 -- ---- a link
 
-state-fine : (l : List ℕ) → lineFine l ≡ true → getD l 0 0 ≤ 1
+state-fine : (l : List ℕ) → lineFine l ≡ true → getD l stateAt 0 ≤ 1
 state-fine l h = let t : _ = simp and-eq-true-iff at h in leb-true _ _ (t .0 .0)
 
 line-sound : (l : List ℕ) → lineFine l ≡ true → SoundLine (lineIn l)
 line-sound l h =
     let t : _ = simp and-eq-true-iff at h in
-    record { few = subst (λ (n : ℕ). n ≤ 8) (sym (length-places (getD l 1 0) (drop 2 l))) (leb-true _ _ (t .0 .1)); fine = places-sound (getD l 1 0) (drop 2 l) (t .1) }
+    record { few = subst (λ (n : ℕ). n ≤ 8) (sym (length-places (getD l heldAt 0) (drop placesAt l))) (leb-true _ _ (t .0 .1)); fine = places-sound (getD l heldAt 0) (drop placesAt l) (t .1) }
 
-sound-line : (l : List ℕ) → getD l 0 0 ≤ 1 → SoundLine (lineIn l) → lineFine l ≡ true
+sound-line : (l : List ℕ) → getD l stateAt 0 ≤ 1 → SoundLine (lineIn l) → lineFine l ≡ true
 sound-line l state h =
-    and-true-true (and-true-true (le-leb _ _ state) (le-leb _ _ (subst (λ (n : ℕ). n ≤ 8) (length-places (getD l 1 0) (drop 2 l)) (h .few))))
-    (sound-places (getD l 1 0) (drop 2 l) (h .fine))
+    and-true-true (and-true-true (le-leb _ _ state) (le-leb _ _ (subst (λ (n : ℕ). n ≤ 8) (length-places (getD l heldAt 0) (drop placesAt l)) (h .few))))
+    (sound-places (getD l heldAt 0) (drop placesAt l) (h .fine))
 
 -- ---- a chip
 
@@ -73,9 +74,9 @@ chip-sound l h =
     line : (j : ℕ) → j < 6 → SoundLine (lineIn (lineWords j l))
     line j hj = line-sound (lineWords j l) (line-held l h j hj)
 
-sound-chip : (l : List ℕ) → ((j : ℕ) → j < 6 → getD (lineWords j l) 0 0 ≤ 1) → SoundChip (chipIn l) → chipFine l ≡ true
+sound-chip : (l : List ℕ) → ((j : ℕ) → j < 6 → getD (lineWords j l) stateAt 0 ≤ 1) → SoundChip (chipIn l) → chipFine l ≡ true
 sound-chip l states h =
-    all-tests (registersFine (registersIn (part 0 6 l))) (λ i. lineFine (lineWords i l)) (h .registers)
+    all-tests (registersFine (registersIn (part 0 registersLong l))) (λ i. lineFine (lineWords i l)) (h .registers)
     (λ j hj. sound-line (lineWords j l) (states j hj) (subst SoundLine (line-at j hj l) (all-getD SoundLine (chipIn l .lines) j idle (h .lines) hj)))
 
 -- ---- the chips from number c on
@@ -87,7 +88,7 @@ chips-sound (suc n) c l h =
     let t = and-eq-true-iff (chipFine (chipWords c l)) (chipsFine (suc c) n l) .0 h in
     (chip-sound (chipWords c l) (t .0), chips-sound n (suc c) l (t .1))
 
-sound-chips : (n c : ℕ) (l : List ℕ) → ((k j : ℕ) → k < c + n → j < 6 → getD (lineWords j (chipWords k l)) 0 0 ≤ 1) → All SoundChip (chipsIn c n l) → chipsFine c n l ≡ true
+sound-chips : (n c : ℕ) (l : List ℕ) → ((k j : ℕ) → k < c + n → j < 6 → getD (lineWords j (chipWords k l)) stateAt 0 ≤ 1) → All SoundChip (chipsIn c n l) → chipsFine c n l ≡ true
 unfolding All chipsFine chipsIn
 sound-chips zero c l states h = refl
 sound-chips (suc n) c l states h =
@@ -112,23 +113,23 @@ module _ (l : List ℕ) where
   pub holds-sound : holdsMesh l ≡ true → SoundMesh (meshOf l)
   unfolding meshOf
   holds-sound h =
-      let t = five-tests (sizeFine (getD l 0 0) (getD l 1 0)) (roundsFine (getD l 2 0)) (leb (getD l 3 0) 19) (leb (getD l 4 0) 3) (ltb (getD l 5 0) (getD l 2 0)) (holds-head l h) in
+      let t = five-tests (sizeFine (getD l widthAt 0) (getD l heightAt 0)) (roundsFine (getD l roundsAt 0)) (leb (getD l monitorAt 0) 19) (leb (getD l phaseAt 0) 3) (ltb (getD l elapsedAt 0) (getD l roundsAt 0)) (holds-head l h) in
       record {
         size = t .0;
         rounds = t .1;
         monitor = leb-true _ _ (t .2);
         phase = leb-true _ _ (t .3);
         elapsed = ltb-true _ _ (t .4);
-        many = length-chips (getD l 1 0 * getD l 0 0) 0 l;
-        chips = chips-sound (getD l 1 0 * getD l 0 0) 0 l (holds-chips l h);
+        many = length-chips (chipsOf l) 0 l;
+        chips = chips-sound (chipsOf l) 0 l (holds-chips l h);
       }
 
-  pub sound-holds : SoundMesh (meshOf l) → StatesFine l → wordsFor (getD l 0 0) (getD l 1 0) ≤ length l → holdsMesh l ≡ true
+  pub sound-holds : SoundMesh (meshOf l) → StatesFine l → wordsOf l ≤ length l → holdsMesh l ≡ true
   unfolding meshOf
-  sound-holds sound states long = and-true-true (and-true-true (and-true-true (le-leb 6 (length l) (omega arith)) head) (le-leb _ _ long)) chips
+  sound-holds sound states long = and-true-true (and-true-true (and-true-true (le-leb headerLong (length l) (omega arith)) head) (le-leb _ _ long)) chips
     where
       head : headFine l ≡ true
       head = and-true-true (and-true-true (and-true-true (and-true-true (sound .size) (sound .rounds)) (le-leb _ _ (sound .monitor))) (le-leb _ _ (sound .phase))) (lt-ltb _ _ (sound .elapsed))
 
-      chips : chipsFine 0 (getD l 1 0 * getD l 0 0) l ≡ true
-      chips = sound-chips (getD l 1 0 * getD l 0 0) 0 l (λ c j hc hj. states c j (omega arith) hj) (sound .chips)
+      chips : chipsFine 0 (chipsOf l) l ≡ true
+      chips = sound-chips (chipsOf l) 0 l (λ c j hc hj. states c j (omega arith) hj) (sound .chips)

@@ -2,7 +2,7 @@
 use mathlib.Core.Path.{_≡_, ap, _∙_, subst}
 use mathlib.Core.Logic.{_⊎_, inl, inr}
 use mathlib.Core.List.{List}
-use Prim.Native.Nat.{ℕ, _+_, _*_, _≤_, _<_}
+use Prim.Native.Nat.{ℕ, _+_, _≤_, _<_}
 use native.Mathlib.Omega.{arith}
 use lib.ListN.{length, getD, drop}
 use lib.Seq.{length-take-le}
@@ -11,10 +11,10 @@ use Rattle.packet.specs.declared.Packet.{Packet}
 use Rattle.steps.specs.declared.Outcome.{Outcome}
 use Rattle.steps.specs.Deciding.{Checked}
 use Rattle.steps.proofs.Bounds.{set-small}
+use Rattle.links.specs.Offsets.{chipLong, chipPlace}
 use Rattle.links.specs.Line.{isReady, idle}
-use Rattle.links.specs.Words.{chipPlace}
 use Rattle.links.specs.Lines.{still}
-use Rattle.buffer.specs.Layout.{chipIn, meshOf, wordsFor}
+use Rattle.buffer.specs.Layout.{chipIn, meshOf, chipsOf, wordsOf}
 use Rattle.mesh.specs.Steps.{withChip}
 use Rattle.lists.specs.Lists.{putBack}
 use Rattle.buffer.specs.Chips.{lineWords, ChipStep}
@@ -36,25 +36,25 @@ checked-at l chip source p codes r near =
       enough = r .enough;
     }
 
-pub chip-long : (l : List ℕ) (chip : ℕ) → chipPlace chip + 322 ≤ length l → length (chipWords chip l) ≡ 322
-chip-long l chip fits = length-take-le 322 (drop (chipPlace chip) l) (simp length-drop (omega arith))
+pub chip-long : (l : List ℕ) (chip : ℕ) → chipPlace chip + chipLong ≤ length l → length (chipWords chip l) ≡ chipLong
+chip-long l chip fits = length-take-le chipLong (drop (chipPlace chip) l) (simp length-drop (omega arith))
 
-module _ (l ys : List ℕ) (chip : ℕ) (o : Outcome) (fits : chipPlace chip + 322 ≤ length l) (there : chip < getD l 1 0 * getD l 0 0) (step : ChipStep (chipWords chip l) ys o) where
-  kept : (c j : ℕ) → j < 6 → still (lineWords j (chipWords c (putBack (chipPlace chip) 322 ys l))) ≡ still (lineWords j (chipWords c l))
+module _ (l ys : List ℕ) (chip : ℕ) (o : Outcome) (fits : chipPlace chip + chipLong ≤ length l) (there : chip < chipsOf l) (step : ChipStep (chipWords chip l) ys o) where
+  kept : (c j : ℕ) → j < 6 → still (lineWords j (chipWords c (putBack (chipPlace chip) chipLong ys l))) ≡ still (lineWords j (chipWords c l))
   kept c j hj = go (order chip c)
     where
-      go : (chip < c) ⊎ ((chip ≡ c) ⊎ (c < chip)) → still (lineWords j (chipWords c (putBack (chipPlace chip) 322 ys l))) ≡ still (lineWords j (chipWords c l))
-      go (inl h) = ap (λ (w : List ℕ). still (lineWords j w)) (part-behind (chipPlace chip) 322 ys l fits (step .long) (chipPlace c) 322 (omega arith))
-      go (inr (inl h)) = subst (λ (k : ℕ). still (lineWords j (chipWords k (putBack (chipPlace chip) 322 ys l))) ≡ still (lineWords j (chipWords k l))) h
-          (ap (λ (w : List ℕ). still (lineWords j w)) (part-same (chipPlace chip) 322 ys l fits (step .long)) ∙ step .still j hj)
-      go (inr (inr h)) = ap (λ (w : List ℕ). still (lineWords j w)) (part-before (chipPlace chip) 322 ys l fits (step .long) (chipPlace c) 322 (omega arith))
+      go : (chip < c) ⊎ ((chip ≡ c) ⊎ (c < chip)) → still (lineWords j (chipWords c (putBack (chipPlace chip) chipLong ys l))) ≡ still (lineWords j (chipWords c l))
+      go (inl h) = ap (λ (w : List ℕ). still (lineWords j w)) (part-behind (chipPlace chip) chipLong ys l fits (step .long) (chipPlace c) chipLong (omega arith))
+      go (inr (inl h)) = subst (λ (k : ℕ). still (lineWords j (chipWords k (putBack (chipPlace chip) chipLong ys l))) ≡ still (lineWords j (chipWords k l))) h
+          (ap (λ (w : List ℕ). still (lineWords j w)) (part-same (chipPlace chip) chipLong ys l fits (step .long)) ∙ step .still j hj)
+      go (inr (inr h)) = ap (λ (w : List ℕ). still (lineWords j w)) (part-before (chipPlace chip) chipLong ys l fits (step .long) (chipPlace c) chipLong (omega arith))
 
-  pub mesh-step : MeshStep l (putBack (chipPlace chip) 322 ys l) chip o
+  pub mesh-step : MeshStep l (putBack (chipPlace chip) chipLong ys l) chip o
   mesh-step =
       record {
-        long = length-back (chipPlace chip) 322 ys l fits (step .long);
-        head = take-before (chipPlace chip) 322 ys l fits (step .long) 6 (omega arith);
+        long = length-back (chipPlace chip) chipLong ys l fits (step .long);
+        head = take-before (chipPlace chip) chipLong ys l fits (step .long) 6 (omega arith);
         mesh = mesh-put chip ys l fits (step .long) there ∙ ap (withChip (meshOf l) chip) (step .chip);
         still = kept;
-        past = drop-behind (chipPlace chip) 322 ys l fits (step .long) (wordsFor (getD l 0 0) (getD l 1 0)) (omega arith);
+        past = drop-behind (chipPlace chip) chipLong ys l fits (step .long) (wordsOf l) (omega arith);
       }

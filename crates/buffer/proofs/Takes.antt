@@ -12,6 +12,7 @@ use Rattle.steps.specs.Links.{has}
 use Rattle.steps.specs.Deciding.{outcomeOf, Source, Checked}
 use Rattle.steps.proofs.Bounds.{outcome-sets}
 use Rattle.steps.proofs.Sets.{has-set}
+use Rattle.links.specs.Offsets.{heldAt, chipLong}
 use Rattle.links.specs.Line.{isReady, idle}
 use Rattle.links.specs.Words.{lineIn}
 use Rattle.links.proofs.Places.{length-places}
@@ -22,7 +23,7 @@ use Rattle.buffer.specs.Chips.{lineWords, Takes}
 use Rattle.buffer.proofs.ChipParts.{line-at}
 
 -- a ready link holds at most 6
-pub ready-room : (l : List ℕ) (i : ℕ) → i < 6 → has (readyOf (chipIn l)) i ≡ true → getD (lineWords i l) 1 0 ≤ 6
+pub ready-room : (l : List ℕ) (i : ℕ) → i < 6 → has (readyOf (chipIn l)) i ≡ true → getD (lineWords i l) heldAt 0 ≤ 6
 ready-room l i hi h =
     let t : isReady (getD (chipIn l .lines) i idle) ≡ true = sym (has-set (λ j. isReady (getD (chipIn l .lines) j idle)) i hi) ∙ h in
     let u : isReady (lineIn (lineWords i l)) ≡ true = sym (ap isReady (line-at i hi l)) ∙ t in
@@ -32,7 +33,7 @@ ready-room l i hi h =
 
 module _ (p : Packet) (s : ℕ) (rows codes : List ℕ) (t : Setting) (h : Checked p s codes t) (from : Source s) where
   -- so the pass fits the chip
-  pub takes : (l : List ℕ) → length l ≡ 322 → t .ready ≡ readyOf (chipIn l) → Takes l (outcomeOf p s rows codes t)
+  pub takes : (l : List ℕ) → length l ≡ chipLong → t .ready ≡ readyOf (chipIn l) → Takes l (outcomeOf p s rows codes t)
   takes l long ready =
       let o = outcome-sets p s rows codes t in
       record {

@@ -11,9 +11,10 @@ use lib.Dec.{lit<}
 use Rattle.steps.specs.declared.Outcome.{Outcome}
 use Rattle.kept.specs.Keeping.{keptOf}
 use Rattle.kept.specs.Counting.{countedOf}
+use Rattle.links.specs.Offsets.{headerLong, lineLong, registersLong, countersLong, countersAt, chipLong, linePlace}
 use Rattle.links.specs.Line.{lineAfter}
 use Rattle.lists.specs.Lists.{part, putBack}
-use Rattle.links.specs.Words.{lineIn, linePlace}
+use Rattle.links.specs.Words.{lineIn}
 use Rattle.links.specs.Lines.{sentWords, Room, still}
 use Rattle.mesh.specs.Steps.{linesAfter}
 use Rattle.buffer.specs.Layout.{registersIn}
@@ -22,21 +23,21 @@ use Rattle.lists.proofs.Parts.{length-back, part-same, part-before, part-behind
 use Rattle.buffer.proofs.ChipParts.{order, words-other, words-same}
 use Rattle.links.proofs.Places.{line-sent, still-sent, length-sent}
 
-pub line-long : (j : ℕ) (l : List ℕ) → j < 6 → length l ≡ 322 → length (lineWords j l) ≡ 51
-line-long j l h k = length-take-le 51 (drop (linePlace j) l) (simp length-drop (omega arith))
+pub line-long : (j : ℕ) (l : List ℕ) → j < 6 → length l ≡ chipLong → length (lineWords j l) ≡ lineLong
+line-long j l h k = length-take-le lineLong (drop (linePlace j) l) (simp length-drop (omega arith))
 
 module _ (f : ℕ → List ℕ → List ℕ) where
   -- no link yet
-  pub begin : (l : List ℕ) → length l ≡ 322 → Upto f 0 l l
+  pub begin : (l : List ℕ) → length l ≡ chipLong → Upto f 0 l l
   begin l h = record { long = h; registers = refl; counters = refl; done = λ j f. absurd (omega arith); todo = λ j f hj. refl }
 
   -- one link more
-  pub next : (k : ℕ) (before l : List ℕ) → k < 6 → length (f k (lineWords k before)) ≡ 51 → Upto f k before l → Upto f (suc k) before (changedOn f l k)
+  pub next : (k : ℕ) (before l : List ℕ) → k < 6 → length (f k (lineWords k before)) ≡ lineLong → Upto f k before l → Upto f (suc k) before (changedOn f l k)
   next k before l hk sized u =
       record {
-        long = length-back (linePlace k) 51 ys l fits long ∙ u .long;
-        registers = part-before (linePlace k) 51 ys l fits long 0 6 (omega arith) ∙ u .registers;
-        counters = part-before (linePlace k) 51 ys l fits long 6 10 (omega arith) ∙ u .counters;
+        long = length-back (linePlace k) lineLong ys l fits long ∙ u .long;
+        registers = part-before (linePlace k) lineLong ys l fits long 0 6 (omega arith) ∙ u .registers;
+        counters = part-before (linePlace k) lineLong ys l fits long 6 10 (omega arith) ∙ u .counters;
         done = finished;
         todo = λ j h hj. words-other k hk ys l (u .long) long j (λ e. omega arith) ∙ u .todo j (omega arith) hj;
       }
@@ -47,10 +48,10 @@ module _ (f : ℕ → List ℕ → List ℕ) where
       ys : List ℕ
       ys = f k (lineWords k l)
 
-      long : length (f k (lineWords k l)) ≡ 51
+      long : length (f k (lineWords k l)) ≡ lineLong
       long = ap (λ (w : List ℕ). length (f k w)) same ∙ sized
 
-      fits : linePlace k + 51 ≤ length l
+      fits : linePlace k + lineLong ≤ length l
       fits = omega (arith, u .long)
 
       finished : (j : ℕ) → j < suc k → lineWords j (changedOn f l k) ≡ f j (lineWords j before)
@@ -63,28 +64,28 @@ module _ (f : ℕ → List ℕ → List ℕ) where
           go (inr (inr g)) = words-other k hk ys l (u .long) long j (λ e. omega arith) ∙ u .done j g
 
 -- what a pass sends fits
-pub sends-long : (k : ℕ) (l : List ℕ) (o : Outcome) → k < 6 → Takes l o → length (sending o k (lineWords k l)) ≡ 51
+pub sends-long : (k : ℕ) (l : List ℕ) (o : Outcome) → k < 6 → Takes l o → length (sending o k (lineWords k l)) ≡ lineLong
 sends-long k l o hk t = length-sent (lineWords k l) o k (line-long k l hk (t .long)) (t .room k hk)
 
 -- a chip after a pass: registers and counters first, then all six links
-module _ (l ws cs : List ℕ) (o : Outcome) (h : length l ≡ 322) (lw : length ws ≡ 6) (lc : length cs ≡ 10) where
-  fits₀ : 0 + 6 ≤ length l
+module _ (l ws cs : List ℕ) (o : Outcome) (h : length l ≡ chipLong) (lw : length ws ≡ 6) (lc : length cs ≡ 10) where
+  fits₀ : 0 + headerLong ≤ length l
   fits₀ = omega arith
 
-  longer : length (putBack 0 6 ws l) ≡ 322
+  longer : length (putBack 0 registersLong ws l) ≡ chipLong
   longer = length-back 0 6 ws l fits₀ lw ∙ h
 
-  fits₁ : 6 + 10 ≤ length (putBack 0 6 ws l)
+  fits₁ : countersAt + countersLong ≤ length (putBack 0 registersLong ws l)
   fits₁ = omega (arith, longer)
 
-  pub after-long : length (putBack 6 10 cs (putBack 0 6 ws l)) ≡ 322
-  after-long = length-back 6 10 cs (putBack 0 6 ws l) fits₁ lc ∙ longer
+  pub after-long : length (putBack 6 10 cs (putBack 0 registersLong ws l)) ≡ chipLong
+  after-long = length-back 6 10 cs (putBack 0 registersLong ws l) fits₁ lc ∙ longer
 
-  untouched : (j : ℕ) → lineWords j (putBack 6 10 cs (putBack 0 6 ws l)) ≡ lineWords j l
-  untouched j = part-behind 6 10 cs (putBack 0 6 ws l) fits₁ lc (linePlace j) 51 (omega arith) ∙ part-behind 0 6 ws l fits₀ lw (linePlace j) 51 (omega arith)
+  untouched : (j : ℕ) → lineWords j (putBack 6 10 cs (putBack 0 registersLong ws l)) ≡ lineWords j l
+  untouched j = part-behind 6 10 cs (putBack 0 registersLong ws l) fits₁ lc (linePlace j) lineLong (omega arith) ∙ part-behind 0 6 ws l fits₀ lw (linePlace j) lineLong (omega arith)
 
   -- what the pass asks of the chip it still asks of its links
-  pub takes-on : Takes l o → Takes (putBack 6 10 cs (putBack 0 6 ws l)) o
+  pub takes-on : Takes l o → Takes (putBack 6 10 cs (putBack 0 registersLong ws l)) o
   takes-on t =
       record {
         long = after-long;
@@ -95,14 +96,14 @@ module _ (l ws cs : List ℕ) (o : Outcome) (h : length l ≡ 322) (lw : length 
         leg = t .leg;
       }
 
-  pub finish : ws ≡ registerWords (keptOf (registersIn (part 0 6 l)) o) → cs ≡ countedOf (record { count = part 6 10 (putBack 0 6 ws l) }) o .count → Takes l o
-      → (k : List ℕ) → Upto (sending o) 6 (putBack 6 10 cs (putBack 0 6 ws l)) k → ChipStep l k o
+  pub finish : ws ≡ registerWords (keptOf (registersIn (part 0 registersLong l)) o) → cs ≡ countedOf (record { count = part countersAt countersLong (putBack 0 registersLong ws l) }) o .count → Takes l o
+      → (k : List ℕ) → Upto (sending o) 6 (putBack 6 10 cs (putBack 0 registersLong ws l)) k → ChipStep l k o
   unfolding linesAfter
   finish ew ec t k u =
-      let r : part 0 6 k ≡ registerWords (keptOf (registersIn (part 0 6 l)) o) =
-      u .registers ∙ part-before 6 10 cs (putBack 0 6 ws l) fits₁ lc 0 6 (omega arith) ∙ part-same 0 6 ws l fits₀ lw ∙ ew in
-      let c : part 6 10 k ≡ countedOf (record { count = part 6 10 l }) o .count =
-      u .counters ∙ part-same 6 10 cs (putBack 0 6 ws l) fits₁ lc ∙ ec
+      let r : part 0 registersLong k ≡ registerWords (keptOf (registersIn (part 0 registersLong l)) o) =
+      u .registers ∙ part-before 6 10 cs (putBack 0 registersLong ws l) fits₁ lc 0 6 (omega arith) ∙ part-same 0 6 ws l fits₀ lw ∙ ew in
+      let c : part countersAt countersLong k ≡ countedOf (record { count = part countersAt countersLong l }) o .count =
+      u .counters ∙ part-same 6 10 cs (putBack 0 registersLong ws l) fits₁ lc ∙ ec
       ∙ ap (λ (w : List ℕ). countedOf (record { count = w }) o .count) (part-behind 0 6 ws l fits₀ lw 6 10 (omega arith)) in
       let words : (j : ℕ) → j < 6 → lineWords j k ≡ sentWords (lineWords j l) o j =
       λ j hj. u .done j hj ∙ ap (λ (w : List ℕ). sentWords w o j) (untouched j) in

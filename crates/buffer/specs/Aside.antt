@@ -4,15 +4,16 @@ use mathlib.Core.Path.{_≡_}
 use mathlib.Core.List.{List}
 use lib.ListN.{length, getD, take, drop, set}
 use lib.Seq.{paste}
-use Rattle.links.specs.Words.{lineIn, asideIn, chipPlace}
+use Rattle.links.specs.Offsets.{headerLong, stateAt, heldAt, placesAt, placeLong, asideAt, asidePlacesAt, chipLong, chipPlace}
+use Rattle.links.specs.Words.{lineIn, asideIn}
 use Rattle.mesh.specs.Steps.{emptiedChip}
 use Rattle.buffer.specs.Layout.{chipIn}
 use Rattle.buffer.specs.Chips.{lineWords}
 use Rattle.buffer.specs.Passing.{chipWords}
 
--- A link's words after what it holds was set aside: the packets' words from word 27 on, how many there are in word 26, and none held.
+-- A link's words after what it holds was set aside: the packets' words behind their number, and none held.
 abbrev pub asideWords : List ℕ → List ℕ
-asideWords w = set (set (paste w 27 (drop 2 w) (getD w 1 0 * 3)) 26 (getD w 1 0)) 1 0
+asideWords w = set (set (paste w asidePlacesAt (drop placesAt w) (getD w heldAt 0 * placeLong)) asideAt (getD w heldAt 0)) heldAt 0
 
 -- The same for every link of a chip.
 abbrev pub asideOn : ℕ → List ℕ → List ℕ
@@ -20,15 +21,15 @@ asideOn j w = asideWords w
 
 -- A chip's words before and after all six links were set aside.
 pub record ChipAside (before after : List ℕ) : Type 0 where
-  pub long : length after ≡ 322
+  pub long : length after ≡ chipLong
   pub chip : chipIn after ≡ emptiedChip (chipIn before)
   pub aside : (j : ℕ) → j < 6 → asideIn (lineWords j after) ≡ lineIn (lineWords j before) .held
-  pub states : (j : ℕ) → j < 6 → getD (lineWords j after) 0 0 ≡ getD (lineWords j before) 0 0
+  pub states : (j : ℕ) → j < 6 → getD (lineWords j after) stateAt 0 ≡ getD (lineWords j before) stateAt 0
 
 -- A mesh's words while the chips below k of n are set aside.
 pub record AsideUpto (n k : ℕ) (before after : List ℕ) : Type 0 where
   pub long : length after ≡ length before
-  pub head : take 6 after ≡ take 6 before
+  pub head : take headerLong after ≡ take headerLong before
   pub done : (c : ℕ) → c < k → ChipAside (chipWords c before) (chipWords c after)
   pub todo : (c : ℕ) → k ≤ c → chipWords c after ≡ chipWords c before
   pub past : drop (chipPlace n) after ≡ drop (chipPlace n) before

@@ -9,7 +9,7 @@ use Rattle.kept.specs.declared.Registers.{Registers}
 use Rattle.steps.specs.Links.{has}
 use Rattle.steps.specs.Deciding.{packetOn, legPacket}
 use Rattle.lists.specs.Lists.{part, putBack}
-use Rattle.links.specs.Words.{linePlace}
+use Rattle.links.specs.Offsets.{lineLong, registersLong, countersLong, countersAt, chipLong, linePlace}
 use Rattle.links.specs.Lines.{sentWords, Room, still, Right}
 use Rattle.buffer.specs.Layout.{chipIn}
 use Rattle.mesh.specs.Steps.{chipAfter}
@@ -19,15 +19,15 @@ registerWords r = r .control ∷ r .word ∷ r .payload ∷ r .link ∷ r .leg �
 
 -- The words of link i changed by f.
 abbrev pub changedOn : (ℕ → List ℕ → List ℕ) → List ℕ → ℕ → List ℕ
-changedOn f l i = putBack (linePlace i) 51 (f i (part (linePlace i) 51 l)) l
+changedOn f l i = putBack (linePlace i) lineLong (f i (part (linePlace i) lineLong l)) l
 
 -- the words of link j
 abbrev pub lineWords : ℕ → List ℕ → List ℕ
-lineWords j l = part (linePlace j) 51 l
+lineWords j l = part (linePlace j) lineLong l
 
 -- What a pass may ask of a chip: it sends only where there is room, and only packets whose length is right.
 pub record Takes (l : List ℕ) (o : Outcome) : Type 0 where
-  pub long : length l ≡ 322
+  pub long : length l ≡ chipLong
   pub dropped : o .dropped < 64
   pub lost : o .lost < 64
   pub room : (i : ℕ) → i < 6 → Room (lineWords i l) o i
@@ -36,15 +36,15 @@ pub record Takes (l : List ℕ) (o : Outcome) : Type 0 where
 
 -- A chip's words before and after a pass: the chip is as the pass leaves it; the links' states and what is set aside are as they were.
 pub record ChipStep (before after : List ℕ) (o : Outcome) : Type 0 where
-  pub long : length after ≡ 322
+  pub long : length after ≡ chipLong
   pub chip : chipIn after ≡ chipAfter o tt (chipIn before)
   pub still : (j : ℕ) → j < 6 → still (lineWords j after) ≡ still (lineWords j before)
 
 -- A chip's words before and after the words of its links below k were changed by f: all else is as it was.
 pub record Upto (f : ℕ → List ℕ → List ℕ) (k : ℕ) (before after : List ℕ) : Type 0 where
-  pub long : length after ≡ 322
-  pub registers : part 0 6 after ≡ part 0 6 before
-  pub counters : part 6 10 after ≡ part 6 10 before
+  pub long : length after ≡ chipLong
+  pub registers : part 0 registersLong after ≡ part 0 registersLong before
+  pub counters : part countersAt countersLong after ≡ part countersAt countersLong before
   pub done : (j : ℕ) → j < k → lineWords j after ≡ f j (lineWords j before)
   pub todo : (j : ℕ) → k ≤ j → j < 6 → lineWords j after ≡ lineWords j before
 

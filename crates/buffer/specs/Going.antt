@@ -5,11 +5,12 @@ use mathlib.Core.Bool.{true}
 use mathlib.Core.List.{List, map, foldl}
 use lib.ListN.{length, getD, take, drop}
 use Rattle.packet.specs.declared.Packet.{Packet}
+use Rattle.links.specs.Offsets.{widthAt, heightAt, headerLong, asideAt}
 use Rattle.links.specs.Line.{Flight}
 use Rattle.links.specs.Across.{across, opposite}
 use Rattle.links.specs.Words.{asideIn}
 use Rattle.links.specs.Lines.{still}
-use Rattle.buffer.specs.Layout.{meshOf, wordsFor}
+use Rattle.buffer.specs.Layout.{meshOf, chipsOf, wordsOf}
 use Rattle.mesh.specs.Steps.{Tables, Arrival, Going, passAt, same}
 use Rattle.buffer.specs.Chips.{lineWords}
 use Rattle.buffer.specs.Passing.{chipWords}
@@ -18,26 +19,23 @@ use Rattle.lists.specs.Lists.{All, upTo}
 use Rattle.mesh.specs.Sound.{Arrives}
 use Rattle.mesh.specs.Calls.{Lent}
 
-abbrev pub chipsOf : List ℕ → ℕ
-chipsOf l = getD l 1 0 * getD l 0 0
-
 abbrev pub arrival : ℕ → ℕ → Packet → Arrival (Unit {0})
 arrival chip source p = record { chip = chip; source = source; flight = record { packet = p; tag = tt } }
 
 -- What was set aside for a chip on the link opposite to the one that it arrives by: its words; the packets; those on all six links.
 abbrev pub asideFor : List ℕ → ℕ → ℕ → List ℕ
-asideFor l chip source = lineWords (opposite source) (chipWords (across (getD l 0 0) (getD l 1 0) chip source) l)
+asideFor l chip source = lineWords (opposite source) (chipWords (across (getD l widthAt 0) (getD l heightAt 0) chip source) l)
 
 abbrev pub asideBy : List ℕ → ℕ → ℕ → List (Arrival (Unit {0}))
 asideBy l chip source =
     map (λ (f : Flight (Unit {0})). record { chip = chip; source = source; flight = f }) (asideIn (asideFor l chip source))
 
-abbrev pub asideAt : List ℕ → ℕ → List (Arrival (Unit {0}))
-asideAt l chip = upTo (asideBy l chip) 6
+abbrev pub asideFrom : List ℕ → ℕ → List (Arrival (Unit {0}))
+asideFrom l chip = upTo (asideBy l chip) 6
 
 -- No link has set more than 8 aside.
 abbrev pub AsideFew : List ℕ → Type 0
-AsideFew l = (c j : ℕ) → c < chipsOf l → j < 6 → getD (lineWords j (chipWords c l)) 26 0 ≤ 8
+AsideFew l = (c j : ℕ) → c < chipsOf l → j < 6 → getD (lineWords j (chipWords c l)) asideAt 0 ≤ 8
 
 -- The mesh on its way, and the log's first n records.
 abbrev pub goingIn : List ℕ → List ℕ → ℕ → Going (Unit {0})
@@ -46,9 +44,9 @@ goingIn mesh log n = record { mesh = meshOf mesh; log = take (n * 6) log }
 -- What is known before some arrivals pass: the log has room for a record of each.
 pub record Due (t : Tables) (due : List (Arrival (Unit {0}))) (mesh log : List ℕ) (n : ℕ) : Type 0 where
   pub head : headFine mesh ≡ true
-  pub long : wordsFor (getD mesh 0 0) (getD mesh 1 0) ≤ length mesh
+  pub long : wordsOf mesh ≤ length mesh
   pub lent : Lent t (chipsOf mesh)
-  pub room : n * 6 + length due * 6 ≤ length log
+  pub room : n * 6 + length due * headerLong ≤ length log
   pub each : All (Arrives (chipsOf mesh)) due
 
 -- The same where the arrivals are what was set aside.
@@ -59,10 +57,10 @@ pub record DueAside (t : Tables) (aside : List (Arrival (Unit {0}))) (mesh log :
 -- Words and log before and after some arrivals have passed, in order.
 pub record Passed (t : Tables) (due : List (Arrival (Unit {0}))) (mesh log : List ℕ) (n : ℕ) (mesh′ log′ : List ℕ) (n′ : ℕ) : Type 0 where
   pub long : length mesh′ ≡ length mesh
-  pub head : take 6 mesh′ ≡ take 6 mesh
+  pub head : take headerLong mesh′ ≡ take headerLong mesh
   pub going : goingIn mesh′ log′ n′ ≡ foldl (passAt t same) (goingIn mesh log n) due
   pub still : (c j : ℕ) → j < 6 → still (lineWords j (chipWords c mesh′)) ≡ still (lineWords j (chipWords c mesh))
-  pub past : drop (wordsFor (getD mesh 0 0) (getD mesh 1 0)) mesh′ ≡ drop (wordsFor (getD mesh 0 0) (getD mesh 1 0)) mesh
+  pub past : drop (wordsOf mesh) mesh′ ≡ drop (wordsOf mesh) mesh
   pub room : length log′ ≡ length log
   pub behind : drop (n′ * 6) log′ ≡ drop (n′ * 6) log
   pub more : n ≤ n′

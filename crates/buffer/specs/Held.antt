@@ -6,11 +6,12 @@ use lib.ListN.{length, getD}
 use Rattle.buffer.specs.Layout.{chipIn}
 use Rattle.buffer.specs.Chips.{lineWords}
 use Rattle.mesh.specs.Weights.{onChip}
+use Rattle.links.specs.Offsets.{heldAt, chipLong}
 
 abbrev pub chipFlight : List ℕ → ℕ
 chipFlight l = onChip (λ f. 1) (chipIn l)
 
 -- "Every directed link holds at most 8 packets."
 pub record Few (l : List ℕ) : Type 0 where
-  pub long : length l ≡ 322
-  pub few : (j : ℕ) → j < 6 → getD (lineWords j l) 1 0 ≤ 8
+  pub long : length l ≡ chipLong
+  pub few : (j : ℕ) → j < 6 → getD (lineWords j l) heldAt 0 ≤ 8

@@ -1,14 +1,15 @@
 -- Which buffers hold a mesh: "exactly when it is long enough and each stored number is within this document's range ... and each packet in
 -- flight is of a used type, right in length and parity, not NN with T = 1."
-use Prim.Native.Nat.{ℕ, zero, suc, _*_, _≤_, _<_}
+use Prim.Native.Nat.{ℕ, zero, suc, _≤_, _<_}
 use mathlib.Core.Bool.{Bool, true, _&&_}
 use mathlib.Core.List.{List}
 use lib.Dec.{ltb, leb}
 use lib.ListN.{length, getD, drop}
 use Rattle.tables.specs.Sizes.{sizeFine}
 use Rattle.lists.specs.Lists.{part}
-use Rattle.links.specs.Words.{packetIn, linePlace, chipPlace}
-use Rattle.buffer.specs.Layout.{registersIn, wordsFor}
+use Rattle.links.specs.Offsets.{widthAt, heightAt, roundsAt, monitorAt, phaseAt, elapsedAt, headerLong, stateAt, heldAt, placesAt, placeLong, lineLong, registersLong, chipLong, chipPlace, linePlace}
+use Rattle.links.specs.Words.{packetIn}
+use Rattle.buffer.specs.Layout.{registersIn, chipsOf, wordsOf}
 use Rattle.buffer.specs.Chips.{lineWords}
 use Rattle.buffer.specs.Passing.{chipWords}
 use Rattle.mesh.specs.Mesh.{roundsFine}
@@ -17,33 +18,33 @@ use Rattle.mesh.specs.Sound.{packetFine, registersFine}
 -- The first n packets of a run of places.
 unfoldable pub placesFine : ℕ → List ℕ → Bool
 placesFine zero l = true
-placesFine (suc n) l = packetFine (packetIn l) && placesFine n (drop 3 l)
+placesFine (suc n) l = packetFine (packetIn l) && placesFine n (drop placeLong l)
 
 -- "Link states, at most 8 packets a link".
 abbrev pub lineFine : List ℕ → Bool
-lineFine l = leb (getD l 0 0) 1 && leb (getD l 1 0) 8 && placesFine (getD l 1 0) (drop 2 l)
+lineFine l = leb (getD l stateAt 0) 1 && leb (getD l heldAt 0) 8 && placesFine (getD l heldAt 0) (drop placesAt l)
 
 abbrev pub chipFine : List ℕ → Bool
 chipFine l =
-    registersFine (registersIn (part 0 6 l)) && lineFine (part (linePlace 0) 51 l) && lineFine (part (linePlace 1) 51 l) && lineFine (part (linePlace 2) 51 l)
-    && lineFine (part (linePlace 3) 51 l)
-    && lineFine (part (linePlace 4) 51 l)
-    && lineFine (part (linePlace 5) 51 l)
+    registersFine (registersIn (part 0 registersLong l)) && lineFine (part (linePlace 0) lineLong l) && lineFine (part (linePlace 1) lineLong l) && lineFine (part (linePlace 2) lineLong l)
+    && lineFine (part (linePlace 3) lineLong l)
+    && lineFine (part (linePlace 4) lineLong l)
+    && lineFine (part (linePlace 5) lineLong l)
 
 -- The n chips from number c on.
 unfoldable pub chipsFine : ℕ → ℕ → List ℕ → Bool
 chipsFine c zero l = true
-chipsFine c (suc n) l = chipFine (part (chipPlace c) 322 l) && chipsFine (suc c) n l
+chipsFine c (suc n) l = chipFine (part (chipPlace c) chipLong l) && chipsFine (suc c) n l
 
 -- "Sizes, F, phase, rounds in the phase, monitor".
 abbrev pub headFine : List ℕ → Bool
 headFine l =
-    sizeFine (getD l 0 0) (getD l 1 0) && roundsFine (getD l 2 0) && leb (getD l 3 0) 19 && leb (getD l 4 0) 3 && ltb (getD l 5 0) (getD l 2 0)
+    sizeFine (getD l widthAt 0) (getD l heightAt 0) && roundsFine (getD l roundsAt 0) && leb (getD l monitorAt 0) 19 && leb (getD l phaseAt 0) 3 && ltb (getD l elapsedAt 0) (getD l roundsAt 0)
 
 abbrev pub holdsMesh : List ℕ → Bool
 holdsMesh l =
-    leb 6 (length l) && headFine l && leb (wordsFor (getD l 0 0) (getD l 1 0)) (length l) && chipsFine 0 (getD l 1 0 * getD l 0 0) l
+    leb headerLong (length l) && headFine l && leb (wordsOf l) (length l) && chipsFine 0 (chipsOf l) l
 
 -- What the mesh read from the words does not tell: every link's state word is 0 or 1.
 abbrev pub StatesFine : List ℕ → Type 0
-StatesFine l = (c j : ℕ) → c < getD l 1 0 * getD l 0 0 → j < 6 → getD (lineWords j (chipWords c l)) 0 0 ≤ 1
+StatesFine l = (c j : ℕ) → c < chipsOf l → j < 6 → getD (lineWords j (chipWords c l)) stateAt 0 ≤ 1

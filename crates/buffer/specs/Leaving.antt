@@ -5,8 +5,9 @@ use mathlib.Core.Bool.{Bool, true, cond}
 use mathlib.Core.List.{List}
 use lib.Dec.{ltb}
 use lib.ListN.{length, getD, drop, set}
-use Rattle.buffer.specs.Layout.{meshOf, wordsFor}
+use Rattle.buffer.specs.Layout.{meshOf, wordsOf}
 use Rattle.buffer.specs.Holding.{holdsMesh}
+use Rattle.links.specs.Offsets.{roundsAt, phaseAt, elapsedAt, stateAt}
 use Rattle.links.specs.Phase.{nextPhase}
 use Rattle.links.specs.Lines.{stateOf}
 use Rattle.mesh.specs.Steps.{Tables, same}
@@ -19,7 +20,7 @@ pub record Leaves (before after : List ℕ) (r : Left (Unit {0})) : Type 0 where
   pub mesh : r .refusal ≡ 0 → meshOf after ≡ r .mesh
   pub holds : r .refusal ≡ 0 → holdsMesh after ≡ true
   pub long : length after ≡ length before
-  pub past : drop (wordsFor (getD before 0 0) (getD before 1 0)) after ≡ drop (wordsFor (getD before 0 0) (getD before 1 0)) before
+  pub past : drop (wordsOf before) after ≡ drop (wordsOf before) before
 
 abbrev pub injectLeft : List ℕ → Tables → ℕ → ℕ → List ℕ → Left (Unit {0})
 injectLeft l t room chip bytes = injecting (holdsMesh l) t same (meshOf l) room chip bytes tt
@@ -35,8 +36,8 @@ registersLeft l chip = emptying (holdsMesh l) (meshOf l) chip
 
 -- The words after a round: the phase steps on after each F rounds.
 abbrev pub overWords : List ℕ → List ℕ
-overWords l = cond (ltb (getD l 5 0 + 1) (getD l 2 0)) (set l 5 (getD l 5 0 + 1)) (set (set l 5 0) 4 (nextPhase (getD l 4 0)))
+overWords l = cond (ltb (getD l elapsedAt 0 + 1) (getD l roundsAt 0)) (set l elapsedAt (getD l elapsedAt 0 + 1)) (set (set l elapsedAt 0) phaseAt (nextPhase (getD l phaseAt 0)))
 
 -- A link's words with its state set.
 abbrev pub stateOn : Bool → ℕ → List ℕ → List ℕ
-stateOn up j w = set w 0 (stateOf up)
+stateOn up j w = set w stateAt (stateOf up)

@@ -9,6 +9,7 @@ use Rattle.tables.specs.Sizes.{sizeFine}
 use Rattle.buffer.specs.declared.opening.SizeRead.{SizeRead}
 use Rattle.buffer.specs.Layout.{wordsFor}
 use Rattle.mesh.specs.Mesh.{roundsFine}
+use Rattle.links.specs.Offsets.{chipLong}
 
 -- "On opening 7, 6, 8": W, H or F out of range; monitor above 19; buffer too short.
 abbrev pub openRefusals : ℕ → ℕ → ℕ → ℕ → ℕ → List Refusal
@@ -20,7 +21,7 @@ openRefusals words width height rounds monitor =
 -- The header, zeros for every chip, and the words past the needed length as they were.
 abbrev pub openedWords : List ℕ → ℕ → ℕ → ℕ → ℕ → List ℕ
 openedWords l width height rounds monitor =
-    width ∷ height ∷ rounds ∷ monitor ∷ 0 ∷ 0 ∷ replicate (height * width * 322) 0 ++ drop (wordsFor width height) l
+    width ∷ height ∷ rounds ∷ monitor ∷ 0 ∷ 0 ∷ replicate (height * width * chipLong) 0 ++ drop (wordsFor width height) l
 
 -- "Lent memory stays as it came" where a call is refused.
 abbrev pub opening : ℕ → List ℕ → ℕ → ℕ → ℕ → ℕ → List ℕ

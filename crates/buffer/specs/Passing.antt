@@ -1,5 +1,5 @@
 -- One pass at a chip of a mesh's words.
-use Prim.Native.Nat.{ℕ, _+_, _*_, _≤_, _<_}
+use Prim.Native.Nat.{ℕ, _+_, _≤_, _<_}
 use mathlib.Core.Path.{_≡_}
 use mathlib.Core.Logic.{_⊎_}
 use mathlib.Core.List.{List}
@@ -9,38 +9,38 @@ use Rattle.steps.specs.declared.Outcome.{Outcome}
 use Rattle.steps.specs.declared.Setting.{Setting}
 use Rattle.mesh.specs.Mesh.{readyOf}
 use Rattle.lists.specs.Lists.{part}
-use Rattle.links.specs.Words.{chipPlace}
+use Rattle.links.specs.Offsets.{widthAt, heightAt, monitorAt, phaseAt, headerLong, chipLong, chipPlace}
 use Rattle.links.specs.Lines.{still}
-use Rattle.buffer.specs.Layout.{chipIn, meshOf, wordsFor}
+use Rattle.buffer.specs.Layout.{chipIn, meshOf, chipsOf, wordsOf}
 use Rattle.mesh.specs.Steps.{chipAfter, withChip}
 use Rattle.buffer.specs.Chips.{lineWords}
 
 -- the words of chip k
 abbrev pub chipWords : ℕ → List ℕ → List ℕ
-chipWords k l = part (chipPlace k) 322 l
+chipWords k l = part (chipPlace k) chipLong l
 
 -- The chip's setting: the mesh's size, monitor and phase, and the chip's own ready set.
 abbrev pub settingIn : List ℕ → ℕ → Setting
 settingIn l chip =
-    record { width = getD l 0 0; height = getD l 1 0; monitor = getD l 3 0; phase = getD l 4 0; ready = readyOf (chipIn (chipWords chip l)) }
+    record { width = getD l widthAt 0; height = getD l heightAt 0; monitor = getD l monitorAt 0; phase = getD l phaseAt 0; ready = readyOf (chipIn (chipWords chip l)) }
 
 -- What is known before a pass.
 pub record Ready (l : List ℕ) (chip source : ℕ) (p : Packet) (codes : List ℕ) : Type 0 where
-  pub fits : chipPlace chip + 322 ≤ length l
-  pub there : chip < getD l 1 0 * getD l 0 0
+  pub fits : chipPlace chip + chipLong ≤ length l
+  pub there : chip < chipsOf l
   pub from : (source < 6) ⊎ (source ≡ 7)
   pub control : p .control < 256
-  pub width : getD l 0 0 ≤ 12
-  pub height : getD l 1 0 ≤ 12
-  pub monitor : getD l 3 0 < 20
-  pub phase : getD l 4 0 ≤ 3
-  pub enough : getD l 1 0 * getD l 0 0 ≤ length codes
+  pub width : getD l widthAt 0 ≤ 12
+  pub height : getD l heightAt 0 ≤ 12
+  pub monitor : getD l monitorAt 0 < 20
+  pub phase : getD l phaseAt 0 ≤ 3
+  pub enough : chipsOf l ≤ length codes
 
 -- A mesh's words before and after a pass at a chip: the mesh is as the pass leaves it; the links' states, what is set aside, and the words
 -- past the mesh are as they were.
 pub record MeshStep (before after : List ℕ) (chip : ℕ) (o : Outcome) : Type 0 where
   pub long : length after ≡ length before
-  pub head : take 6 after ≡ take 6 before
+  pub head : take headerLong after ≡ take headerLong before
   pub mesh : meshOf after ≡ withChip (meshOf before) chip (chipAfter o tt (chipIn (chipWords chip before)))
   pub still : (c j : ℕ) → j < 6 → still (lineWords j (chipWords c after)) ≡ still (lineWords j (chipWords c before))
-  pub past : drop (wordsFor (getD before 0 0) (getD before 1 0)) after ≡ drop (wordsFor (getD before 0 0) (getD before 1 0)) before
+  pub past : drop (wordsOf before) after ≡ drop (wordsOf before) before

@@ -7,8 +7,8 @@ use Rattle.packet.specs.Refusal.{firstOf, packetRefusals}
 use Rattle.buffer.specs.declared.testing.Tested.{Tested}
 use Rattle.mesh.specs.Steps.{Tables}
 use Rattle.buffer.specs.Holding.{holdsMesh}
-use Rattle.buffer.specs.Going.{chipsOf}
 use Rattle.mesh.specs.Calls.{tablesRefusals}
+use Rattle.buffer.specs.Layout.{chipsOf}
 
 -- Tables are held against the chips of a mesh, so that they are tested only where there is one.
 abbrev pub testedOf : List ℕ → Tables → Tested

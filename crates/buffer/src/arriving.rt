@@ -2,13 +2,18 @@
 use super::going::pass_one;
 use links::across::aside_place;
 use links::line::packet_at;
+use links::offsets::HEIGHT;
+use links::offsets::PLACE;
+use links::offsets::WIDTH;
 ghost use mathlib.Core.Path.{_≡_};
 ghost use lib.ListN.{getD};
 ghost use Prim.Native.Nat.{_≤_, _<_};
+ghost use Rattle.links.specs.Offsets.{widthAt, heightAt};
 ghost use Rattle.links.specs.Across.{asidePlace};
 ghost use Rattle.mesh.specs.Steps.{tablesOf};
-ghost use Rattle.buffer.specs.Going.{chipsOf, asideBy, asideAt, DueAside, Passed};
+ghost use Rattle.buffer.specs.Going.{asideBy, asideFrom, DueAside, Passed};
 ghost use Rattle.lists.specs.Lists.{upTo};
+ghost use Rattle.buffer.specs.Layout.{chipsOf};
 
 // At the first chips.
 pub fn pass_chips(
@@ -19,8 +24,8 @@ pub fn pass_chips(
     starts: &[u32],
     codes: &[u8],
 ) -> usize
-    requires { ⌜ (count ≤ chipsOf (now mesh)) × DueAside (tablesOf (now rows) (now starts) (now codes)) (upTo (asideAt (now mesh)) count) (now mesh) (now log) 0 ⌝ }
-    ensures { λ r. ⌜ Passed (tablesOf (now (rows .entry)) (now (starts .entry)) (now (codes .entry))) (upTo (asideAt (now (mesh .entry))) count) (now (mesh .entry)) (now (log .entry)) 0 (now (mesh .exit)) (now (log .exit)) r ⌝ }
+    requires { ⌜ (count ≤ chipsOf (now mesh)) × DueAside (tablesOf (now rows) (now starts) (now codes)) (upTo (asideFrom (now mesh)) count) (now mesh) (now log) 0 ⌝ }
+    ensures { λ r. ⌜ Passed (tablesOf (now (rows .entry)) (now (starts .entry)) (now (codes .entry))) (upTo (asideFrom (now (mesh .entry))) count) (now (mesh .entry)) (now (log .entry)) 0 (now (mesh .exit)) (now (log .exit)) r ⌝ }
 {
     let mut n = 0;
     let mut chip = 0;
@@ -41,11 +46,11 @@ fn pass_links(
     starts: &[u32],
     codes: &[u8],
 ) -> usize
-    requires { ⌜ (chip < chipsOf (now mesh)) × DueAside (tablesOf (now rows) (now starts) (now codes)) (asideAt (now mesh) chip) (now mesh) (now log) n ⌝ }
-    ensures { λ r. ⌜ Passed (tablesOf (now (rows .entry)) (now (starts .entry)) (now (codes .entry))) (asideAt (now (mesh .entry)) chip) (now (mesh .entry)) (now (log .entry)) n (now (mesh .exit)) (now (log .exit)) r ⌝ }
+    requires { ⌜ (chip < chipsOf (now mesh)) × DueAside (tablesOf (now rows) (now starts) (now codes)) (asideFrom (now mesh) chip) (now mesh) (now log) n ⌝ }
+    ensures { λ r. ⌜ Passed (tablesOf (now (rows .entry)) (now (starts .entry)) (now (codes .entry))) (asideFrom (now (mesh .entry)) chip) (now (mesh .entry)) (now (log .entry)) n (now (mesh .exit)) (now (log .exit)) r ⌝ }
 {
-    let width = mesh[0];
-    let height = mesh[1];
+    let width = mesh[WIDTH];
+    let height = mesh[HEIGHT];
     let x = (chip as u32) % width;
     let y = (chip as u32) / width;
     let mut done = n;
@@ -70,14 +75,14 @@ fn pass_link(
     starts: &[u32],
     codes: &[u8],
 ) -> usize
-    requires { ⌜ ((at ≡ asidePlace (getD (now mesh) 0 0) (getD (now mesh) 1 0) chip source) × (source < 6)) × DueAside (tablesOf (now rows) (now starts) (now codes)) (asideBy (now mesh) chip source) (now mesh) (now log) n ⌝ }
+    requires { ⌜ ((at ≡ asidePlace (getD (now mesh) widthAt 0) (getD (now mesh) heightAt 0) chip source) × (source < 6)) × DueAside (tablesOf (now rows) (now starts) (now codes)) (asideBy (now mesh) chip source) (now mesh) (now log) n ⌝ }
     ensures { λ r. ⌜ Passed (tablesOf (now (rows .entry)) (now (starts .entry)) (now (codes .entry))) (asideBy (now (mesh .entry)) chip source) (now (mesh .entry)) (now (log .entry)) n (now (mesh .exit)) (now (log .exit)) r ⌝ }
 {
     let count = mesh[at] as usize;
     let mut done = n;
     let mut i = 0;
     while i < count {
-        let p = packet_at(mesh, at + 1 + i * 3);
+        let p = packet_at(mesh, at + 1 + i * PLACE);
         done = pass_one(mesh, log, done, chip, source, p, rows, starts, codes);
         i += 1;
     }

@@ -6,10 +6,11 @@ use super::refusing::chip_refusal;
 use super::refusing::number_refusal;
 use kept::keeping::empty_registers;
 use links::line::set_state;
-use links::words::CHIP;
-use links::words::HEADER;
-use links::words::LINE;
-use links::words::LINES;
+use links::offsets::CHIP;
+use links::offsets::HEADER;
+use links::offsets::LINE;
+use links::offsets::LINES_AT;
+use links::offsets::REGISTERS;
 use mesh::RegistersRead;
 ghost use mathlib.Core.Path.{_≡_};
 ghost use mathlib.Core.List.{_++_};
@@ -21,6 +22,7 @@ ghost use Rattle.buffer.specs.Holding.{holdsMesh};
 ghost use Rattle.buffer.specs.Chips.{changedOn};
 ghost use Rattle.mesh.specs.Calls.{registersRead};
 ghost use Rattle.buffer.specs.Leaving.{Leaves, linkLeft, registersLeft, stateOn};
+ghost use Rattle.links.specs.Offsets.{registersLong, chipLong};
 
 // Takes one directed link of a chip up or down. Refusals, the first that applies: 8 no mesh, 9 chip or link.
 pub fn set_link(mesh: &mut [u32], chip: u32, link: u32, up: bool) -> u32
@@ -67,7 +69,7 @@ pub fn read_registers_tested(mesh: &mut [u32], chip: u32, held: bool) -> Registe
         };
     }
     let at = HEADER + (chip as usize) * CHIP;
-    let registers = registers_at(&mesh[at..at + 6]);
+    let registers = registers_at(&mesh[at..at + REGISTERS]);
     empty_chip(&mut mesh[at..at + CHIP]);
     RegistersRead {
         refusal: 0,
@@ -76,16 +78,16 @@ pub fn read_registers_tested(mesh: &mut [u32], chip: u32, held: bool) -> Registe
 }
 
 fn link_on_chip(chip: &mut [u32], link: usize, up: bool)
-    requires { ⌜ (length (now chip) ≡ 322) × (link < 6) ⌝ }
+    requires { ⌜ (length (now chip) ≡ chipLong) × (link < 6) ⌝ }
     ensures { λ _. ⌜ now (chip .exit) ≡ changedOn (stateOn up) (now (chip .entry)) link ⌝ }
 {
-    let at = LINES + link * LINE;
+    let at = LINES_AT + link * LINE;
     set_state(&mut chip[at..at + LINE], up);
 }
 
 fn empty_chip(chip: &mut [u32])
-    requires { ⌜ length (now chip) ≡ 322 ⌝ }
-    ensures { λ _. ⌜ now (chip .exit) ≡ putBack 0 6 (replicate 6 0 ++ drop 6 (part 0 6 (now (chip .entry)))) (now (chip .entry)) ⌝ }
+    requires { ⌜ length (now chip) ≡ chipLong ⌝ }
+    ensures { λ _. ⌜ now (chip .exit) ≡ putBack 0 registersLong (replicate registersLong 0 ++ drop registersLong (part 0 registersLong (now (chip .entry)))) (now (chip .entry)) ⌝ }
 {
-    clear(&mut chip[0..6], 6);
+    clear(&mut chip[0..REGISTERS], REGISTERS);
 }

@@ -1,12 +1,21 @@
-// One chip, as the 322 words that hold it: registers, counters, six links.
+// One chip, as the words that hold it: registers, counters, six links.
 use kept::Counters;
 use kept::Registers;
 use kept::counting::counted_of;
 use kept::keeping::kept_of;
 use links::line::is_ready;
 use links::line::send;
-use links::words::LINE;
-use links::words::LINES;
+use links::offsets::CHIP;
+use links::offsets::COUNTERS_AT;
+use links::offsets::LINE;
+use links::offsets::LINE_0;
+use links::offsets::LINE_1;
+use links::offsets::LINE_2;
+use links::offsets::LINE_3;
+use links::offsets::LINE_4;
+use links::offsets::LINE_5;
+use links::offsets::LINES_AT;
+use links::offsets::REGISTERS;
 use steps::Outcome;
 use steps::errors::flag_of;
 ghost use mathlib.Core.Path.{_≡_};
@@ -16,22 +25,22 @@ ghost use Rattle.kept.specs.Keeping.{keptOf};
 ghost use Rattle.kept.specs.Counting.{countedOf};
 ghost use Rattle.mesh.specs.Mesh.{readyOf};
 ghost use Rattle.lists.specs.Lists.{part};
-ghost use Rattle.links.specs.Words.{linePlace};
+ghost use Rattle.links.specs.Offsets.{lineLong, chipLong, linePlace};
 ghost use Rattle.links.specs.Lines.{Room};
 ghost use Rattle.buffer.specs.Layout.{registersIn, chipIn};
 ghost use Rattle.buffer.specs.Chips.{registerWords, changedOn, sending, Takes, ChipStep, Upto};
 
 // The links that are ready now.
 pub fn ready_of(chip: &[u32]) -> u32
-    requires { ⌜ length (now chip) ≡ 322 ⌝ }
+    requires { ⌜ length (now chip) ≡ chipLong ⌝ }
     ensures { λ r. ⌜ r ≡ readyOf (chipIn (now (chip .entry))) ⌝ }
 {
-    flag_of(is_ready(&chip[16..67]), 1)
-        + flag_of(is_ready(&chip[67..118]), 2)
-        + flag_of(is_ready(&chip[118..169]), 4)
-        + flag_of(is_ready(&chip[169..220]), 8)
-        + flag_of(is_ready(&chip[220..271]), 16)
-        + flag_of(is_ready(&chip[271..322]), 32)
+    flag_of(is_ready(&chip[LINE_0..LINE_1]), 1)
+        + flag_of(is_ready(&chip[LINE_1..LINE_2]), 2)
+        + flag_of(is_ready(&chip[LINE_2..LINE_3]), 4)
+        + flag_of(is_ready(&chip[LINE_3..LINE_4]), 8)
+        + flag_of(is_ready(&chip[LINE_4..LINE_5]), 16)
+        + flag_of(is_ready(&chip[LINE_5..CHIP]), 32)
 }
 
 // The chip after a pass: registers, counters, and what its links send.
@@ -39,8 +48,8 @@ pub fn after(chip: &mut [u32], o: Outcome)
     requires { ⌜ Takes (now chip) o ⌝ }
     ensures { λ _. ⌜ ChipStep (now (chip .entry)) (now (chip .exit)) o ⌝ }
 {
-    keep(&mut chip[0..6], o);
-    count(&mut chip[6..16], o);
+    keep(&mut chip[0..REGISTERS], o);
+    count(&mut chip[COUNTERS_AT..LINES_AT], o);
     send_all(chip, o);
 }
 
@@ -57,10 +66,10 @@ fn send_all(chip: &mut [u32], o: Outcome)
 
 // Sends what a pass has for link i.
 fn send_on(chip: &mut [u32], o: Outcome, i: u32)
-    requires { ⌜ (length (now chip) ≡ 322) × ((i < 6) × Room (part (linePlace i) 51 (now chip)) o i) ⌝ }
+    requires { ⌜ (length (now chip) ≡ chipLong) × ((i < 6) × Room (part (linePlace i) lineLong (now chip)) o i) ⌝ }
     ensures { λ _. ⌜ now (chip .exit) ≡ changedOn (sending o) (now (chip .entry)) i ⌝ }
 {
-    let at = LINES + (i as usize) * LINE;
+    let at = LINES_AT + (i as usize) * LINE;
     send(&mut chip[at..at + LINE], o, i);
 }
 

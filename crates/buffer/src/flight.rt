@@ -1,18 +1,24 @@
 // How many packets are in flight.
-use links::words::CHIP;
-use links::words::HEADER;
+use links::offsets::CHIP;
+use links::offsets::HEADER;
+use links::offsets::HELD_0;
+use links::offsets::HELD_1;
+use links::offsets::HELD_2;
+use links::offsets::HELD_3;
+use links::offsets::HELD_4;
+use links::offsets::HELD_5;
 ghost use mathlib.Core.Path.{_≡_};
 ghost use mathlib.Core.Bool.{true};
 ghost use Prim.Native.Nat.{_*_};
 ghost use lib.ListN.{getD};
-ghost use Rattle.buffer.specs.Layout.{meshOf};
+ghost use Rattle.buffer.specs.Layout.{meshOf, chipsOf};
 ghost use Rattle.buffer.specs.Holding.{holdsMesh};
 ghost use Rattle.mesh.specs.Weights.{inFlight};
 ghost use Rattle.buffer.specs.Held.{chipFlight, Few};
 
 // On the links of all chips.
 pub fn in_flight(mesh: &[u32], count: usize) -> u32
-    requires { ⌜ (holdsMesh (now mesh) ≡ true) × (count ≡ getD (now mesh) 1 0 * getD (now mesh) 0 0) ⌝ }
+    requires { ⌜ (holdsMesh (now mesh) ≡ true) × (count ≡ chipsOf (now mesh)) ⌝ }
     ensures { λ r. ⌜ r ≡ inFlight (meshOf (now (mesh .entry))) ⌝ }
 {
     let mut sum = 0;
@@ -30,5 +36,5 @@ fn on_chip(chip: &[u32]) -> u32
     requires { ⌜ Few (now chip) ⌝ }
     ensures { λ r. ⌜ r ≡ chipFlight (now (chip .entry)) ⌝ }
 {
-    chip[17] + chip[68] + chip[119] + chip[170] + chip[221] + chip[272]
+    chip[HELD_0] + chip[HELD_1] + chip[HELD_2] + chip[HELD_3] + chip[HELD_4] + chip[HELD_5]
 }

@@ -1,6 +1,8 @@
 // Passes one after the other, each at a chip with its own tables and with its record in the log.
 use super::logging::write_record;
 use super::passing::pass_at;
+use links::offsets::HEIGHT;
+use links::offsets::WIDTH;
 use packet::Packet;
 use tables::size::chips;
 ghost use mathlib.Core.Path.{_≡_};
@@ -26,7 +28,7 @@ pub fn pass_one(
 {
     let first = row_place(starts[chip]);
     let next = row_place(starts[chip + 1]);
-    let all = chips(mesh[0], mesh[1]);
+    let all = chips(mesh[WIDTH], mesh[HEIGHT]);
     let at = chip * all;
     let o = pass_at(
         mesh,

@@ -3,8 +3,25 @@ use super::opening::rounds_fine;
 use super::opening::words_for;
 use kept::Registers;
 use links::line::packet_at;
-use links::words::CHIP;
-use links::words::HEADER;
+use links::offsets::CHIP;
+use links::offsets::ELAPSED;
+use links::offsets::HEADER;
+use links::offsets::HEIGHT;
+use links::offsets::HELD;
+use links::offsets::LINE_0;
+use links::offsets::LINE_1;
+use links::offsets::LINE_2;
+use links::offsets::LINE_3;
+use links::offsets::LINE_4;
+use links::offsets::LINE_5;
+use links::offsets::MONITOR;
+use links::offsets::PHASE;
+use links::offsets::PLACE;
+use links::offsets::PLACES_AT;
+use links::offsets::REGISTERS;
+use links::offsets::ROUNDS;
+use links::offsets::STATE;
+use links::offsets::WIDTH;
 use packet::Packet;
 use packet::control::is_direct;
 use packet::control::kind_of;
@@ -17,6 +34,7 @@ ghost use Prim.Native.Nat.{_+_, _*_, _≤_};
 ghost use Rattle.buffer.specs.Layout.{registersIn};
 ghost use Rattle.mesh.specs.Sound.{packetFine, registersFine};
 ghost use Rattle.buffer.specs.Holding.{placesFine, lineFine, chipFine, chipsFine, headFine, holdsMesh};
+ghost use Rattle.links.specs.Offsets.{headerLong, placesAt, placeLong, lineLong, chipLong};
 
 // The error registers in their six words.
 pub fn registers_at(words: &[u32]) -> Registers
@@ -37,16 +55,16 @@ pub fn registers_at(words: &[u32]) -> Registers
 pub fn holds(mesh: &[u32]) -> bool
     ensures { λ r. ⌜ r ≡ holdsMesh (now (mesh .entry)) ⌝ }
 {
-    if mesh.len() < 6 {
+    if mesh.len() < HEADER {
         return false;
     }
     if !head_fine(mesh) {
         return false;
     }
-    if mesh.len() < (words_for(mesh[0], mesh[1]) as usize) {
+    if mesh.len() < words_for(mesh[WIDTH], mesh[HEIGHT]) {
         return false;
     }
-    chips_fine(mesh, chips(mesh[0], mesh[1]))
+    chips_fine(mesh, chips(mesh[WIDTH], mesh[HEIGHT]))
 }
 
 fn packet_fine(p: Packet) -> bool
@@ -61,12 +79,12 @@ fn packet_fine(p: Packet) -> bool
 
 // The first packets of a link's places.
 fn places_fine(line: &[u32], count: usize) -> bool
-    requires { ⌜ 2 + count * 3 ≤ length (now line) ⌝ }
+    requires { ⌜ placesAt + count * placeLong ≤ length (now line) ⌝ }
     ensures { λ r. ⌜ r ≡ placesFine count (drop 2 (now (line .entry))) ⌝ }
 {
     let mut i = 0;
     while i < count {
-        if !packet_fine(packet_at(line, 2 + i * 3)) {
+        if !packet_fine(packet_at(line, PLACES_AT + i * PLACE)) {
             return false;
         }
         i += 1;
@@ -75,16 +93,16 @@ fn places_fine(line: &[u32], count: usize) -> bool
 }
 
 fn line_fine(line: &[u32]) -> bool
-    requires { ⌜ length (now line) ≡ 51 ⌝ }
+    requires { ⌜ length (now line) ≡ lineLong ⌝ }
     ensures { λ r. ⌜ r ≡ lineFine (now (line .entry)) ⌝ }
 {
-    if 1 < line[0] {
+    if 1 < line[STATE] {
         return false;
     }
-    if 8 < line[1] {
+    if 8 < line[HELD] {
         return false;
     }
-    places_fine(line, line[1] as usize)
+    places_fine(line, line[HELD] as usize)
 }
 
 fn registers_fine(r: Registers) -> bool
@@ -99,20 +117,20 @@ fn registers_fine(r: Registers) -> bool
 }
 
 fn chip_fine(chip: &[u32]) -> bool
-    requires { ⌜ length (now chip) ≡ 322 ⌝ }
+    requires { ⌜ length (now chip) ≡ chipLong ⌝ }
     ensures { λ r. ⌜ r ≡ chipFine (now (chip .entry)) ⌝ }
 {
-    registers_fine(registers_at(&chip[0..6]))
-        & line_fine(&chip[16..67])
-        & line_fine(&chip[67..118])
-        & line_fine(&chip[118..169])
-        & line_fine(&chip[169..220])
-        & line_fine(&chip[220..271])
-        & line_fine(&chip[271..322])
+    registers_fine(registers_at(&chip[0..REGISTERS]))
+        & line_fine(&chip[LINE_0..LINE_1])
+        & line_fine(&chip[LINE_1..LINE_2])
+        & line_fine(&chip[LINE_2..LINE_3])
+        & line_fine(&chip[LINE_3..LINE_4])
+        & line_fine(&chip[LINE_4..LINE_5])
+        & line_fine(&chip[LINE_5..CHIP])
 }
 
 fn chips_fine(mesh: &[u32], count: usize) -> bool
-    requires { ⌜ 6 + count * 322 ≤ length (now mesh) ⌝ }
+    requires { ⌜ headerLong + count * chipLong ≤ length (now mesh) ⌝ }
     ensures { λ r. ⌜ r ≡ chipsFine 0 count (now (mesh .entry)) ⌝ }
 {
     let mut i = 0;
@@ -127,12 +145,12 @@ fn chips_fine(mesh: &[u32], count: usize) -> bool
 }
 
 fn head_fine(mesh: &[u32]) -> bool
-    requires { ⌜ 6 ≤ length (now mesh) ⌝ }
+    requires { ⌜ headerLong ≤ length (now mesh) ⌝ }
     ensures { λ r. ⌜ r ≡ headFine (now (mesh .entry)) ⌝ }
 {
-    size_fine(mesh[0], mesh[1])
-        & rounds_fine(mesh[2])
-        & (mesh[3] <= 19)
-        & (mesh[4] <= 3)
-        & (mesh[5] < mesh[2])
+    size_fine(mesh[WIDTH], mesh[HEIGHT])
+        & rounds_fine(mesh[ROUNDS])
+        & (mesh[MONITOR] <= 19)
+        & (mesh[PHASE] <= 3)
+        & (mesh[ELAPSED] < mesh[ROUNDS])
 }

@@ -4,11 +4,21 @@ use super::holding::holds;
 use super::refusing::number_refusal;
 use links::line::is_ready;
 use links::line::packet_at;
-use links::words::CHIP;
-use links::words::COUNTERS;
-use links::words::HEADER;
-use links::words::LINE;
-use links::words::LINES;
+use links::offsets::CHIP;
+use links::offsets::COUNTERS_AT;
+use links::offsets::ELAPSED;
+use links::offsets::HEADER;
+use links::offsets::HEIGHT;
+use links::offsets::HELD;
+use links::offsets::LINE;
+use links::offsets::LINES_AT;
+use links::offsets::MONITOR;
+use links::offsets::PHASE;
+use links::offsets::PLACE;
+use links::offsets::PLACES_AT;
+use links::offsets::ROUNDS;
+use links::offsets::STATE;
+use links::offsets::WIDTH;
 use mesh::CountRead;
 use mesh::FlightRead;
 use mesh::LinkRead;
@@ -19,6 +29,7 @@ use tables::size::chips;
 ghost use mathlib.Core.Path.{_≡_};
 ghost use lib.ListN.{length, getD};
 ghost use Prim.Native.Nat.{_≤_};
+ghost use Rattle.links.specs.Offsets.{heldAt, lineLong};
 ghost use Rattle.links.specs.Words.{lineIn};
 ghost use Rattle.buffer.specs.Layout.{meshOf};
 ghost use Rattle.buffer.specs.Holding.{holdsMesh};
@@ -32,7 +43,7 @@ pub fn read_counter(mesh: &[u32], chip: u32, counter: u32) -> CountRead
     if refusal != 0 {
         return CountRead { refusal, count: 0 };
     }
-    let at = HEADER + (chip as usize) * CHIP + (COUNTERS + counter as usize);
+    let at = HEADER + (chip as usize) * CHIP + (COUNTERS_AT + counter as usize);
     CountRead {
         refusal: 0,
         count: mesh[at],
@@ -55,15 +66,15 @@ pub fn look_mesh(mesh: &[u32]) -> MeshRead
             in_flight: 0,
         };
     }
-    let all = chips(mesh[0], mesh[1]);
+    let all = chips(mesh[WIDTH], mesh[HEIGHT]);
     MeshRead {
         refusal: 0,
-        width: mesh[0],
-        height: mesh[1],
-        rounds_per_phase: mesh[2],
-        monitor: mesh[3],
-        phase: mesh[4],
-        rounds_in_phase: mesh[5],
+        width: mesh[WIDTH],
+        height: mesh[HEIGHT],
+        rounds_per_phase: mesh[ROUNDS],
+        monitor: mesh[MONITOR],
+        phase: mesh[PHASE],
+        rounds_in_phase: mesh[ELAPSED],
         in_flight: in_flight(mesh, all),
     }
 }
@@ -82,7 +93,7 @@ pub fn look_link(mesh: &[u32], chip: u32, link: u32) -> LinkRead
             ready: 0,
         };
     }
-    let at = HEADER + (chip as usize) * CHIP + (LINES + (link as usize) * LINE);
+    let at = HEADER + (chip as usize) * CHIP + (LINES_AT + (link as usize) * LINE);
     look_line(&mesh[at..at + LINE])
 }
 
@@ -95,32 +106,32 @@ pub fn look_flight(mesh: &[u32], chip: u32, link: u32, place: u32) -> FlightRead
     if refusal != 0 {
         return no_flight(refusal);
     }
-    let at = HEADER + (chip as usize) * CHIP + (LINES + (link as usize) * LINE);
+    let at = HEADER + (chip as usize) * CHIP + (LINES_AT + (link as usize) * LINE);
     look_place(&mesh[at..at + LINE], place)
 }
 
 fn look_line(line: &[u32]) -> LinkRead
-    requires { ⌜ length (now line) ≡ 51 ⌝ }
+    requires { ⌜ length (now line) ≡ lineLong ⌝ }
     ensures { λ r. ⌜ r ≡ lineRead (lineIn (now (line .entry))) ⌝ }
 {
     LinkRead {
         refusal: 0,
-        up: flag_of(line[0] == 0, 1),
-        held: line[1],
+        up: flag_of(line[STATE] == 0, 1),
+        held: line[HELD],
         ready: flag_of(is_ready(line), 1),
     }
 }
 
 fn look_place(line: &[u32], place: u32) -> FlightRead
-    requires { ⌜ (length (now line) ≡ 51) × (getD (now line) 1 0 ≤ 8) ⌝ }
+    requires { ⌜ (length (now line) ≡ lineLong) × (getD (now line) heldAt 0 ≤ 8) ⌝ }
     ensures { λ r. ⌜ r ≡ placeRead (lineIn (now (line .entry))) place ⌝ }
 {
-    if line[1] <= place {
+    if line[HELD] <= place {
         return no_flight(9);
     }
     FlightRead {
         refusal: 0,
-        packet: packet_at(line, 2 + (place as usize) * 3),
+        packet: packet_at(line, PLACES_AT + (place as usize) * PLACE),
     }
 }
 

@@ -6,6 +6,11 @@ use super::refusing::inject_refusal;
 use super::refusing::round_refusal;
 use super::testing::Tested;
 use super::testing::test;
+use links::offsets::ELAPSED;
+use links::offsets::HEIGHT;
+use links::offsets::PHASE;
+use links::offsets::ROUNDS;
+use links::offsets::WIDTH;
 use links::phase::next_phase;
 use mesh::Added;
 use packet::bytes::take;
@@ -17,6 +22,7 @@ ghost use Rattle.mesh.specs.Steps.{tablesOf};
 ghost use Rattle.mesh.specs.Calls.{addedOf, loggedOn};
 ghost use Rattle.buffer.specs.Leaving.{Leaves, injectLeft, roundLeft, overWords};
 ghost use Rattle.buffer.specs.Testing.{testedOf};
+ghost use Rattle.links.specs.Offsets.{elapsedAt, headerLong};
 
 // Passes a local packet at a chip, at once. Refusals, the first that applies: 8 no mesh, 9 chip, 5 rows, 11 codes, 10 log,
 // 2 length, 3 type 11, 4 NN with T = 1.
@@ -95,7 +101,7 @@ pub fn round_tested(
     if refusal != 0 {
         return Added { refusal, added: 0 };
     }
-    let all = chips(mesh[0], mesh[1]);
+    let all = chips(mesh[WIDTH], mesh[HEIGHT]);
     set_aside(mesh, all);
     let n = pass_chips(mesh, log, all, rows, starts, codes);
     round_over(mesh);
@@ -106,14 +112,14 @@ pub fn round_tested(
 }
 
 fn round_over(mesh: &mut [u32])
-    requires { ⌜ (6 ≤ length (now mesh)) × (getD (now mesh) 5 0 ≤ 65535) ⌝ }
+    requires { ⌜ (headerLong ≤ length (now mesh)) × (getD (now mesh) elapsedAt 0 ≤ 65535) ⌝ }
     ensures { λ _. ⌜ now (mesh .exit) ≡ overWords (now (mesh .entry)) ⌝ }
 {
-    let next = mesh[5] + 1;
-    if next < mesh[2] {
-        mesh[5] = next;
+    let next = mesh[ELAPSED] + 1;
+    if next < mesh[ROUNDS] {
+        mesh[ELAPSED] = next;
     } else {
-        mesh[5] = 0;
-        mesh[4] = next_phase(mesh[4]);
+        mesh[ELAPSED] = 0;
+        mesh[PHASE] = next_phase(mesh[PHASE]);
     }
 }

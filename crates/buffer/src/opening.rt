@@ -1,4 +1,11 @@
 // How long a mesh buffer must be, and opening a mesh in one.
+use links::offsets::CHIP;
+use links::offsets::HEADER;
+use links::offsets::HEIGHT;
+use links::offsets::MONITOR;
+use links::offsets::ROUNDS;
+use links::offsets::WIDTH;
+use tables::size::chips;
 use tables::size::size_fine;
 ghost use mathlib.Core.Path.{_≡_};
 ghost use mathlib.Core.List.{_++_};
@@ -23,10 +30,8 @@ pub fn size(width: u32, height: u32) -> SizeRead
     ensures { λ r. ⌜ r ≡ sizeOf width height ⌝ }
 {
     if size_fine(width, height) {
-        SizeRead {
-            refusal: 0,
-            words: words_for(width, height),
-        }
+        let words = words_for(width, height) as u32;
+        SizeRead { refusal: 0, words }
     } else {
         SizeRead {
             refusal: 7,
@@ -35,11 +40,11 @@ pub fn size(width: u32, height: u32) -> SizeRead
     }
 }
 
-pub fn words_for(width: u32, height: u32) -> u32
+pub fn words_for(width: u32, height: u32) -> usize
     requires { ⌜ sizeFine width height ≡ true ⌝ }
     ensures { λ r. ⌜ r ≡ wordsFor width height ⌝ }
 {
-    6 + height * width * 322
+    HEADER + chips(width, height) * CHIP
 }
 
 // Opens a mesh: all links up, nothing in flight, registers and counters at zeros, phase 00. Answers the refusal or 0: 7 for
@@ -57,15 +62,15 @@ pub fn open(mesh: &mut [u32], width: u32, height: u32, rounds: u32, monitor: u32
     if 19 < monitor {
         return 6;
     }
-    let needed = words_for(width, height) as usize;
+    let needed = words_for(width, height);
     if mesh.len() < needed {
         return 8;
     }
     clear(mesh, needed);
-    mesh[0] = width;
-    mesh[1] = height;
-    mesh[2] = rounds;
-    mesh[3] = monitor;
+    mesh[WIDTH] = width;
+    mesh[HEIGHT] = height;
+    mesh[ROUNDS] = rounds;
+    mesh[MONITOR] = monitor;
     0
 }
 

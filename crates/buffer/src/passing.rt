@@ -1,8 +1,12 @@
 // One pass at a chip of the mesh: that of the router, with the chip's own ready set.
 use super::chip::after;
 use super::chip::ready_of;
-use links::words::CHIP;
-use links::words::HEADER;
+use links::offsets::CHIP;
+use links::offsets::HEADER;
+use links::offsets::HEIGHT;
+use links::offsets::MONITOR;
+use links::offsets::PHASE;
+use links::offsets::WIDTH;
 use packet::Packet;
 use steps::Outcome;
 use steps::Setting;
@@ -26,10 +30,10 @@ pub fn pass_at(
     let at = HEADER + chip * CHIP;
     let ready = ready_of(&mesh[at..at + CHIP]);
     let t = Setting {
-        width: mesh[0],
-        height: mesh[1],
-        monitor: mesh[3],
-        phase: mesh[4],
+        width: mesh[WIDTH],
+        height: mesh[HEIGHT],
+        monitor: mesh[MONITOR],
+        phase: mesh[PHASE],
         ready,
     };
     let o = outcome_of(p, source, rows, codes, t);

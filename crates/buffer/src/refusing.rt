@@ -1,14 +1,15 @@
 // What the calls on a mesh refuse, the first number that applies, where buffer and tables were tested.
 use super::flight::in_flight;
 use super::testing::Tested;
+use links::offsets::HEIGHT;
+use links::offsets::WIDTH;
 use packet::bytes::packet_refusal;
 use tables::size::chips;
 ghost use mathlib.Core.Path.{_≡_};
 ghost use Rattle.packet.specs.Refusal.{firstOf};
-ghost use Rattle.buffer.specs.Layout.{meshOf};
+ghost use Rattle.buffer.specs.Layout.{meshOf, chipsOf};
 ghost use Rattle.buffer.specs.Holding.{holdsMesh};
 ghost use Rattle.mesh.specs.Weights.{inFlight};
-ghost use Rattle.buffer.specs.Going.{chipsOf};
 ghost use Rattle.mesh.specs.Calls.{chipRefusals, numberRefusals};
 ghost use Rattle.buffer.specs.Testing.{injectNumber, roundNumber};
 
@@ -20,7 +21,7 @@ pub fn inject_refusal(mesh: &[u32], tested: Tested, room: usize, chip: u32, byte
     if !tested.holds {
         return 8;
     }
-    if chips(mesh[0], mesh[1]) <= (chip as usize) {
+    if chips(mesh[WIDTH], mesh[HEIGHT]) <= (chip as usize) {
         return 9;
     }
     if tested.tables != 0 {
@@ -43,7 +44,7 @@ pub fn round_refusal(mesh: &[u32], tested: Tested, room: usize) -> u32
     if tested.tables != 0 {
         return tested.tables;
     }
-    if room < (in_flight(mesh, chips(mesh[0], mesh[1])) as usize) * 6 {
+    if room < (in_flight(mesh, chips(mesh[WIDTH], mesh[HEIGHT])) as usize) * 6 {
         return 10;
     }
     0
@@ -57,7 +58,7 @@ pub fn chip_refusal(mesh: &[u32], held: bool, chip: u32) -> u32
     if !held {
         return 8;
     }
-    if chips(mesh[0], mesh[1]) <= (chip as usize) {
+    if chips(mesh[WIDTH], mesh[HEIGHT]) <= (chip as usize) {
         return 9;
     }
     0

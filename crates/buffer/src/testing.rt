@@ -1,5 +1,7 @@
 // What is tested of the memory that is lent: once for a call, and once for a run of calls that leaves tables and mesh as good as they were.
 use super::holding::holds;
+use links::offsets::HEIGHT;
+use links::offsets::WIDTH;
 use tables::accept::codes_fine;
 use tables::accept::routes_fine;
 use tables::accept::starts_fine;
@@ -23,7 +25,7 @@ pub fn test(mesh: &[u32], rows: &[u32], starts: &[u32], codes: &[u8]) -> Tested
     if holds(mesh) {
         Tested {
             holds: true,
-            tables: tables_refusal(rows, starts, codes, chips(mesh[0], mesh[1])),
+            tables: tables_refusal(rows, starts, codes, chips(mesh[WIDTH], mesh[HEIGHT])),
         }
     } else {
         Tested {

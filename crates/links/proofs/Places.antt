@@ -1,4 +1,4 @@
--- The places of a directed link: how many packets they hold, and one more put behind them. Assumes nothing.
+-- The places of a directed link: how many packets they hold, and one more put behind them.
 use mathlib.Core.Path.{_≡_, refl, sym, ap, _∙_}
 use mathlib.Core.Bool.{Bool, true, false, cond}
 use mathlib.Core.List.{List, [], _∷_, _++_, append-nil}
@@ -14,6 +14,7 @@ use Rattle.packet.specs.Control.{carriesOf}
 use Rattle.steps.specs.declared.Outcome.{Outcome}
 use Rattle.steps.specs.Links.{has}
 use Rattle.steps.specs.Deciding.{packetOn, legPacket}
+use Rattle.links.specs.Offsets.{stateAt, heldAt, placeLong, asideAt, lineLong}
 use Rattle.links.specs.Line.{Flight, Line, lineAfter}
 use Rattle.links.specs.Words.{packetIn, placesIn, lineIn}
 use Rattle.links.specs.Lines.{Right, still, placeAt, putAt, pushed, pushedIf, sentWords, Room}
@@ -22,7 +23,7 @@ use Rattle.links.specs.Lines.{Right, still, placeAt, putAt, pushed, push
 pub length-places : (n : ℕ) (l : List ℕ) → length (placesIn n l) ≡ n
 unfolding placesIn
 length-places zero l = refl
-length-places (suc n) l = ap suc (length-places n (drop 3 l))
+length-places (suc n) l = ap suc (length-places n (drop placeLong l))
 
 -- a packet at a place
 pub packet-at : (l : List ℕ) (at : ℕ) → packetIn (drop at l) ≡ record { control = getD l at 0; nine = carriesOf (getD l at 0); word = getD l (at + 1) 0; payload = getD l (at + 2) 0 }
@@ -36,14 +37,14 @@ abbrev flight : Packet → Flight (Unit {0})
 flight p = record { packet = p; tag = tt }
 
 -- past the first three words, a place is three words nearer
-put-on : (x y z : ℕ) (l : List ℕ) (n : ℕ) (p : Packet) → putAt (x ∷ y ∷ z ∷ l) (suc n * 3) p ≡ x ∷ y ∷ z ∷ putAt l (n * 3) p
+put-on : (x y z : ℕ) (l : List ℕ) (n : ℕ) (p : Packet) → putAt (x ∷ y ∷ z ∷ l) (suc n * placeLong) p ≡ x ∷ y ∷ z ∷ putAt l (n * placeLong) p
 put-on x y z l n p =
-    let e₀ : suc n * 3 ≡ suc (suc (suc (n * 3))) = omega arith in
-    let e₁ : suc n * 3 + 1 ≡ suc (suc (suc (n * 3 + 1))) = omega arith in
-    let e₂ : suc n * 3 + 2 ≡ suc (suc (suc (n * 3 + 2))) = omega arith in
+    let e₀ : suc n * placeLong ≡ suc (suc (suc (n * placeLong))) = omega arith in
+    let e₁ : suc n * placeLong + 1 ≡ suc (suc (suc (n * placeLong + 1))) = omega arith in
+    let e₂ : suc n * placeLong + 2 ≡ suc (suc (suc (n * placeLong + 2))) = omega arith in
     λ i. set (set (set (x ∷ y ∷ z ∷ l) (e₀ i) (p .control)) (e₁ i) (p .word)) (e₂ i) (p .payload)
 
-places-put : (n : ℕ) (l : List ℕ) (p : Packet) → Right p → n * 3 + 2 < length l → placesIn (suc n) (putAt l (n * 3) p) ≡ placesIn n l ++ flight p ∷ []
+places-put : (n : ℕ) (l : List ℕ) (p : Packet) → Right p → n * placeLong + 2 < length l → placesIn (suc n) (putAt l (n * placeLong) p) ≡ placesIn n l ++ flight p ∷ []
 unfolding placesIn
 places-put n [] p r h = absurd (omega arith)
 places-put n (x ∷ []) p r h = absurd (omega arith)
@@ -54,41 +55,41 @@ places-put (suc n) (x ∷ y ∷ z ∷ l) p r h =
     ∙ ap (λ (fs : List (Flight (Unit {0}))). flight (packetIn (x ∷ y ∷ z ∷ l)) ∷ fs) (places-put n l p r (omega arith))
 
 -- the words after a push: the count, and the packet's place
-pushed-words : (u v : ℕ) (l : List ℕ) (p : Packet) → pushed (u ∷ v ∷ l) p ≡ u ∷ (v + 1) ∷ putAt l (v * 3) p
+pushed-words : (u v : ℕ) (l : List ℕ) (p : Packet) → pushed (u ∷ v ∷ l) p ≡ u ∷ (v + 1) ∷ putAt l (v * placeLong) p
 pushed-words u v l p =
-    let e₀ : placeAt v ≡ suc (suc (v * 3)) = omega arith in
-    let e₁ : placeAt v + 1 ≡ suc (suc (v * 3 + 1)) = omega arith in
-    let e₂ : placeAt v + 2 ≡ suc (suc (v * 3 + 2)) = omega arith in
-    λ i. set (set (set (set (u ∷ v ∷ l) (e₀ i) (p .control)) (e₁ i) (p .word)) (e₂ i) (p .payload)) 1 (v + 1)
+    let e₀ : placeAt v ≡ suc (suc (v * placeLong)) = omega arith in
+    let e₁ : placeAt v + 1 ≡ suc (suc (v * placeLong + 1)) = omega arith in
+    let e₂ : placeAt v + 2 ≡ suc (suc (v * placeLong + 2)) = omega arith in
+    λ i. set (set (set (set (u ∷ v ∷ l) (e₀ i) (p .control)) (e₁ i) (p .word)) (e₂ i) (p .payload)) heldAt (v + 1)
 
 -- a push puts the packet behind those that the link holds
-pub line-push : (l : List ℕ) (p : Packet) → Right p → length l ≡ 51 → getD l 1 0 ≤ 7
+pub line-push : (l : List ℕ) (p : Packet) → Right p → length l ≡ lineLong → getD l heldAt 0 ≤ 7
     → lineIn (pushed l p) ≡ record { up = lineIn l .up; held = lineIn l .held ++ flight p ∷ [] }
 line-push [] p r h k = absurd (omega arith)
 line-push (u ∷ []) p r h k = absurd (omega arith)
 line-push (u ∷ v ∷ l) p r h k =
     ap lineIn (pushed-words u v l p)
-    ∙ (λ i. record { up = eqb u 0; held = placesIn (add-one v i) (putAt l (v * 3) p) })
+    ∙ (λ i. record { up = eqb u 0; held = placesIn (add-one v i) (putAt l (v * placeLong) p) })
     ∙ (λ i. record { up = eqb u 0; held = places-put v l p r (omega arith) i })
 
 -- and leaves the link's state and what is set aside as they were
-push-aside : (l : List ℕ) (p : Packet) → getD l 1 0 ≤ 7 → drop 26 (pushed l p) ≡ drop 26 l
+push-aside : (l : List ℕ) (p : Packet) → getD l heldAt 0 ≤ 7 → drop asideAt (pushed l p) ≡ drop asideAt l
 push-aside l p k =
-    let i : ℕ = placeAt (getD l 1 0) in
-    drop-set-lt 26 (putAt l i p) 1 (getD l 1 0 + 1) (lit< tt)
-    ∙ drop-set-lt 26 (set (set l i (p .control)) (i + 1) (p .word)) (i + 2) (p .payload) (omega arith)
-    ∙ drop-set-lt 26 (set l i (p .control)) (i + 1) (p .word) (omega arith)
-    ∙ drop-set-lt 26 l i (p .control) (omega arith)
+    let i : ℕ = placeAt (getD l heldAt 0) in
+    drop-set-lt asideAt (putAt l i p) heldAt (getD l heldAt 0 + 1) (lit< tt)
+    ∙ drop-set-lt asideAt (set (set l i (p .control)) (i + 1) (p .word)) (i + 2) (p .payload) (omega arith)
+    ∙ drop-set-lt asideAt (set l i (p .control)) (i + 1) (p .word) (omega arith)
+    ∙ drop-set-lt asideAt l i (p .control) (omega arith)
 
-push-state : (l : List ℕ) (p : Packet) → getD (pushed l p) 0 0 ≡ getD l 0 0
+push-state : (l : List ℕ) (p : Packet) → getD (pushed l p) stateAt 0 ≡ getD l stateAt 0
 push-state l p =
-    let i : ℕ = placeAt (getD l 1 0) in
-    getD-set-other (putAt l i p) 1 0 (getD l 1 0 + 1) 0 (λ e. omega arith)
-    ∙ getD-set-other (set (set l i (p .control)) (i + 1) (p .word)) (i + 2) 0 (p .payload) 0 (λ e. omega arith)
-    ∙ getD-set-other (set l i (p .control)) (i + 1) 0 (p .word) 0 (λ e. omega arith)
-    ∙ getD-set-other l i 0 (p .control) 0 (λ e. omega arith)
+    let i : ℕ = placeAt (getD l heldAt 0) in
+    getD-set-other (putAt l i p) heldAt stateAt (getD l heldAt 0 + 1) 0 (λ e. omega arith)
+    ∙ getD-set-other (set (set l i (p .control)) (i + 1) (p .word)) (i + 2) stateAt (p .payload) 0 (λ e. omega arith)
+    ∙ getD-set-other (set l i (p .control)) (i + 1) stateAt (p .word) 0 (λ e. omega arith)
+    ∙ getD-set-other l i stateAt (p .control) 0 (λ e. omega arith)
 
-pub push-still : (l : List ℕ) (p : Packet) → getD l 1 0 ≤ 7 → still (pushed l p) ≡ still l
+pub push-still : (l : List ℕ) (p : Packet) → getD l heldAt 0 ≤ 7 → still (pushed l p) ≡ still l
 push-still l p k = λ i. push-state l p i ∷ push-aside l p k i
 
 -- ---- a packet pushed where a test says so
@@ -101,28 +102,28 @@ length-pushed-if true l p = length-pushed l p
 length-pushed-if false l p = refl
 
 -- the count is one more, or as it was
-pub count-pushed-if : (b : Bool) (l : List ℕ) (p : Packet) → length l ≡ 51 → getD (pushedIf b l p) 1 0 ≤ getD l 1 0 + 1
-count-pushed-if true l p h = le-of-eq (getD-set-same (putAt l (placeAt (getD l 1 0)) p) 1 (getD l 1 0 + 1) 0 (simp length-set (omega arith)))
+pub count-pushed-if : (b : Bool) (l : List ℕ) (p : Packet) → length l ≡ lineLong → getD (pushedIf b l p) heldAt 0 ≤ getD l heldAt 0 + 1
+count-pushed-if true l p h = le-of-eq (getD-set-same (putAt l (placeAt (getD l heldAt 0)) p) heldAt (getD l heldAt 0 + 1) 0 (simp length-set (omega arith)))
 count-pushed-if false l p h = omega arith
 
-pub line-push-if : (b : Bool) (l : List ℕ) (p : Packet) → (b ≡ true → Right p) → length l ≡ 51 → (b ≡ true → getD l 1 0 ≤ 7)
+pub line-push-if : (b : Bool) (l : List ℕ) (p : Packet) → (b ≡ true → Right p) → length l ≡ lineLong → (b ≡ true → getD l heldAt 0 ≤ 7)
     → lineIn (pushedIf b l p) ≡ record { up = lineIn l .up; held = lineIn l .held ++ cond b (flight p ∷ []) [] }
 line-push-if true l p r h k = line-push l p (r refl) h (k refl)
 line-push-if false l p r h k = λ i. record { up = lineIn l .up; held = sym (append-nil (lineIn l .held)) i }
 
-pub still-push-if : (b : Bool) (l : List ℕ) (p : Packet) → (b ≡ true → getD l 1 0 ≤ 7) → still (pushedIf b l p) ≡ still l
+pub still-push-if : (b : Bool) (l : List ℕ) (p : Packet) → (b ≡ true → getD l heldAt 0 ≤ 7) → still (pushedIf b l p) ≡ still l
 still-push-if true l p k = push-still l p (k refl)
 still-push-if false l p k = refl
 
 -- room for one more, and for a second behind it
-module _ (l : List ℕ) (o : Outcome) (i : ℕ) (h : length l ≡ 51) (room : Room l o i) where
-  pub room-first : has (o .sent) i ≡ true → getD l 1 0 ≤ 7
+module _ (l : List ℕ) (o : Outcome) (i : ℕ) (h : length l ≡ lineLong) (room : Room l o i) where
+  pub room-first : has (o .sent) i ≡ true → getD l heldAt 0 ≤ 7
   room-first t = omega (arith, room .0 t)
 
   pub room-second : has (o .leg) i ≡ true → getD (pushedIf (has (o .sent) i) l (packetOn o i)) 1 0 ≤ 7
   room-second t = omega (arith, room .1 t, count-pushed-if (has (o .sent) i) l (packetOn o i) h)
 
-  pub long-between : length (pushedIf (has (o .sent) i) l (packetOn o i)) ≡ 51
+  pub long-between : length (pushedIf (has (o .sent) i) l (packetOn o i)) ≡ lineLong
   long-between = length-pushed-if (has (o .sent) i) l (packetOn o i) ∙ h
 
   -- what a pass sends on a link: the link after the pass
@@ -138,5 +139,5 @@ module _ (l : List ℕ) (o : Outcome) (i : ℕ) (h : length l ≡ 51) (room : Ro
       still-push-if (has (o .leg) i) (pushedIf (has (o .sent) i) l (packetOn o i)) (legPacket o) room-second
       ∙ still-push-if (has (o .sent) i) l (packetOn o i) room-first
 
-  pub length-sent : length (sentWords l o i) ≡ 51
+  pub length-sent : length (sentWords l o i) ≡ lineLong
   length-sent = length-pushed-if (has (o .leg) i) (pushedIf (has (o .sent) i) l (packetOn o i)) (legPacket o) ∙ long-between

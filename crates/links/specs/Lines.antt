@@ -9,17 +9,18 @@ use Rattle.packet.specs.Control.{carriesOf}
 use Rattle.steps.specs.declared.Outcome.{Outcome}
 use Rattle.steps.specs.Links.{has}
 use Rattle.steps.specs.Deciding.{packetOn, legPacket}
+use Rattle.links.specs.Offsets.{stateAt, heldAt, placesAt, placeLong, asideAt}
 
 -- The next place of a link that holds n packets.
 abbrev pub placeAt : ℕ → ℕ
-placeAt n = 2 + n * 3
+placeAt n = placesAt + n * placeLong
 
 -- A packet's three words from place i on.
 abbrev pub putAt : List ℕ → ℕ → Packet → List ℕ
 putAt l i p = set (set (set l i (p .control)) (i + 1) (p .word)) (i + 2) (p .payload)
 
 abbrev pub pushed : List ℕ → Packet → List ℕ
-pushed l p = set (putAt l (placeAt (getD l 1 0)) p) 1 (getD l 1 0 + 1)
+pushed l p = set (putAt l (placeAt (getD l heldAt 0)) p) heldAt (getD l heldAt 0 + 1)
 
 -- A packet pushed where a test says so.
 abbrev pub pushedIf : Bool → List ℕ → Packet → List ℕ
@@ -31,11 +32,11 @@ sentWords l o i = pushedIf (has (o .leg) i) (pushedIf (has (o .sent) i) l (packe
 
 -- Where a pass sends by link i, the link has room for two.
 abbrev pub Room : List ℕ → Outcome → ℕ → Type 0
-Room l o i = (has (o .sent) i ≡ true → getD l 1 0 ≤ 6) × (has (o .leg) i ≡ true → getD l 1 0 ≤ 6)
+Room l o i = (has (o .sent) i ≡ true → getD l heldAt 0 ≤ 6) × (has (o .leg) i ≡ true → getD l heldAt 0 ≤ 6)
 
 -- What a pass leaves alone on a link: its state, and what is set aside.
 abbrev pub still : List ℕ → List ℕ
-still w = getD w 0 0 ∷ drop 26 w
+still w = getD w stateAt 0 ∷ drop asideAt w
 
 -- A packet whose length is right, as those in flight are.
 abbrev pub Right : Packet → Type 0

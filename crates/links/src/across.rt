@@ -1,9 +1,9 @@
 // Where a link leads: the mesh is W by H and wraps.
-use super::words::ASIDE;
-use super::words::CHIP;
-use super::words::HEADER;
-use super::words::LINE;
-use super::words::LINES;
+use super::offsets::ASIDE;
+use super::offsets::CHIP;
+use super::offsets::HEADER;
+use super::offsets::LINE;
+use super::offsets::LINES_AT;
 ghost use mathlib.Core.Path.{_≡_};
 ghost use mathlib.Core.Bool.{true};
 ghost use Prim.Native.Nat.{ℕ, _+_, _/_, _%_, _≤_, _<_};
@@ -17,7 +17,7 @@ pub fn aside_place(width: u32, height: u32, x: u32, y: u32, source: u32) -> usiz
 {
     let from = across_link(width, height, x, y, source) as usize;
     let link = ((source + 3) % 6) as usize;
-    HEADER + from * CHIP + (LINES + link * LINE) + ASIDE
+    HEADER + from * CHIP + (LINES_AT + link * LINE) + ASIDE
 }
 
 // The chip at the other end of link i of the chip at x and y.

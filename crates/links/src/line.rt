@@ -1,5 +1,9 @@
-// One directed link, as the 51 words that hold it: its state, how many packets it holds, eight places, how many are set
-// aside, eight places for those.
+// One directed link, as the words that hold it: its state, how many packets it holds, their places; how many are set
+// aside, and places for those.
+use super::offsets::HELD;
+use super::offsets::PLACE;
+use super::offsets::PLACES_AT;
+use super::offsets::STATE;
 use packet::Packet;
 use packet::control::carries_of;
 use steps::Outcome;
@@ -12,21 +16,22 @@ ghost use lib.ListN.{length, getD, drop, set};
 ghost use Prim.Native.Nat.{_+_, _≤_, _<_};
 ghost use Rattle.steps.specs.Links.{has};
 ghost use Rattle.steps.specs.Deciding.{packetOn, legPacket};
+ghost use Rattle.links.specs.Offsets.{stateAt, heldAt, placeLong, lineLong};
 ghost use Rattle.links.specs.Line.{isReady};
 ghost use Rattle.links.specs.Words.{packetIn, lineIn};
 ghost use Rattle.links.specs.Lines.{pushed, pushedIf, sentWords, stateOf, Room};
 
 // Whether the link is ready: up, and at most 6 held.
 pub fn is_ready(line: &[u32]) -> bool
-    requires { ⌜ length (now line) ≡ 51 ⌝ }
+    requires { ⌜ length (now line) ≡ lineLong ⌝ }
     ensures { λ r. ⌜ r ≡ isReady (lineIn (now (line .entry))) ⌝ }
 {
-    (line[0] == 0) & (held(line) <= 6)
+    (line[STATE] == 0) & (held(line) <= 6)
 }
 
 // Sends what a pass has for link i: the packet of step 5 or 7, then the second leg. There is room for both.
 pub fn send(line: &mut [u32], o: Outcome, i: u32)
-    requires { ⌜ (length (now line) ≡ 51) × ((i < 6) × Room (now line) o i) ⌝ }
+    requires { ⌜ (length (now line) ≡ lineLong) × ((i < 6) × Room (now line) o i) ⌝ }
     ensures { λ _. ⌜ now (line .exit) ≡ sentWords (now (line .entry)) o i ⌝ }
 {
     send_packet(line, o, i);
@@ -35,7 +40,7 @@ pub fn send(line: &mut [u32], o: Outcome, i: u32)
 
 // The packet at a place, counted in words.
 pub fn packet_at(line: &[u32], at: usize) -> Packet
-    requires { ⌜ at + 3 ≤ length (now line) ⌝ }
+    requires { ⌜ at + placeLong ≤ length (now line) ⌝ }
     ensures { λ r. ⌜ r ≡ packetIn (drop at (now (line .entry))) ⌝ }
 {
     let control = line[at];
@@ -49,31 +54,31 @@ pub fn packet_at(line: &[u32], at: usize) -> Packet
 
 // Takes the link up or down.
 pub fn set_state(line: &mut [u32], up: bool)
-    requires { ⌜ length (now line) ≡ 51 ⌝ }
-    ensures { λ _. ⌜ now (line .exit) ≡ set (now (line .entry)) 0 (stateOf up) ⌝ }
+    requires { ⌜ length (now line) ≡ lineLong ⌝ }
+    ensures { λ _. ⌜ now (line .exit) ≡ set (now (line .entry)) stateAt (stateOf up) ⌝ }
 {
     if up {
-        line[0] = 0;
+        line[STATE] = 0;
     } else {
-        line[0] = 1;
+        line[STATE] = 1;
     }
 }
 
 // Puts a packet behind those that the link holds.
 fn push(line: &mut [u32], p: Packet)
-    requires { ⌜ (length (now line) ≡ 51) × (getD (now line) 1 0 ≤ 7) ⌝ }
+    requires { ⌜ (length (now line) ≡ lineLong) × (getD (now line) heldAt 0 ≤ 7) ⌝ }
     ensures { λ _. ⌜ now (line .exit) ≡ pushed (now (line .entry)) p ⌝ }
 {
-    let held = line[1];
-    let at = 2 + (held as usize) * 3;
+    let held = line[HELD];
+    let at = PLACES_AT + (held as usize) * PLACE;
     line[at] = p.control;
     line[at + 1] = p.word;
     line[at + 2] = p.payload;
-    line[1] = held + 1;
+    line[HELD] = held + 1;
 }
 
 fn send_packet(line: &mut [u32], o: Outcome, i: u32)
-    requires { ⌜ (length (now line) ≡ 51) × ((i < 6) × (has (o .sent) i ≡ true → getD (now line) 1 0 ≤ 7)) ⌝ }
+    requires { ⌜ (length (now line) ≡ lineLong) × ((i < 6) × (has (o .sent) i ≡ true → getD (now line) heldAt 0 ≤ 7)) ⌝ }
     ensures { λ _. ⌜ now (line .exit) ≡ pushedIf (has (o .sent) i) (now (line .entry)) (packetOn o i) ⌝ }
 {
     if has_link(o.sent, i) {
@@ -82,7 +87,7 @@ fn send_packet(line: &mut [u32], o: Outcome, i: u32)
 }
 
 fn send_leg(line: &mut [u32], o: Outcome, i: u32)
-    requires { ⌜ (length (now line) ≡ 51) × ((i < 6) × (has (o .leg) i ≡ true → getD (now line) 1 0 ≤ 7)) ⌝ }
+    requires { ⌜ (length (now line) ≡ lineLong) × ((i < 6) × (has (o .leg) i ≡ true → getD (now line) heldAt 0 ≤ 7)) ⌝ }
     ensures { λ _. ⌜ now (line .exit) ≡ pushedIf (has (o .leg) i) (now (line .entry)) (legPacket o) ⌝ }
 {
     if has_link(o.leg, i) {
@@ -92,8 +97,8 @@ fn send_leg(line: &mut [u32], o: Outcome, i: u32)
 
 // How many packets the link holds, not counting those that are set aside.
 fn held(words: &[u32]) -> u32
-    requires { ⌜ length (now words) ≡ 51 ⌝ }
-    ensures { λ r. ⌜ r ≡ getD (now (words .entry)) 1 0 ⌝ }
+    requires { ⌜ length (now words) ≡ lineLong ⌝ }
+    ensures { λ r. ⌜ r ≡ getD (now (words .entry)) heldAt 0 ⌝ }
 {
-    words[1]
+    words[HELD]
 }

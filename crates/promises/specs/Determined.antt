@@ -1,7 +1,7 @@
 -- What the calls answer and leave is determined by their inputs: two answers that meet one contract are equal.
 use Prim.Native.Nat.{ℕ, _+_, _*_, _≤_, _<_}
 use native.Mathlib.Omega.{arith}
-use lib.ListN.{length, getD, drop}
+use lib.ListN.{length, drop}
 use mathlib.Core.Path.{_≡_, sym, ap, _∙_}
 use mathlib.Core.Bool.{Bool, true}
 use mathlib.Core.List.{List}
@@ -21,7 +21,7 @@ use Rattle.mesh.specs.declared.MeshRead.{MeshRead}
 use Rattle.mesh.specs.declared.LinkRead.{LinkRead}
 use Rattle.mesh.specs.declared.FlightRead.{FlightRead}
 use Rattle.buffer.specs.declared.opening.SizeRead.{SizeRead}
-use Rattle.buffer.specs.Layout.{meshOf, wordsFor}
+use Rattle.buffer.specs.Layout.{meshOf, wordsFor, wordsOf}
 use Rattle.buffer.specs.Opening.{sizeOf, openRefusals, opening}
 use Rattle.buffer.specs.Holding.{holdsMesh}
 use Rattle.mesh.specs.Sound.{SoundLine}
@@ -65,7 +65,7 @@ open-determined before width height rounds monitor r s a b e x f y =
 pub record SameLeft (before a b : List ℕ) (r : Left (Unit {0})) : Type 0 where
   pub refused : (r .refusal ≡ 0 → ⊥) → a ≡ b
   pub mesh : r .refusal ≡ 0 → meshOf a ≡ meshOf b
-  pub past : drop (wordsFor (getD before 0 0) (getD before 1 0)) a ≡ drop (wordsFor (getD before 0 0) (getD before 1 0)) b
+  pub past : drop (wordsOf before) a ≡ drop (wordsOf before) b
 
 pub left-determined : (before a b : List ℕ) (r : Left (Unit {0})) → Leaves before a r → Leaves before b r → SameLeft before a b r
 left-determined before a b r x y =

@@ -18,6 +18,7 @@ use Rattle.trace.specs.Records.{recordRead}
 use Rattle.trace.specs.Replay.{traceOf, madeLeft, Replay, stopped, behind, replaying, replayOf, oneLeft}
 use Rattle.trace.proofs.KeptSizes.{Keeps, keeps-made}
 use Rattle.trace.proofs.Traces.{trace-step, trace-stop}
+use Rattle.links.specs.Offsets.{widthAt, heightAt}
 
 -- What a replay of the bytes s does on a buffer l with so much room, from where it stands.
 abbrev pub onward : Tables → List ℕ → ℕ → List ℕ → Replay
@@ -89,8 +90,8 @@ module _ (t : Tables) (s l₀ log₀ : List ℕ) where
     pub room : added * 6 ≤ length log
     pub long : length l ≡ length l₀
     pub log-long : length log ≡ length log₀
-    pub width : getD l 0 0 ≡ getD l₀ 0 0
-    pub height : getD l 1 0 ≡ getD l₀ 1 0
+    pub width : getD l widthAt 0 ≡ getD l₀ 0 0
+    pub height : getD l heightAt 0 ≡ getD l₀ 1 0
     pub holds : holdsMesh l ≡ holdsMesh l₀
     pub untold : drop (added * 6) log ≡ drop (added * 6) log₀
     pub left : replayOf l₀ t (length log₀) s ≡ behind at (take (added * 6) log) (onward t l (length (drop (added * 6) log)) (drop at s))

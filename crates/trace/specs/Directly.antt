@@ -3,10 +3,10 @@ use Prim.Native.Nat.{ℕ, _+_, _*_}
 use mathlib.Core.Path.{_≡_}
 use mathlib.Core.List.{List, _++_}
 use lib.Dec.{eqb}
-use lib.ListN.{length, getD, take, drop}
+use lib.ListN.{length, take, drop}
 use Rattle.mesh.specs.declared.Added.{Added}
 use Rattle.mesh.specs.declared.RegistersRead.{RegistersRead}
-use Rattle.buffer.specs.Layout.{meshOf, wordsFor}
+use Rattle.buffer.specs.Layout.{meshOf, wordsOf}
 use Rattle.buffer.specs.Holding.{holdsMesh}
 use Rattle.mesh.specs.Steps.{Tables}
 use Rattle.mesh.specs.Calls.{addedOf, loggedOn, registersRead}
@@ -61,7 +61,7 @@ AsDirectly = (t : Tables) (s l log l₁ log₁ l₂ log₂ : List ℕ) (r₁ r�
 pub record SameReplay (l l₁ log₁ : List ℕ) (r₁ : Replayed) (l₂ log₂ : List ℕ) (r₂ : Replayed) : Type 0 where
   pub alike : Alike l₁ log₁ r₁ l₂ log₂ r₂
   pub untouched : r₁ .at ≡ 0 → l₁ ≡ l₂
-  pub past : drop (wordsFor (getD l 0 0) (getD l 1 0)) l₁ ≡ drop (wordsFor (getD l 0 0) (getD l 1 0)) l₂
+  pub past : drop (wordsOf l) l₁ ≡ drop (wordsOf l) l₂
 
 abbrev pub OneReplay : Type 0
 OneReplay = (t : Tables) (s l log l₁ log₁ l₂ log₂ : List ℕ) (r₁ r₂ : Replayed) → Replays l l₁ log log₁ r₁ (replayOf l t (length log) s)

@@ -4,9 +4,9 @@ use mathlib.Core.Path.{_≡_}
 use mathlib.Core.Bool.{Bool, cond}
 use mathlib.Core.List.{List, [], _++_}
 use lib.Dec.{eqb}
-use lib.ListN.{length, getD, drop}
+use lib.ListN.{length, drop}
 use Rattle.mesh.specs.Mesh.{Mesh}
-use Rattle.buffer.specs.Layout.{meshOf, wordsFor}
+use Rattle.buffer.specs.Layout.{meshOf, wordsOf}
 use Rattle.buffer.specs.Holding.{holdsMesh}
 use Rattle.mesh.specs.Steps.{Tables, same}
 use Rattle.mesh.specs.Calls.{Left, injecting, rounding, linking, emptying, loggedOn}
@@ -84,7 +84,7 @@ pub record Replays (before after log written : List ℕ) (answer : Replayed) (r 
   pub holds : holdsMesh after ≡ holdsMesh before
   pub untouched : r .at ≡ 0 → after ≡ before
   pub long : length after ≡ length before
-  pub past : drop (wordsFor (getD before 0 0) (getD before 1 0)) after ≡ drop (wordsFor (getD before 0 0) (getD before 1 0)) before
+  pub past : drop (wordsOf before) after ≡ drop (wordsOf before) before
 
 -- ---- one record, as the code takes it
 

@@ -5,13 +5,13 @@ use Prim.Native.Nat.{ℕ, _-_, _≤_, _<_}
 use native.Mathlib.Nat.{lt-of-lt-of-le}
 use Rattle.mesh.specs.Steps.{tablesOf}
 use Rattle.lists.specs.Lists.{upTo}
-use Rattle.buffer.specs.Going.{asideAt, Passed}
+use Rattle.buffer.specs.Going.{asideFrom, Passed}
 use Rattle.buffer.proofs.Arrivals as arrivals
 use Rattle.buffer.proofs.arriving.pass_chips.Statement.{statement}
 use Rattle.buffer.proofs.arriving.pass_chips.Tie as tie
 
 abbrev Inv-loop : tie.InvT-loop
-Inv-loop mesh₀ log₀ count rows starts codes n₀ chip₀ mesh log n chip = (chip ≤ count) × Passed (tablesOf rows starts codes) (upTo (asideAt mesh₀) chip) mesh₀ log₀ 0 mesh log n
+Inv-loop mesh₀ log₀ count rows starts codes n₀ chip₀ mesh log n chip = (chip ≤ count) × Passed (tablesOf rows starts codes) (upTo (asideFrom mesh₀) chip) mesh₀ log₀ 0 mesh log n
 
 abbrev μ-loop : tie.MeasureT-loop
 μ-loop mesh₀ log₀ count rows starts codes n₀ chip₀ mesh log n chip = count - chip

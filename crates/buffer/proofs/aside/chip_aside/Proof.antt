@@ -13,6 +13,7 @@ use Rattle.buffer.proofs.Asides.{length-aside}
 use Rattle.buffer.proofs.AsideChips.{chip-set-aside}
 use Rattle.buffer.proofs.aside.chip_aside.Statement.{statement}
 use Rattle.buffer.proofs.aside.chip_aside.Tie as tie
+use Rattle.links.specs.Offsets.{heldAt, lineLong, linesAt}
 
 abbrev Inv-loop : tie.InvT-loop
 Inv-loop chip₀ i₀ chip i = (i ≤ 6) × Upto asideOn i chip₀ chip
@@ -50,8 +51,8 @@ line-aside-requires c κs =
     let i = at .i in
     let u = at .inv .1 in
     let hi : i < 6 = c .before .loop-test .taken in
-    rw (add-sub-cancel-left (16 + i * 51) 51)
-    (line-long i (at .chip) hi (u .long), subst (λ (w : List ℕ). getD w 1 0 ≤ 8) (sym (u .todo i (omega arith) hi)) (c .before .before .before .before .pre .few i hi))
+    rw (add-sub-cancel-left (linesAt + i * lineLong) lineLong)
+    (line-long i (at .chip) hi (u .long), subst (λ (w : List ℕ). getD w heldAt 0 ≤ 8) (sym (u .todo i (omega arith) hi)) (c .before .before .before .before .pre .few i hi))
 
 add-i : tie.Need-add-i Inv-loop μ-loop
 add-i c = omega arith
@@ -68,8 +69,8 @@ loop-again c =
     let hi : i < 6 = c .before .before .before .before .loop-test .taken in
     let sized = length-aside (lineWords i l) (line-long i l hi (pre .long)) (pre .few i hi) in (
       omega arith,
-      rw (add-sub-cancel-left (16 + i * 51) 51, add-one)
-          (subst (λ (ys : List ℕ). Upto asideOn (suc i) l (putBack (16 + i * 51) 51 ys (at .chip))) (sym (rw (add-sub-cancel-left (16 + i * 51) 51) at (c .before .before .line-aside .ensures)))
+      rw (add-sub-cancel-left (linesAt + i * lineLong) lineLong, add-one)
+          (subst (λ (ys : List ℕ). Upto asideOn (suc i) l (putBack (linesAt + i * lineLong) lineLong ys (at .chip))) (sym (rw (add-sub-cancel-left (linesAt + i * lineLong) lineLong) at (c .before .before .line-aside .ensures)))
           (next asideOn i l (at .chip) hi sized (at .inv .1))),
     )
 

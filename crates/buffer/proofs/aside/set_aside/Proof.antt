@@ -8,6 +8,7 @@ use Rattle.buffer.specs.Held.{Few}
 use Rattle.buffer.proofs.AsideChips.{aside-begin, aside-next}
 use Rattle.buffer.proofs.aside.set_aside.Statement.{statement}
 use Rattle.buffer.proofs.aside.set_aside.Tie as tie
+use Rattle.links.specs.Offsets.{headerLong, chipLong}
 
 abbrev Inv-loop : tie.InvT-loop
 Inv-loop mesh₀ count i₀ mesh i = (i ≤ count) × AsideUpto count i mesh₀ mesh
@@ -46,7 +47,7 @@ chip-aside-requires c κs =
     let u = at .inv .1 in
     let pre = c .before .before .before .before .pre in
     let hi : i < c .before .before .before .before .args .count = c .before .loop-test .taken in
-    rw (add-sub-cancel-left (6 + i * 322) 322)
+    rw (add-sub-cancel-left (headerLong + i * chipLong) chipLong)
     (subst Few (sym (u .todo i (omega arith))) (pre .1 i hi))
 
 add-i : tie.Need-add-i Inv-loop μ-loop
@@ -63,8 +64,8 @@ loop-again c =
     let pre = c .before .before .before .before .before .before .before .pre in
     let hi : i < a .count = c .before .before .before .before .loop-test .taken in (
       omega arith,
-      rw (add-sub-cancel-left (6 + i * 322) 322, add-one)
-          (aside-next (a .count) i (a .mesh .now) (at .mesh) (c .before .before .chip-aside .last .0) (pre .0) hi (at .inv .1) (rw (add-sub-cancel-left (6 + i * 322) 322) at (c .before .before .chip-aside .ensures))),
+      rw (add-sub-cancel-left (headerLong + i * chipLong) chipLong, add-one)
+          (aside-next (a .count) i (a .mesh .now) (at .mesh) (c .before .before .chip-aside .last .0) (pre .0) hi (at .inv .1) (rw (add-sub-cancel-left (headerLong + i * chipLong) chipLong) at (c .before .before .chip-aside .ensures))),
     )
 
 same-length : tie.Need-same-length Inv-loop μ-loop

@@ -5,6 +5,7 @@ use Prim.Native.Nat.{ℕ}
 use Rattle.lists.specs.Lists.{putBack}
 use Rattle.buffer.proofs.changing.empty_chip.Statement.{statement}
 use Rattle.buffer.proofs.changing.empty_chip.Tie as tie
+use Rattle.links.specs.Offsets.{registersLong}
 
 sub-clear : tie.Need-sub-clear
 sub-clear c = search needs
@@ -22,7 +23,7 @@ same-length : tie.Need-same-length
 same-length c = search needs
 
 returns : tie.Need-returns
-returns c = ap (λ (ys : List ℕ). putBack 0 6 ys (c .before .before .before .before .before .args .chip .now)) (c .before .before .clear .ensures)
+returns c = ap (λ (ys : List ℕ). putBack 0 registersLong ys (c .before .before .before .before .before .args .chip .now)) (c .before .before .clear .ensures)
 
 pub empty-chip-spec : {M : Type 1} → statement M
 empty-chip-spec =

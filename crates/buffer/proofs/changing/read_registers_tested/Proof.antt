@@ -7,6 +7,7 @@ use Rattle.buffer.proofs.Looks.{chip-there}
 use Rattle.buffer.proofs.RegistersCall.{registers-refused, registers-leave}
 use Rattle.buffer.proofs.changing.read_registers_tested.Statement.{statement}
 use Rattle.buffer.proofs.changing.read_registers_tested.Tie as tie
+use Rattle.links.specs.Offsets.{headerLong, chipLong}
 
 chip-refusal-requires : tie.Need-chip-refusal-requires
 chip-refusal-requires c κs = search needs
@@ -68,8 +69,8 @@ same-length-2 c = search needs
 returns-2 : tie.Need-returns-2
 returns-2 c =
     let a = c .before .before .before .before .before .before .before .before .before .before .before .args in
-    let at = 6 + a .chip * 322 in
-    rw (add-sub-cancel-left at 322, rw (add-sub-cancel-left at 322) at (c .before .before .empty-chip .ensures))
+    let at = headerLong + a .chip * chipLong in
+    rw (add-sub-cancel-left at chipLong, rw (add-sub-cancel-left at chipLong) at (c .before .before .empty-chip .ensures))
     (registers-leave (a .mesh .now) (a .chip) _ (c .before .before .before .before .before .before .before .before .chip-refusal .ensures) (c .before .before .before .before .before .before .before .if1 .left) _ (rw (add-sub-cancel-left at 6) at (c .before .before .before .before .registers-at .ensures)))
 
 pub read-registers-tested-spec : {M : Type 1} → statement M

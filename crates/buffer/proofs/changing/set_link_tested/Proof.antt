@@ -8,6 +8,7 @@ use Rattle.buffer.proofs.Looks.{number-there}
 use Rattle.buffer.proofs.Changes.{link-refused, link-leaves}
 use Rattle.buffer.proofs.changing.set_link_tested.Statement.{statement}
 use Rattle.buffer.proofs.changing.set_link_tested.Tie as tie
+use Rattle.links.specs.Offsets.{headerLong, chipLong}
 
 number-refusal-requires : tie.Need-number-refusal-requires
 number-refusal-requires c κs = search needs
@@ -40,7 +41,7 @@ part-link-on-chip-end : tie.Need-part-link-on-chip-end
 part-link-on-chip-end c = omega (arith, number-there (c .before .before .before .before .args .mesh .now) (c .before .before .before .before .args .chip) (c .before .before .before .before .args .link) 6 (sym (c .before .number-refusal .ensures) ∙ c .if1 .left) .0 .fits)
 
 link-on-chip-requires : tie.Need-link-on-chip-requires
-link-on-chip-requires c κs = let h = number-there (c .before .before .before .before .before .args .mesh .now) (c .before .before .before .before .before .args .chip) (c .before .before .before .before .before .args .link) 6 (sym (c .before .before .number-refusal .ensures) ∙ c .before .if1 .left) in rw (add-sub-cancel-left (6 + c .before .before .before .before .before .args .chip * 322) 322) (chip-long (c .before .before .before .before .before .args .mesh .now) (c .before .before .before .before .before .args .chip) (h .0 .fits), h .1)
+link-on-chip-requires c κs = let h = number-there (c .before .before .before .before .before .args .mesh .now) (c .before .before .before .before .before .args .chip) (c .before .before .before .before .before .args .link) 6 (sym (c .before .before .number-refusal .ensures) ∙ c .before .if1 .left) in rw (add-sub-cancel-left (headerLong + c .before .before .before .before .before .args .chip * chipLong) chipLong) (chip-long (c .before .before .before .before .before .args .mesh .now) (c .before .before .before .before .before .args .chip) (h .0 .fits), h .1)
 
 same-length-2 : tie.Need-same-length-2
 same-length-2 c = search needs
@@ -48,8 +49,8 @@ same-length-2 c = search needs
 returns-2 : tie.Need-returns-2
 returns-2 c =
     let a = c .before .before .before .before .before .before .before .before .args in
-    let at = 6 + a .chip * 322 in
-    rw (add-sub-cancel-left at 322, rw (add-sub-cancel-left at 322) at (c .before .before .link-on-chip .ensures)) (link-leaves (a .mesh .now) (a .chip) (a .link) (a .up) (sym (c .before .before .before .before .before .number-refusal .ensures) ∙ c .before .before .before .before .if1 .left))
+    let at = headerLong + a .chip * chipLong in
+    rw (add-sub-cancel-left at chipLong, rw (add-sub-cancel-left at chipLong) at (c .before .before .link-on-chip .ensures)) (link-leaves (a .mesh .now) (a .chip) (a .link) (a .up) (sym (c .before .before .before .before .before .number-refusal .ensures) ∙ c .before .before .before .before .if1 .left))
 
 pub set-link-tested-spec : {M : Type 1} → statement M
 set-link-tested-spec =

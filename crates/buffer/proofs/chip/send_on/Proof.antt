@@ -9,6 +9,7 @@ use lib.Seq.{length-take-le}
 use Rattle.lists.specs.Lists.{putBack}
 use Rattle.buffer.proofs.chip.send_on.Statement.{statement}
 use Rattle.buffer.proofs.chip.send_on.Tie as tie
+use Rattle.links.specs.Offsets.{lineLong, linesAt}
 
 mul-at : tie.Need-mul-at
 mul-at c = search needs
@@ -35,8 +36,8 @@ send-requires : tie.Need-send-requires
 send-requires c κs =
     let i = c .before .before .args .i in
     let l = c .before .before .args .chip .now in
-    rw (add-sub-cancel-left (16 + i * 51) 51)
-    (length-take-le 51 (drop (16 + i * 51) l) (simp length-drop (omega arith)), c .before .before .pre .1)
+    rw (add-sub-cancel-left (linesAt + i * lineLong) lineLong)
+    (length-take-le lineLong (drop (linesAt + i * lineLong) l) (simp length-drop (omega arith)), c .before .before .pre .1)
 
 same-length : tie.Need-same-length
 same-length c = search needs
@@ -44,7 +45,7 @@ same-length c = search needs
 returns : tie.Need-returns
 returns c =
     let i = c .before .before .before .before .before .args .i in
-    rw (add-sub-cancel-left (16 + i * 51) 51) (ap (λ (ys : List ℕ). putBack (16 + i * 51) 51 ys (c .before .before .before .before .before .args .chip .now)) (rw (add-sub-cancel-left (16 + i * 51) 51) at (c .before .before .send .ensures)))
+    rw (add-sub-cancel-left (linesAt + i * lineLong) lineLong) (ap (λ (ys : List ℕ). putBack (linesAt + i * lineLong) lineLong ys (c .before .before .before .before .before .args .chip .now)) (rw (add-sub-cancel-left (linesAt + i * lineLong) lineLong) at (c .before .before .send .ensures)))
 
 pub send-on-spec : {M : Type 1} → statement M
 send-on-spec =

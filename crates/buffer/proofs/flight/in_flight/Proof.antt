@@ -13,6 +13,7 @@ use Rattle.buffer.proofs.flight.in_flight.Tie as tie
 use Rattle.buffer.proofs.flight.in_flight.Reads as reads
 use Rattle.buffer.proofs.flight.in_flight.Lts as lts
 use Rattle.buffer.proofs.flight.on_chip.Reads as on-chip-reads
+use Rattle.links.specs.Offsets.{headerLong, chipLong}
 
 abbrev Inv-loop : tie.InvT-loop
 Inv-loop mesh count sum₀ i₀ sum i = Chips mesh count × ((i ≤ count) × Summed mesh count i sum)
@@ -51,7 +52,7 @@ on-chip-requires : tie.Need-on-chip-requires Inv-loop μ-loop
 on-chip-requires c κs =
     let i = c .before .before .loop .i in
     let start = c .before .before .before .before in
-    rw (add-sub-cancel-left (6 + i * 322) 322) (few-held (start .args .mesh .now) (start .pre .0) i (omega (arith, start .pre .1)))
+    rw (add-sub-cancel-left (headerLong + i * chipLong) chipLong) (few-held (start .args .mesh .now) (start .pre .0) i (omega (arith, start .pre .1)))
 
 -- the sum after one chip more
 next : (c : lts.After-on-chip (on-chip-reads.Asked, on-chip-reads.Learnt) reads.Pre reads.Post Inv-loop μ-loop)
@@ -61,7 +62,7 @@ next c =
     let at = c .before .before .before .loop in
     let start = c .before .before .before .before .before in
     let one : c .on-chip .result ≡ chipFlight (chipWords (at .i) (start .args .mesh .now)) =
-    rw (add-sub-cancel-left (6 + at .i * 322) 322) at (c .on-chip .ensures) in
+    rw (add-sub-cancel-left (headerLong + at .i * chipLong) chipLong) at (c .on-chip .ensures) in
     summed-next (start .args .mesh .now) (start .args .count) (at .i) (at .sum) (start .pre .1) (at .inv .1 .1) (start .pre .0) _ (omega arith) one
 
 add-sum : tie.Need-add-sum Inv-loop μ-loop

@@ -11,6 +11,7 @@ use Rattle.lists.specs.Lists.{part}
 use Rattle.buffer.specs.Holding.{chipFine, chipsFine}
 use Rattle.buffer.proofs.holding.chips_fine.Statement.{statement}
 use Rattle.buffer.proofs.holding.chips_fine.Tie as tie
+use Rattle.links.specs.Offsets.{headerLong, chipLong}
 
 abbrev Inv-loop : tie.InvT-loop
 Inv-loop mesh count i₀ i = (i ≤ count) × (chipsFine 0 count mesh ≡ chipsFine i (count - i) mesh)
@@ -45,14 +46,14 @@ part-chip-fine-end c = omega (arith, c .before .before .before .pre)
 chip-fine-requires : tie.Need-chip-fine-requires Inv-loop μ-loop
 chip-fine-requires c κs =
     let i = c .before .before .loop .i in
-    rw (add-sub-cancel-left (6 + i * 322) 322) (length-take-le 322 (drop (6 + i * 322) (c .before .before .before .before .args .mesh .now)) (simp length-drop (omega (arith, c .before .before .before .before .pre))))
+    rw (add-sub-cancel-left (headerLong + i * chipLong) chipLong) (length-take-le chipLong (drop (headerLong + i * chipLong) (c .before .before .before .before .args .mesh .now)) (simp length-drop (omega (arith, c .before .before .before .before .pre))))
 
 returns : tie.Need-returns Inv-loop μ-loop
 returns c =
     let at = c .before .before .before .before .loop in
     let l = c .before .before .before .before .before .before .args .mesh .now in
     let n = c .before .before .before .before .before .before .args .count in
-    let bad : chipFine (part (6 + at .i * 322) 322 l) ≡ false = sym (rw (add-sub-cancel-left (6 + at .i * 322) 322) at (c .before .chip-fine .ensures)) ∙ not-true _ (c .if1 .taken) in
+    let bad : chipFine (part (headerLong + at .i * chipLong) chipLong l) ≡ false = sym (rw (add-sub-cancel-left (headerLong + at .i * chipLong) chipLong) at (c .before .chip-fine .ensures)) ∙ not-true _ (c .if1 .taken) in
     sym (at .inv .1 ∙ chips-step n (at .i) l (c .before .before .before .loop-test .taken) ∙ ap (λ (x : Bool). x && chipsFine (at .i + 1) (n - (at .i + 1)) l) bad)
 
 add-i : tie.Need-add-i Inv-loop μ-loop
@@ -66,7 +67,7 @@ loop-again c =
     let at = c .before .before .before .before .loop in
     let l = c .before .before .before .before .before .before .args .mesh .now in
     let n = c .before .before .before .before .before .before .args .count in
-    let good : chipFine (part (6 + at .i * 322) 322 l) ≡ true = sym (rw (add-sub-cancel-left (6 + at .i * 322) 322) at (c .before .chip-fine .ensures)) ∙ not-false _ (c .if1 .left) in
+    let good : chipFine (part (headerLong + at .i * chipLong) chipLong l) ≡ true = sym (rw (add-sub-cancel-left (headerLong + at .i * chipLong) chipLong) at (c .before .chip-fine .ensures)) ∙ not-false _ (c .if1 .left) in
     (omega arith, at .inv .1 ∙ chips-step n (at .i) l (c .before .before .before .loop-test .taken) ∙ ap (λ (x : Bool). x && chipsFine (at .i + 1) (n - (at .i + 1)) l) good)
 
 returns-2 : tie.Need-returns-2 Inv-loop μ-loop

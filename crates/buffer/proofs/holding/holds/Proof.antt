@@ -25,9 +25,6 @@ shared-slice-read-words-for-2 c = search needs
 words-for-requires : tie.Need-words-for-requires
 words-for-requires c κs = head-size (c .before .before .before .before .before .before .args .mesh .now) (sym (c .before .before .before .head-fine .ensures) ∙ not-false _ (c .before .before .if2 .left))
 
-cast-if3 : tie.Need-cast-if3
-cast-if3 c = search needs
-
 returns-3 : tie.Need-returns-3
 returns-3 c = simp (le-leb _ _ (c .before .before .before .before .before .before .if1 .left), sym (c .before .before .before .before .before .head-fine .ensures) ∙ not-false _ (c .before .before .before .before .if2 .left), lt-leb _ _ (rw (c .before .words-for .ensures) at (c .if3 .taken)))
 
@@ -58,7 +55,6 @@ holds-spec =
     shared-slice-read-words-for
     shared-slice-read-words-for-2
     words-for-requires
-    cast-if3
     returns-3
     shared-slice-read-chips
     shared-slice-read-chips-2

@@ -9,12 +9,13 @@ use lib.ListN.{drop}
 use Rattle.buffer.proofs.FineSteps.{places-step, places-end}
 use Rattle.mesh.specs.Sound.{packetFine}
 use Rattle.buffer.specs.Holding.{placesFine}
+use Rattle.links.specs.Offsets.{placesAt, placeLong}
 use Rattle.links.specs.Words.{packetIn}
 use Rattle.buffer.proofs.holding.places_fine.Statement.{statement}
 use Rattle.buffer.proofs.holding.places_fine.Tie as tie
 
 abbrev Inv-loop : tie.InvT-loop
-Inv-loop line count i₀ i = (i ≤ count) × (placesFine count (drop 2 line) ≡ placesFine (count - i) (drop (2 + i * 3) line))
+Inv-loop line count i₀ i = (i ≤ count) × (placesFine count (drop 2 line) ≡ placesFine (count - i) (drop (placesAt + i * placeLong) line))
 
 abbrev μ-loop : tie.MeasureT-loop
 μ-loop line count i₀ i = count - i
@@ -39,7 +40,7 @@ returns c =
     let at = c .before .before .before .before .loop in
     let l = c .before .before .before .before .before .before .args .line .now in
     let n = c .before .before .before .before .before .before .args .count in
-    let bad : packetFine (packetIn (drop (2 + at .i * 3) l)) ≡ false = sym (c .before .packet-fine .ensures ∙ ap packetFine (c .before .before .packet-at .ensures)) ∙ not-true _ (c .if1 .taken) in
+    let bad : packetFine (packetIn (drop (placesAt + at .i * placeLong) l)) ≡ false = sym (c .before .packet-fine .ensures ∙ ap packetFine (c .before .before .packet-at .ensures)) ∙ not-true _ (c .if1 .taken) in
     sym (at .inv .1 ∙ places-step n (at .i) l (c .before .before .before .loop-test .taken) ∙ simp bad)
 
 add-i : tie.Need-add-i Inv-loop μ-loop
@@ -53,7 +54,7 @@ loop-again c =
     let at = c .before .before .before .before .loop in
     let l = c .before .before .before .before .before .before .args .line .now in
     let n = c .before .before .before .before .before .before .args .count in
-    let good : packetFine (packetIn (drop (2 + at .i * 3) l)) ≡ true = sym (c .before .packet-fine .ensures ∙ ap packetFine (c .before .before .packet-at .ensures)) ∙ not-false _ (c .if1 .left) in
+    let good : packetFine (packetIn (drop (placesAt + at .i * placeLong) l)) ≡ true = sym (c .before .packet-fine .ensures ∙ ap packetFine (c .before .before .packet-at .ensures)) ∙ not-false _ (c .if1 .left) in
     (omega arith, at .inv .1 ∙ places-step n (at .i) l (c .before .before .before .loop-test .taken) ∙ simp good)
 
 returns-2 : tie.Need-returns-2 Inv-loop μ-loop

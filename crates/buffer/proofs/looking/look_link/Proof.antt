@@ -6,6 +6,7 @@ use native.Mathlib.Omega.{arith}
 use Rattle.buffer.proofs.Looks.{number-there, link-refused, link-found}
 use Rattle.buffer.proofs.looking.look_link.Statement.{statement}
 use Rattle.buffer.proofs.looking.look_link.Tie as tie
+use Rattle.links.specs.Offsets.{headerLong, lineLong, linesAt, chipLong}
 
 holds-requires : tie.Need-holds-requires
 holds-requires c κs = search needs
@@ -53,8 +54,8 @@ look-line-requires c κs = search needs
 
 returns-2 : tie.Need-returns-2
 returns-2 c =
-    let at = 6 + c .before .before .before .before .before .before .args .chip * 322 + (16 + c .before .before .before .before .before .before .args .link * 51) in
-    rw (add-sub-cancel-left at 51) at (c .look-line .ensures) ∙ link-found (c .before .before .before .before .before .before .args .mesh .now) (c .before .before .before .before .before .before .args .chip) (c .before .before .before .before .before .before .args .link) _ (c .before .before .before .number-refusal .ensures) (c .before .before .if1 .left)
+    let at = headerLong + c .before .before .before .before .before .before .args .chip * chipLong + (linesAt + c .before .before .before .before .before .before .args .link * lineLong) in
+    rw (add-sub-cancel-left at lineLong) at (c .look-line .ensures) ∙ link-found (c .before .before .before .before .before .before .args .mesh .now) (c .before .before .before .before .before .before .args .chip) (c .before .before .before .before .before .before .args .link) _ (c .before .before .before .number-refusal .ensures) (c .before .before .if1 .left)
 
 pub look-link-spec : {M : Type 1} → statement M
 look-link-spec =

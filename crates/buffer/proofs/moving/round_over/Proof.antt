@@ -4,6 +4,7 @@ use native.Mathlib.Omega.{arith}
 use lib.ListN.{getD, set, length-set}
 use lib.Seq.{getD-set-other}
 use borrow.Author.Tests.{lt-ltb, le-ltb}
+use Rattle.links.specs.Offsets.{phaseAt, elapsedAt}
 use Rattle.links.specs.Phase.{nextPhase}
 use Rattle.buffer.proofs.moving.round_over.Statement.{statement}
 use Rattle.buffer.proofs.moving.round_over.Tie as tie
@@ -44,8 +45,8 @@ same-length-2 c = search needs
 returns-2 : tie.Need-returns-2
 returns-2 c =
     let l = c .before .before .before .before .before .before .args .mesh .now in
-    let e : getD (set l 5 0) 4 0 ≡ getD l 4 0 = getD-set-other l 5 4 0 0 (λ z. omega arith) in
-    (λ i. set (set l 5 0) 4 ((c .next-phase .ensures ∙ ap nextPhase e) i)) ∙ simp (le-ltb _ _ (c .before .before .if1 .left))
+    let e : getD (set l elapsedAt 0) phaseAt 0 ≡ getD l phaseAt 0 = getD-set-other l elapsedAt phaseAt 0 0 (λ z. omega arith) in
+    (λ i. set (set l elapsedAt 0) phaseAt ((c .next-phase .ensures ∙ ap nextPhase e) i)) ∙ simp (le-ltb _ _ (c .before .before .if1 .left))
 
 pub round-over-spec : {M : Type 1} → statement M
 round-over-spec =

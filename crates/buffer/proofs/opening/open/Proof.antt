@@ -7,6 +7,7 @@ use lib.ListN.{drop, set, replicate, length-set}
 use borrow.Author.Tests.{lt-ltb, le-ltb, not-false}
 use Rattle.buffer.proofs.opening.open.Statement.{statement}
 use Rattle.buffer.proofs.opening.open.Tie as tie
+use Rattle.links.specs.Offsets.{chipLong}
 
 size-fine-requires : tie.Need-size-fine-requires
 size-fine-requires c κs = search needs
@@ -25,9 +26,6 @@ returns-3 c = (simp (rw (c .before .before .before .before .size-fine .ensures) 
 
 words-for-requires : tie.Need-words-for-requires
 words-for-requires c κs = sym (c .before .before .before .before .size-fine .ensures) ∙ not-false _ (c .before .before .before .if1 .left)
-
-cast-needed : tie.Need-cast-needed
-cast-needed c = search needs
 
 returns-4 : tie.Need-returns-4
 returns-4 c = (simp (rw (c .before .before .before .before .before .before .size-fine .ensures) at (c .before .before .before .before .before .if1 .left), rw (c .before .before .before .before .rounds-fine .ensures) at (c .before .before .before .if2 .left), le-ltb _ _ (c .before .before .if3 .left), lt-ltb _ _ (rw (c .before .words-for .ensures) at (c .if4 .taken))), refl)
@@ -53,7 +51,7 @@ same-length c = search needs
 returns-5 : tie.Need-returns-5
 returns-5 c =
     let a = c .before .before .before .before .before .before .before .before .before .before .before .before .args in
-    let n = a .height * a .width * 322 in
+    let n = a .height * a .width * chipLong in
     let l = a .mesh .now in
     let e : 6 + n ≡ suc (suc (suc (suc (suc (suc n))))) = omega arith in (
       simp (rw (c .before .before .before .before .before .before .before .before .before .before .size-fine .ensures) at (c .before .before .before .before .before .before .before .before .before .if1 .left), rw (c .before .before .before .before .before .before .before .before .rounds-fine .ensures) at (c .before .before .before .before .before .before .before .if2 .left), le-ltb _ _ (c .before .before .before .before .before .before .if3 .left), le-ltb _ _ (rw (c .before .before .before .before .before .words-for .ensures) at (c .before .before .before .before .if4 .left))),
@@ -71,7 +69,6 @@ open-spec =
     returns-2
     returns-3
     words-for-requires
-    cast-needed
     returns-4
     clear-requires
     slice-write-mesh

@@ -4,17 +4,17 @@ use Rattle.tables.proofs.Sizes.{chips-small}
 use Rattle.buffer.proofs.opening.words_for.Statement.{statement}
 use Rattle.buffer.proofs.opening.words_for.Tie as tie
 
-mul-result : tie.Need-mul-result
-mul-result c = omega (arith, chips-small (c .args .width) (c .args .height) (c .pre))
+chips-requires : tie.Need-chips-requires
+chips-requires c κs = search needs
 
-mul-result-2 : tie.Need-mul-result-2
-mul-result-2 c = omega (arith, chips-small (c .args .width) (c .args .height) (c .pre))
+mul-result : tie.Need-mul-result
+mul-result c = omega (arith, c .chips .ensures, chips-small (c .before .args .width) (c .before .args .height) (c .before .pre))
 
 add-result : tie.Need-add-result
-add-result c = omega (arith, chips-small (c .args .width) (c .args .height) (c .pre))
+add-result c = omega (arith, c .chips .ensures, chips-small (c .before .args .width) (c .before .args .height) (c .before .pre))
 
 returns : tie.Need-returns
-returns c = search needs
+returns c = simp (c .chips .ensures)
 
 pub words-for-spec : {M : Type 1} → statement M
-words-for-spec = tie.close (tie.spec mul-result mul-result-2 add-result returns)
+words-for-spec = tie.close (tie.spec chips-requires mul-result add-result returns)

@@ -2,10 +2,10 @@ use borrow.Author.Needs.{needs}
 use mathlib.Core.Path.{_∙_, sym}
 use borrow.Author.Tests.{lt-ltb, le-ltb, eq-eqb, ne-eqb}
 use Rattle.buffer.specs.Holding.{holdsMesh}
-use Rattle.buffer.specs.Going.{chipsOf}
 use Rattle.buffer.proofs.Refusals.{number-first}
 use Rattle.buffer.proofs.refusing.number_refusal.Statement.{statement}
 use Rattle.buffer.proofs.refusing.number_refusal.Tie as tie
+use Rattle.buffer.specs.Layout.{chipsOf}
 
 chip-refusal-requires : tie.Need-chip-refusal-requires
 chip-refusal-requires c κs = search needs

@@ -1,0 +1,72 @@
+// Where everything stands in the mesh buffer, in 32-bit words: the only place where a layout number is written. docs/LAYOUT.md has the same in a table.
+
+// ---- the header
+pub const WIDTH: usize = 0;
+
+pub const HEIGHT: usize = 1;
+
+// F, the rounds in a phase.
+pub const ROUNDS: usize = 2;
+
+pub const MONITOR: usize = 3;
+
+pub const PHASE: usize = 4;
+
+// How many rounds of the running phase are over.
+pub const ELAPSED: usize = 5;
+
+pub const HEADER: usize = 6;
+
+// ---- a chip's block: registers, counters, six links
+pub const REGISTERS: usize = 6;
+
+pub const COUNTERS: usize = 10;
+
+pub const COUNTERS_AT: usize = REGISTERS;
+
+pub const LINES_AT: usize = COUNTERS_AT + COUNTERS;
+
+pub const CHIP: usize = LINES_AT + 6 * LINE;
+
+// Where each of its links begins.
+pub const LINE_0: usize = LINES_AT;
+
+pub const LINE_1: usize = LINE_0 + LINE;
+
+pub const LINE_2: usize = LINE_1 + LINE;
+
+pub const LINE_3: usize = LINE_2 + LINE;
+
+pub const LINE_4: usize = LINE_3 + LINE;
+
+pub const LINE_5: usize = LINE_4 + LINE;
+
+// And where each says how many packets it holds.
+pub const HELD_0: usize = LINE_0 + HELD;
+
+pub const HELD_1: usize = LINE_1 + HELD;
+
+pub const HELD_2: usize = LINE_2 + HELD;
+
+pub const HELD_3: usize = LINE_3 + HELD;
+
+pub const HELD_4: usize = LINE_4 + HELD;
+
+pub const HELD_5: usize = LINE_5 + HELD;
+
+// ---- a directed link: its state, how many packets it holds, eight places of three words; how many are set aside, eight places for those
+pub const STATE: usize = 0;
+
+pub const HELD: usize = 1;
+
+pub const PLACES_AT: usize = 2;
+
+pub const PLACE: usize = 3;
+
+pub const DEPTH: usize = 8;
+
+pub const ASIDE: usize = PLACES_AT + DEPTH * PLACE;
+
+pub const ASIDE_PLACES_AT: usize = ASIDE + 1;
+
+pub const LINE: usize = ASIDE_PLACES_AT + DEPTH * PLACE;
