@@ -1,5 +1,5 @@
 -- The account of one pass: weight in and extra branches are delivered, ended in error, dropped, swallowed or sent. What carries it: link by
--- link the weights are computed for every wanted and ready set, and a wanted set's bits are its processors' and its links'. Assumes nothing.
+-- link the weights are computed for every wanted and ready set, and a wanted set's bits are its processors' and its links'.
 use mathlib.Core.Path.{_≡_, refl, sym, ap, _∙_}
 use mathlib.Core.Bool.{Bool, true, false, cond, _&&_, and-true, and-false, and-eq-true-iff}
 use Prim.Native.Nat.{ℕ, zero, suc, _+_, _-_, _/_, _%_, _^_, _≤_, _<_}
@@ -12,12 +12,13 @@ use borrow.Author.Tests.{eqb-true, eqb-false, ltb-true, lt-ltb}
 use Rattle.packet.proofs.Small.{every, at, every₂, at₂}
 use Rattle.packet.specs.declared.Packet.{Packet}
 use Rattle.packet.specs.Control.{markOf}
+use Rattle.packet.specs.Types.{isMarked}
 use Rattle.packet.proofs.Folded.{ones-zero}
 use Rattle.steps.specs.declared.Outcome.{Outcome}
 use Rattle.steps.specs.declared.Wanted.{Wanted}
 use Rattle.steps.specs.Links.{has, linksOf, processorsOf, link}
 use Rattle.steps.specs.Detour.{carrySet, sendSet, dropSet, plainSendSet, plainDropSet}
-use Rattle.steps.specs.Deciding.{isMc, hasLeg, decided}
+use Rattle.steps.specs.Deciding.{hasLeg, decided}
 use Rattle.kept.specs.Keeping.{dropCount}
 use Rattle.kept.specs.Counting.{delivered, swallowed}
 use Rattle.kept.specs.Units.{weightIn, extra, ended, overLinks, weightSent}
@@ -83,14 +84,14 @@ pick false = refl
 -- what the wanted set of a packet has to do with its errors, mark and source
 pub record Consistent (e : ℕ) (q : Packet) (s : ℕ) (w : Wanted) : Type 0 where
   pub quiet : (e ≡ 0 → ⊥) → linksOf (w .set) ≡ 0
-  pub emergency : e ≡ 0 → isMc q ≡ true → markOf (q .control) ≡ 2 → w .set ≡ 0
-  pub arrived : e ≡ 0 → isMc q ≡ true → markOf (q .control) ≡ 1 → s < 6
+  pub emergency : e ≡ 0 → isMarked (q .control) ≡ true → markOf (q .control) ≡ 2 → w .set ≡ 0
+  pub arrived : e ≡ 0 → isMarked (q .control) ≡ true → markOf (q .control) ≡ 1 → s < 6
 
 module _ (e : ℕ) (q : Packet) (s : ℕ) (w : Wanted) (ready : ℕ) (hr : ready < 64) where
   -- every branch to a link is sent, carried or dropped
   links-close : linkWeight (linksOf (w .set)) (decided e q s w ready .sent) (decided e q s w ready .carried) + ones (decided e q s w ready .dropped) ≡ ones (linksOf (w .set))
   unfolding decided
-  links-close = go (isMc q) refl
+  links-close = go (isMarked (q .control)) refl
     where
       l : ℕ
       l = linksOf (w .set)
@@ -98,7 +99,7 @@ module _ (e : ℕ) (q : Packet) (s : ℕ) (w : Wanted) (ready : ℕ) (hr : ready
       hl : linksOf (w .set) < 64
       hl = mod-lt (w .set) (lit< tt)
 
-      go : (b : Bool) → isMc q ≡ b
+      go : (b : Bool) → isMarked (q .control) ≡ b
           → linkWeight (linksOf (w .set)) (cond b (sendSet (linksOf (w .set)) ready) (plainSendSet (linksOf (w .set)) ready)) (cond b (carrySet (linksOf (w .set)) ready) 0)
           + ones (cond b (dropSet (linksOf (w .set)) ready) (plainDropSet (linksOf (w .set)) ready))
           ≡ ones (linksOf (w .set))
@@ -127,7 +128,7 @@ module _ (e : ℕ) (q : Packet) (s : ℕ) (w : Wanted) (ready : ℕ) (hr : ready
   -- the branches of a packet without error: its weight and what it adds are its wanted bits, its leg, and one if it is swallowed
   parts : Consistent e q s w → e ≡ 0 → weightIn q s + (ones (w .set) - 1) ≡ ones (w .set) + cond (hasLeg e q) 1 0 + swallowed (decided e q s w ready)
   unfolding decided
-  parts h z = go (isMc q) refl (eqb (markOf (q .control)) 1) refl (eqb (markOf (q .control)) 2) refl (ltb s 6) refl
+  parts h z = go (isMarked (q .control)) refl (eqb (markOf (q .control)) 1) refl (eqb (markOf (q .control)) 2) refl (ltb s 6) refl
     where
       Parts : Type 0
       Parts = weightIn q s + (ones (w .set) - 1) ≡ ones (w .set) + cond (hasLeg e q) 1 0 + swallowed (decided e q s w ready)
@@ -135,7 +136,7 @@ module _ (e : ℕ) (q : Packet) (s : ℕ) (w : Wanted) (ready : ℕ) (hr : ready
       close : (n l x : ℕ) → weightIn q s ≡ n → cond (hasLeg e q) 1 0 ≡ l → swallowed (decided e q s w ready) ≡ x → n + (ones (w .set) - 1) ≡ ones (w .set) + l + x → Parts
       close n l x en el ex f = simp (en, el, ex) f
 
-      go : (b : Bool) → isMc q ≡ b → (c : Bool) → eqb (markOf (q .control)) 1 ≡ c → (d : Bool) → eqb (markOf (q .control)) 2 ≡ d → (g : Bool) → ltb s 6 ≡ g → Parts
+      go : (b : Bool) → isMarked (q .control) ≡ b → (c : Bool) → eqb (markOf (q .control)) 1 ≡ c → (d : Bool) → eqb (markOf (q .control)) 2 ≡ d → (g : Bool) → ltb s 6 ≡ g → Parts
       go true fb true fc d fd g fg =
           let m : markOf (q .control) ≡ 1 = eqb-true _ _ fc in
           let near : ltb s 6 ≡ true = lt-ltb _ _ (h .arrived z fb m) in

@@ -1,4 +1,4 @@
--- What holds of every pass, whatever the packet, the tables and the setting. Assumes nothing.
+-- What holds of every pass, whatever the packet, the tables and the setting.
 use mathlib.Core.Path.{_≡_, refl, sym, ap, _∙_}
 use mathlib.Core.Logic.{⊎-elim}
 use mathlib.Core.Bool.{Bool, true, false, cond, _&&_, not, true≢false}
@@ -8,17 +8,19 @@ use native.Mathlib.Nat.{mul-mod-right}
 use native.Mathlib.Omega.{arith}
 use lib.Pow.{pow-add}
 use lib.Dec.{eqb, ltb, lit<}
-use borrow.Author.Tests.{eq-eqb, ne-eqb, eqb-true}
+use borrow.Author.Tests.{eq-eqb, ne-eqb}
 use Rattle.packet.specs.declared.Packet.{Packet}
 use Rattle.packet.specs.Control.{kindOf, markOf, stampOf, carriesOf}
+use Rattle.packet.specs.Types.{isMarked, isStamped}
 use Rattle.packet.specs.Parity.{isOdd, withStamp}
 use Rattle.packet.proofs.Rewrite.{FieldSet, mark-set, stamp-set}
+use Rattle.packet.proofs.Types.{same-marked, marked-mc}
 use Rattle.steps.specs.declared.Outcome.{Outcome}
 use Rattle.steps.specs.declared.Setting.{Setting}
 use Rattle.steps.specs.Links.{has, linksOf, monitorBit}
 use Rattle.steps.specs.Errors.{errorsOf, stampedOf, tooOld, badLocal, wrongLength, flag}
 use Rattle.steps.specs.Wants.{wantedOf}
-use Rattle.steps.specs.Deciding.{isMc, decided, outcomeOf, markOn, packetOn, legPacket, Source, Checked}
+use Rattle.steps.specs.Deciding.{decided, outcomeOf, markOn, packetOn, legPacket, Source, Checked}
 use Rattle.kept.specs.Keeping.{dropCount}
 use Rattle.kept.specs.Counting.{delivered, swallowed}
 use Rattle.kept.specs.Units.{weightIn, extra, ended, weightSent}
@@ -37,7 +39,7 @@ pub record Stamped (p q : Packet) : Type 0 where
   pub payload : q .payload ≡ p .payload
 
 pub stamped : (p : Packet) (s e phase : ℕ) → p .control < 256 → phase ≤ 3 → Stamped p (stampedOf p s e phase)
-stamped p s e phase hc hp = go (eqb e 0 && eqb s 7 && ltb (kindOf (p .control)) 2)
+stamped p s e phase hc hp = go (eqb e 0 && eqb s 7 && isStamped (p .control))
   where
     go : (b : Bool) → Stamped p (cond b (withStamp p phase) p)
     go true =
@@ -80,22 +82,22 @@ module _ (p : Packet) (s : ℕ) (rows codes : List ℕ) (t : Setting) (h : Check
   consistent =
       record {
         quiet = λ some. simp (ne-eqb _ _ some) (monitor-no-link (t .monitor));
-        emergency = λ none mc two.
-            let k : kindOf (p .control) ≡ 0 = sym (q .kind) ∙ eqb-true _ _ mc in
-            let m : markOf (p .control) ≡ 2 = sym (q .mark) ∙ two in
-            nothing-wanted _ none k m;
-        arrived = λ none mc one. ⊎-elim (λ near. near) (λ local. absurd (bad local (sym (q .kind) ∙ eqb-true _ _ mc) (sym (q .mark) ∙ one) (right p s (t .phase) none .local))) from;
+        emergency = λ none marked two. nothing-wanted _ none (before marked) (sym (q .mark) ∙ two);
+        arrived = λ none marked one. ⊎-elim (λ near. near) (λ local. absurd (bad local (before marked) (sym (q .mark) ∙ one) (right p s (t .phase) none .local))) from;
       }
     where
       q : Stamped p (stampedOf p s (errorsOf p s (t .phase)) (t .phase))
       q = stamped p s (errorsOf p s (t .phase)) (t .phase) (h .control) (h .phase)
 
-      nothing-wanted : (e : ℕ) → e ≡ 0 → kindOf (p .control) ≡ 0 → markOf (p .control) ≡ 2 → wantedOf e p s rows codes t .set ≡ 0
-      nothing-wanted e none k m = simp (eq-eqb _ _ none, eq-eqb _ _ k, eq-eqb _ _ m)
+      before : isMarked (stampedOf p s (errorsOf p s (t .phase)) (t .phase) .control) ≡ true → isMarked (p .control) ≡ true
+      before marked = same-marked _ _ (sym (q .kind)) ∙ marked
 
-      bad : s ≡ 7 → kindOf (p .control) ≡ 0 → markOf (p .control) ≡ 1 → badLocal (p .control) s ≡ false → ⊥
-      bad local mc one f =
-          let wrong : true ≡ false = sym (simp (local, mc, one)) ∙ f in
+      nothing-wanted : (e : ℕ) → e ≡ 0 → isMarked (p .control) ≡ true → markOf (p .control) ≡ 2 → wantedOf e p s rows codes t .set ≡ 0
+      nothing-wanted e none marked m = simp (eq-eqb _ _ none, marked-mc (p .control) marked, eq-eqb _ _ m)
+
+      bad : s ≡ 7 → isMarked (p .control) ≡ true → markOf (p .control) ≡ 1 → badLocal (p .control) s ≡ false → ⊥
+      bad local marked one f =
+          let wrong : true ≡ false = sym (simp (local, marked, one)) ∙ f in
           true≢false wrong
 
   -- "weight in plus extra branches equals delivered plus ended in error plus dropped plus swallowed plus weight sent"
@@ -107,7 +109,7 @@ module _ (p : Packet) (s : ℕ) (rows codes : List ℕ) (t : Setting) (h : Check
       let e = errorsOf p s (t .phase) in
       let q = stamped p s e (t .phase) (h .control) (h .phase) in
       let same : weightIn p s ≡ weightIn (stampedOf p s e (t .phase)) s =
-      λ i. cond (ltb s 6) (cond (eqb (sym (q .kind) i) 0 && eqb (sym (q .mark) i) 1) 2 1) 1 in
+      λ i. cond (ltb s 6) (cond (same-marked _ _ (sym (q .kind)) i && eqb (sym (q .mark) i) 1) 2 1) 1 in
       ap (λ (n : ℕ). n + extra (outcomeOf p s rows codes t)) same
       ∙ account-decided e (stampedOf p s e (t .phase)) s (wantedOf e p s rows codes t) (t .ready) (h .ready) consistent
 
@@ -116,7 +118,7 @@ module _ (p : Packet) (s : ℕ) (rows codes : List ℕ) (t : Setting) (h : Check
   -- the packet after stamping has odd parity where there is no error
   pub stamped-odd : errorsOf p s (t .phase) ≡ 0 → isOdd (outcomeOf p s rows codes t .packet) ≡ true
   unfolding outcomeOf decided
-  stamped-odd none = go (eqb (errorsOf p s (t .phase)) 0 && eqb s 7 && ltb (kindOf (p .control)) 2)
+  stamped-odd none = go (eqb (errorsOf p s (t .phase)) 0 && eqb s 7 && isStamped (p .control))
     where
       go : (b : Bool) → isOdd (cond b (withStamp p (t .phase)) p) ≡ true
       go true = let f : FieldSet stampOf markOf p (withStamp p (t .phase)) (t .phase) = stamp-set p (t .phase) (h .control) (omega arith) in f .odd
@@ -126,10 +128,10 @@ module _ (p : Packet) (s : ℕ) (rows codes : List ℕ) (t : Setting) (h : Check
   unfolding outcomeOf decided
   outcome-byte = stamped p s (errorsOf p s (t .phase)) (t .phase) (h .control) (h .phase) .byte
 
-  -- MC: odd parity, the mark of step 5, and all else as in the packet after stamping
-  pub sent-mc : (i : ℕ) → isMc (outcomeOf p s rows codes t .packet) ≡ true
+  -- with a mark: odd parity, the mark of step 5, and all else as in the packet after stamping
+  pub sent-marked : (i : ℕ) → isMarked (outcomeOf p s rows codes t .packet .control) ≡ true
       → FieldSet markOf stampOf (outcomeOf p s rows codes t .packet) (packetOn (outcomeOf p s rows codes t) i) (markOn (outcomeOf p s rows codes t) i)
-  sent-mc i mc = simp mc (mark-set (outcomeOf p s rows codes t .packet) (markOn (outcomeOf p s rows codes t) i) outcome-byte (small (has (o .carried) i) (has (linksOf (o .wanted)) i)))
+  sent-marked i marked = simp marked (mark-set (outcomeOf p s rows codes t .packet) (markOn (outcomeOf p s rows codes t) i) outcome-byte (small (has (o .carried) i) (has (linksOf (o .wanted)) i)))
     where
       o : Outcome
       o = outcomeOf p s rows codes t
@@ -139,8 +141,8 @@ module _ (p : Packet) (s : ℕ) (rows codes : List ℕ) (t : Setting) (h : Check
       small true false = lit< tt
       small false b = lit< tt
 
-  -- P2P and NN: the packet after stamping itself
-  pub sent-plain : (i : ℕ) → isMc (outcomeOf p s rows codes t .packet) ≡ false → packetOn (outcomeOf p s rows codes t) i ≡ outcomeOf p s rows codes t .packet
+  -- without a mark: the packet after stamping itself
+  pub sent-plain : (i : ℕ) → isMarked (outcomeOf p s rows codes t .packet .control) ≡ false → packetOn (outcomeOf p s rows codes t) i ≡ outcomeOf p s rows codes t .packet
   sent-plain i other = simp other
 
   -- the second leg: odd parity, mark 11, and all else as in the packet after stamping

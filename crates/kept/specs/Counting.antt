@@ -7,9 +7,9 @@ use lib.Count.{ones}
 use lib.Dec.{eqb}
 use lib.ListN.{getD}
 use Rattle.packet.specs.Control.{markOf}
+use Rattle.packet.specs.Types.{isMarked}
 use Rattle.steps.specs.declared.Outcome.{Outcome}
 use Rattle.kept.specs.declared.Counters.{Counters}
-use Rattle.steps.specs.Deciding.{isMc}
 use Rattle.kept.specs.Keeping.{dropCount}
 use Rattle.steps.specs.Links.{processorsOf}
 
@@ -20,7 +20,7 @@ delivered o = cond (eqb (o .errors) 0) (ones (processorsOf (o .wanted))) 0
 -- "On a pass without error a packet marked 01 has two parts, its wanted set and its second leg; one marked 10 has only the leg; every other packet has only
 -- its wanted set. A part with b branches ...; with b = 0 it is swallowed." The leg is one branch.
 abbrev pub swallows : Outcome → Bool
-swallows o = eqb (o .errors) 0 && eqb (o .wanted) 0 && not (isMc (o .packet) && eqb (markOf (o .packet .control)) 2)
+swallows o = eqb (o .errors) 0 && eqb (o .wanted) 0 && not (isMarked (o .packet .control) && eqb (markOf (o .packet .control)) 2)
 
 abbrev pub swallowed : Outcome → ℕ
 swallowed o = cond (swallows o) 1 0

@@ -5,13 +5,14 @@ use lib.Count.{ones}
 use lib.Dec.{eqb, ltb}
 use Rattle.packet.specs.declared.Packet.{Packet}
 use Rattle.packet.specs.Control.{markOf}
+use Rattle.packet.specs.Types.{isMarked}
 use Rattle.steps.specs.declared.Outcome.{Outcome}
 use Rattle.steps.specs.Links.{has}
-use Rattle.steps.specs.Deciding.{isMc, markOn}
+use Rattle.steps.specs.Deciding.{markOn}
 
 -- "An in-flight MC packet marked 01 weighs two, every other packet one".
 abbrev pub weight : Packet → ℕ
-weight p = cond (isMc p && eqb (markOf (p .control)) 1) 2 1
+weight p = cond (isMarked (p .control) && eqb (markOf (p .control)) 1) 2 1
 
 -- "... an injected packet weighs one."
 abbrev pub weightIn : Packet → ℕ → ℕ

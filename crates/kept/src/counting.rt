@@ -1,7 +1,7 @@
 // The ten counters of a chip.
 use super::Counters;
 use super::keeping::drop_count;
-use packet::control::kind_of;
+use packet::control::is_marked;
 use packet::control::mark_of;
 use std::num::wrapping_add_u32;
 use steps::Outcome;
@@ -67,5 +67,5 @@ fn swallows_pass(o: Outcome) -> bool
     ensures { λ b. ⌜ b ≡ swallows o ⌝ }
 {
     let p = o.packet;
-    (o.errors == 0) & (o.wanted == 0) & !((kind_of(p.control) == 0) & (mark_of(p.control) == 2))
+    (o.errors == 0) & (o.wanted == 0) & !(is_marked(p.control) & (mark_of(p.control) == 2))
 }

@@ -9,12 +9,13 @@ use lib.Dec.{eqb}
 use borrow.Author.Tests.{eqb-true, eqb-false, ne-eqb, not-false}
 use Rattle.packet.specs.declared.Packet.{Packet}
 use Rattle.packet.specs.Control.{carriesOf}
+use Rattle.packet.specs.Types.{isMarked}
 use Rattle.steps.specs.declared.Setting.{Setting}
 use Rattle.steps.specs.Links.{has, setOf, linksOf}
 use Rattle.steps.specs.Detour.{carries, sends}
 use Rattle.steps.specs.Errors.{errorsOf, stampedOf}
 use Rattle.steps.specs.Wants.{wantedOf}
-use Rattle.steps.specs.Deciding.{isMc, legSet, decided, outcomeOf, packetOn, legPacket, Source, Checked}
+use Rattle.steps.specs.Deciding.{legSet, decided, outcomeOf, packetOn, legPacket, Source, Checked}
 use Rattle.kept.proofs.OnePass as pass
 use Rattle.links.specs.Lines.{Right}
 use Rattle.steps.proofs.Sets.{has-set}
@@ -33,11 +34,11 @@ module _ (p : Packet) (s : ℕ) (rows codes : List ℕ) (t : Setting) (h : Check
       q .nine ∙ sym fits ∙ sym (q .carries)
 
   pub sent-right : errorsOf p s (t .phase) ≡ 0 → (i : ℕ) → Right (packetOn (outcomeOf p s rows codes t) i)
-  sent-right none i = go (isMc (outcomeOf p s rows codes t .packet)) refl
+  sent-right none i = go (isMarked (outcomeOf p s rows codes t .packet .control)) refl
     where
-      go : (b : Bool) → isMc (outcomeOf p s rows codes t .packet) ≡ b → Right (packetOn (outcomeOf p s rows codes t) i)
-      go true mc =
-          let f = pass.sent-mc p s rows codes t h from i mc in
+      go : (b : Bool) → isMarked (outcomeOf p s rows codes t .packet .control) ≡ b → Right (packetOn (outcomeOf p s rows codes t) i)
+      go true marked =
+          let f = pass.sent-marked p s rows codes t h from i marked in
           f .nine ∙ stamped-right none ∙ sym (f .carries)
       go false other = subst Right (sym (pass.sent-plain p s rows codes t h from i other)) (stamped-right none)
 
@@ -65,7 +66,7 @@ module _ (p : Packet) (s : ℕ) (rows codes : List ℕ) (t : Setting) (h : Check
       go : (b : Bool) → eqb (errorsOf p s (t .phase)) 0 ≡ b → errorsOf p s (t .phase) ≡ 0
       go true z = eqb-true _ _ z
       go false z =
-          absurd (false≢true (sym (none-sent (isMc (stampedOf p s (errorsOf p s (t .phase)) (t .phase))) _ (no-link-wanted (eqb-false _ _ z))) ∙ sent))
+          absurd (false≢true (sym (none-sent (isMarked (stampedOf p s (errorsOf p s (t .phase)) (t .phase) .control)) _ (no-link-wanted (eqb-false _ _ z))) ∙ sent))
 
   pub leg-no-error : (i : ℕ) → i < 6 → has (outcomeOf p s rows codes t .leg) i ≡ true → errorsOf p s (t .phase) ≡ 0
   unfolding outcomeOf decided

@@ -10,13 +10,14 @@ use lib.Dec.{eqb, ltb, lit<}
 use borrow.Author.Tests.{eqb-true, eqb-false, lt-ltb, le-leb, ne-eqb}
 use Rattle.packet.specs.declared.Packet.{Packet}
 use Rattle.packet.specs.Parity.{isOdd}
+use Rattle.packet.specs.Types.{isMarked}
 use Rattle.steps.specs.declared.Outcome.{Outcome}
 use Rattle.kept.specs.declared.Registers.{Registers}
 use Rattle.steps.specs.declared.Setting.{Setting}
 use Rattle.steps.specs.Links.{has, setOf}
 use Rattle.steps.specs.Detour.{drops}
 use Rattle.steps.specs.Errors.{errorsOf, stampedOf}
-use Rattle.steps.specs.Deciding.{isMc, legSet, decided, outcomeOf, Source, Checked}
+use Rattle.steps.specs.Deciding.{legSet, decided, outcomeOf, Source, Checked}
 use Rattle.kept.specs.Keeping.{isEmpty, dropCount, lowest, firstDrop, withMore, keptOf}
 use Rattle.kept.proofs.OnePass as pass
 use Rattle.mesh.specs.Sound.{registersFine, Passable}
@@ -82,8 +83,8 @@ module _ (p : Packet) (s : ℕ) (rows codes : List ℕ) (t : Setting) (h : Check
       let q = stampedOf p s e (t .phase) in
       let w = no-link-wanted p s rows codes t h from some in
       let g : legSet e q s ≡ 0 = simp (ne-eqb _ _ some) in
-      (λ i. ones (cond (isMc q) (setOf (drops (w i) (t .ready))) (setOf (λ j. has (w i) j && not (has (t .ready) j)))) + ones (setOf (λ j. has (g i) j && not (has (t .ready) j))))
-      ∙ none (isMc q)
+      (λ i. ones (cond (isMarked (q .control)) (setOf (drops (w i) (t .ready))) (setOf (λ j. has (w i) j && not (has (t .ready) j)))) + ones (setOf (λ j. has (g i) j && not (has (t .ready) j))))
+      ∙ none (isMarked (q .control))
     where
       none : (b : Bool) → ones (cond b (setOf (drops 0 (t .ready))) (setOf (λ j. has 0 j && not (has (t .ready) j)))) + ones (setOf (λ j. has 0 j && not (has (t .ready) j))) ≡ 0
       none true = refl

@@ -1,19 +1,21 @@
--- What a pass sends is sound: of a used type, right in length and parity, not NN with T = 1. Assumes nothing.
+-- What a pass sends is sound: of a used type, right in length and parity, not NN with T = 1.
 use mathlib.Core.Path.{_≡_, refl, sym, ap, _∙_, subst}
 use mathlib.Core.Bool.{Bool, true, false, cond, _&&_, _||_, and-eq-true-iff, false≢true}
 use mathlib.Core.List.{List}
 use Prim.Native.Nat.{ℕ, _<_, _^_, _+_}
 use native.Mathlib.Omega.{arith}
-use lib.Dec.{eqb, ltb}
-use borrow.Author.Tests.{ltb-true, eqb-true, eqb-false, lt-ltb, eq-eqb, ne-eqb}
+use lib.Dec.{eqb}
+use borrow.Author.Tests.{eqb-false, lt-ltb, eq-eqb}
 use Rattle.packet.specs.declared.Packet.{Packet}
-use Rattle.packet.specs.Control.{kindOf, markOf, isDirect}
+use Rattle.packet.specs.Control.{markOf, isDirect}
+use Rattle.packet.specs.Types.{isMarked, isStamped}
 use Rattle.packet.specs.Parity.{isOdd, withStamp}
 use Rattle.packet.proofs.Rewrite.{FieldSet, stamp-set}
+use Rattle.packet.proofs.Types.{same-stamped, marked-stamped, stamped-not-nn}
 use Rattle.steps.specs.declared.Setting.{Setting}
 use Rattle.steps.specs.Links.{has, link}
 use Rattle.steps.specs.Errors.{errorsOf, stampedOf}
-use Rattle.steps.specs.Deciding.{isMc, hasLeg, legSet, decided, outcomeOf, packetOn, legPacket, Source, Checked}
+use Rattle.steps.specs.Deciding.{hasLeg, legSet, decided, outcomeOf, packetOn, legPacket, Source, Checked}
 use Rattle.kept.proofs.OnePass as pass
 use Rattle.links.specs.Lines.{Right}
 use Rattle.mesh.specs.Sound.{Passable, SoundPacket}
@@ -28,17 +30,17 @@ passable-sound p h odd right = record { fine = simp (lt-ltb _ _ (h .control), lt
     there true e = simp e
     there false e = let short : ¬ (p .nine ≡ 1) = eqb-false _ _ e in simp (e, eq-eqb _ _ (h .absent (omega (arith, h .nine))))
 
--- MC and P2P know no T
-not-direct : (c : ℕ) → kindOf c < 2 → isDirect c ≡ false
-not-direct c h = simp (ne-eqb (kindOf c) 2 (λ e. omega arith))
+-- what has a stamp knows no T
+not-direct : (c : ℕ) → isStamped c ≡ true → isDirect c ≡ false
+not-direct c h = simp (stamped-not-nn c h)
 
--- a new mark or stamp leaves an MC or P2P packet one that may pass
-field-passable : {own other : ℕ → ℕ} {p q : Packet} {v : ℕ} → FieldSet own other p q v → kindOf (p .control) < 2 → Passable p → Passable q
-field-passable {p = p} {q = q} f low h =
+-- a new mark or stamp leaves a packet that has a stamp one that may pass
+field-passable : {own other : ℕ → ℕ} {p q : Packet} {v : ℕ} → FieldSet own other p q v → isStamped (p .control) ≡ true → Passable p → Passable q
+field-passable {p = p} {q = q} f stamp h =
     record {
       control = f .byte;
-      used = omega (arith, f .kind);
-      plain = not-direct (q .control) (omega (arith, f .kind));
+      used = omega (arith, f .kind, h .used);
+      plain = not-direct (q .control) (same-stamped _ _ (f .kind) ∙ stamp);
       nine = omega (arith, f .nine, h .nine);
       absent = λ e. f .payload ∙ h .absent (sym (f .nine) ∙ e);
     }
@@ -47,24 +49,22 @@ module _ (p : Packet) (s : ℕ) (rows codes : List ℕ) (t : Setting) (h : Check
   -- the packet after stamping
   pub stamped-passable : Passable (outcomeOf p s rows codes t .packet)
   unfolding outcomeOf decided
-  stamped-passable = go (eqb (errorsOf p s (t .phase)) 0 && eqb s 7 && ltb (kindOf (p .control)) 2) refl
+  stamped-passable = go (eqb (errorsOf p s (t .phase)) 0 && eqb s 7 && isStamped (p .control)) refl
     where
-      go : (b : Bool) → (eqb (errorsOf p s (t .phase)) 0 && eqb s 7 && ltb (kindOf (p .control)) 2) ≡ b → Passable (cond b (withStamp p (t .phase)) p)
+      go : (b : Bool) → (eqb (errorsOf p s (t .phase)) 0 && eqb s 7 && isStamped (p .control)) ≡ b → Passable (cond b (withStamp p (t .phase)) p)
       go true e =
-          let low = and-eq-true-iff (eqb (errorsOf p s (t .phase)) 0 && eqb s 7) (ltb (kindOf (p .control)) 2) .0 e .1 in
-          field-passable (stamp-set p (t .phase) (h .control) (omega (arith, h .phase))) (ltb-true _ _ low) passable
+          let stamp = and-eq-true-iff (eqb (errorsOf p s (t .phase)) 0 && eqb s 7) (isStamped (p .control)) .0 e .1 in
+          field-passable (stamp-set p (t .phase) (h .control) (omega (arith, h .phase))) stamp passable
       go false e = passable
 
-  -- MC has a new mark, any other packet goes as it is
+  -- what has a mark gets a new one, any other packet goes as it is
   sent-sound : errorsOf p s (t .phase) ≡ 0 → (i : ℕ) → SoundPacket (packetOn (outcomeOf p s rows codes t) i)
-  sent-sound none i = go (isMc (outcomeOf p s rows codes t .packet)) refl
+  sent-sound none i = go (isMarked (outcomeOf p s rows codes t .packet .control)) refl
     where
-      go : (b : Bool) → isMc (outcomeOf p s rows codes t .packet) ≡ b → SoundPacket (packetOn (outcomeOf p s rows codes t) i)
-      go true mc =
-          let f = pass.sent-mc p s rows codes t h from i mc in
-          let zero : kindOf (outcomeOf p s rows codes t .packet .control) ≡ 0 = eqb-true _ _ mc in
-          let low : kindOf (outcomeOf p s rows codes t .packet .control) < 2 = omega arith in
-          passable-sound _ (field-passable f low stamped-passable) (f .odd) (sent-right p s rows codes t h from none i)
+      go : (b : Bool) → isMarked (outcomeOf p s rows codes t .packet .control) ≡ b → SoundPacket (packetOn (outcomeOf p s rows codes t) i)
+      go true marked =
+          let f = pass.sent-marked p s rows codes t h from i marked in
+          passable-sound _ (field-passable f (marked-stamped _ marked) stamped-passable) (f .odd) (sent-right p s rows codes t h from none i)
       go false other =
           subst SoundPacket (sym (pass.sent-plain p s rows codes t h from i other))
           (passable-sound _ stamped-passable (pass.stamped-odd p s rows codes t h from none) (stamped-right p s rows codes t h from none))
@@ -72,10 +72,10 @@ module _ (p : Packet) (s : ℕ) (rows codes : List ℕ) (t : Setting) (h : Check
   pub sends-sound : (i : ℕ) → i < 6 → has (outcomeOf p s rows codes t .sent) i ≡ true → SoundPacket (packetOn (outcomeOf p s rows codes t) i)
   sends-sound i hi sent = sent-sound (sent-no-error p s rows codes t h from i hi sent) i
 
-  -- only MC has a second leg
-  leg-mc : (i : ℕ) → i < 6 → has (outcomeOf p s rows codes t .leg) i ≡ true → isMc (outcomeOf p s rows codes t .packet) ≡ true
+  -- only a packet with a mark has a second leg
+  leg-marked : (i : ℕ) → i < 6 → has (outcomeOf p s rows codes t .leg) i ≡ true → isMarked (outcomeOf p s rows codes t .packet .control) ≡ true
   unfolding outcomeOf decided
-  leg-mc i hi leg = go (hasLeg e q) refl
+  leg-marked i hi leg = go (hasLeg e q) refl
     where
       e : ℕ
       e = errorsOf p s (t .phase)
@@ -83,8 +83,8 @@ module _ (p : Packet) (s : ℕ) (rows codes : List ℕ) (t : Setting) (h : Check
       q : Packet
       q = stampedOf p s (errorsOf p s (t .phase)) (t .phase)
 
-      go : (b : Bool) → hasLeg e q ≡ b → isMc (stampedOf p s (errorsOf p s (t .phase)) (t .phase)) ≡ true
-      go true z = and-eq-true-iff (eqb e 0) (isMc q) .0 (and-eq-true-iff (eqb e 0 && isMc q) (eqb (markOf (q .control)) 1 || eqb (markOf (q .control)) 2) .0 z .0) .1
+      go : (b : Bool) → hasLeg e q ≡ b → isMarked (stampedOf p s (errorsOf p s (t .phase)) (t .phase) .control) ≡ true
+      go true z = and-eq-true-iff (eqb e 0) (isMarked (q .control)) .0 (and-eq-true-iff (eqb e 0 && isMarked (q .control)) (eqb (markOf (q .control)) 1 || eqb (markOf (q .control)) 2) .0 z .0) .1
       go false z =
           let none : legSet e q s ≡ 0 = ap (λ (b : Bool). cond b (2 ^ link (s + 5)) 0) z in
           absurd (false≢true (sym (has-set (λ j. has (legSet e q s) j && has (t .ready) j) i hi ∙ ap (λ (k : ℕ). has k i && has (t .ready) i) none ∙ simp has-none) ∙ leg))
@@ -93,6 +93,4 @@ module _ (p : Packet) (s : ℕ) (rows codes : List ℕ) (t : Setting) (h : Check
   legs-sound i hi leg =
       let f = pass.sent-leg p s rows codes t h from in
       let none = leg-no-error p s rows codes t h from i hi leg in
-      let zero : kindOf (outcomeOf p s rows codes t .packet .control) ≡ 0 = eqb-true _ _ (leg-mc i hi leg) in
-      let low : kindOf (outcomeOf p s rows codes t .packet .control) < 2 = omega arith in
-      passable-sound _ (field-passable f low stamped-passable) (f .odd) (leg-right p s rows codes t h from none)
+      passable-sound _ (field-passable f (marked-stamped _ (leg-marked i hi leg)) stamped-passable) (f .odd) (leg-right p s rows codes t h from none)

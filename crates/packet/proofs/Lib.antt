@@ -9,3 +9,4 @@ pub mod Refusals
 pub mod Rewrite
 pub mod RoundTrip
 pub mod Small
+pub mod Types

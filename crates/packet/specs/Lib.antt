@@ -4,4 +4,5 @@ pub mod Fields
 pub mod Packing
 pub mod Parity
 pub mod Refusal
+pub mod Types
 pub mod Whole

@@ -7,6 +7,7 @@ use native.Mathlib.Nat.{le-of-eq}
 use native.Mathlib.Omega.{arith}
 use Rattle.packet.specs.declared.Packet.{Packet}
 use Rattle.packet.specs.Control.{kindOf, stampOf}
+use Rattle.packet.proofs.Types.{same-stamped}
 use Rattle.steps.specs.declared.Setting.{Setting}
 use Rattle.steps.specs.Errors.{errorsOf}
 use Rattle.steps.specs.Deciding.{outcomeOf, Source, Checked}
@@ -32,7 +33,7 @@ pub record Ages (f n : ℕ) (x : Flight Tag) : Type 0 where
 
 -- so of a copy of such a packet
 pub aged-copy : {f n : ℕ} {x : Flight Tag} → Ages f n x → Stamped (x .tag .packet) → Aged f n x
-aged-copy ages low = ages .aged (omega (arith, ages .kind))
+aged-copy ages low = ages .aged (same-stamped _ _ (ages .kind) ∙ low)
 
 -- the links that it has crossed
 pub aged-crossing : (f n : ℕ) (x : Flight Tag) → Ages f n x → Stamped (x .tag .packet) → x .tag .crossed ≤ span f (x .tag .before) + 1
@@ -41,7 +42,7 @@ aged-crossing f n x ages low = let h = aged-copy ages low in omega (arith, h .cr
 module _ (f n : ℕ) (some : 0 < f) (p : Packet) (s : ℕ) (rows codes : List ℕ) (t : Setting) (h : Checked p s codes t) (from : Source s) (phase : t .phase ≡ code (n / f)) (tag : Tag) where
   -- what is sent has the type of what arrived
   low-before : (q : Packet) → SameStamp (outcomeOf p s rows codes t .packet) q → Stamped q → Stamped p
-  low-before q same low = omega (arith, same .kind, kind-kept p s rows codes t h from)
+  low-before q same low = same-stamped _ _ (sym (kind-kept p s rows codes t h from) ∙ sym (same .kind)) ∙ low
 
   -- in a round
   pub aged-sent : s < 6 → Ages f n (record { packet = p; tag = tag }) → Sends (Ages f (n + 1)) (outcomeOf p s rows codes t) (turned tag)

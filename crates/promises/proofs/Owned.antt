@@ -9,7 +9,9 @@ use lib.ListN.{getD}
 use borrow.Author.Tests.{eqb-true}
 use Rattle.packet.specs.declared.Packet.{Packet}
 use Rattle.packet.specs.Control.{kindOf, markOf}
+use Rattle.packet.specs.Types.{isMc}
 use Rattle.packet.specs.Parity.{isOdd}
+use Rattle.packet.proofs.Types.{mc-marked}
 use Rattle.tables.specs.declared.Found.{Found}
 use Rattle.tables.specs.declared.Found.the-variants.{At, Nothing}
 use Rattle.tables.specs.Rows.{rowsOf, firstMatch, routeOf, routeFor}
@@ -18,7 +20,7 @@ use Rattle.steps.specs.declared.Setting.{Setting}
 use Rattle.steps.specs.declared.Wanted.{Wanted}
 use Rattle.steps.specs.Errors.{flag, tooOld, wrongLength, badLocal, errorsOf}
 use Rattle.steps.specs.Wants.{wantedOf, kindWanted, matchWanted}
-use Rattle.steps.specs.Deciding.{isMc, decided, outcomeOf}
+use Rattle.steps.specs.Deciding.{decided, outcomeOf}
 use Rattle.kept.specs.Keeping.{dropCount}
 use Rattle.kept.specs.Counting.{countsOf, delivered, swallowed}
 use Rattle.kept.proofs.OnePass as pass
@@ -70,35 +72,35 @@ module _ (q : Packet) (s : ℕ) (rows codes : List ℕ) (t : Setting) where
       go false = refl
 
   -- a local packet without error is marked 00
-  not-local : errors ≡ 0 → isMc q ≡ true → eqb (markOf (q .control)) 2 ≡ true → eqb s 7 ≡ false
+  not-local : errors ≡ 0 → isMc (q .control) ≡ true → eqb (markOf (q .control)) 2 ≡ true → eqb s 7 ≡ false
   not-local none mc mark = go (eqb s 7) refl
     where
       go : (b : Bool) → eqb s 7 ≡ b → b ≡ false
       go false e = refl
       go true e =
           let two : markOf (q .control) ≡ 2 = eqb-true _ _ mark in
-          let bad : badLocal (q .control) s ≡ true = simp (e, mc, two) in
+          let bad : badLocal (q .control) s ≡ true = simp (e, mc-marked (q .control) mc, two) in
           absurd (false≢true (sym (pass.right q s (t .phase) none .local) ∙ bad))
 
-  pub missed-own : wantedOf errors q s rows codes t .missed ≡ flag (eqb s 7 && isMc q && eqb errors 0 && noRow (firstMatch (q .word) (rowsOf rows))) 1
+  pub missed-own : wantedOf errors q s rows codes t .missed ≡ flag (eqb s 7 && isMc (q .control) && eqb errors 0 && noRow (firstMatch (q .word) (rowsOf rows))) 1
   unfolding wantedOf
   missed-own = by-error (eqb errors 0) refl
     where
       row : Bool
       row = noRow (firstMatch (q .word) (rowsOf rows))
 
-      by-mark : errors ≡ 0 → isMc q ≡ true → (b : Bool) → eqb (markOf (q .control)) 2 ≡ b
+      by-mark : errors ≡ 0 → isMc (q .control) ≡ true → (b : Bool) → eqb (markOf (q .control)) 2 ≡ b
           → (cond {A = Wanted} b (record { set = 0; missed = 0 }) (matchWanted (routeOf (rowsOf rows) (firstMatch (q .word) (rowsOf rows))) (markOf (q .control)) s (t .monitor))) .missed
           ≡ flag (eqb s 7 && true && true && noRow (firstMatch (q .word) (rowsOf rows))) 1
       by-mark none mc true mark = simp (not-local none mc mark)
       by-mark none mc false mark = missed-row (firstMatch (q .word) (rowsOf rows)) (markOf (q .control))
 
-      by-kind : errors ≡ 0 → (b : Bool) → isMc q ≡ b → kindWanted (kindOf (q .control)) q s (routeFor (q .word) (rowsOf rows)) codes t .missed ≡ flag (eqb s 7 && isMc q && true && noRow (firstMatch (q .word) (rowsOf rows))) 1
+      by-kind : errors ≡ 0 → (b : Bool) → isMc (q .control) ≡ b → kindWanted (kindOf (q .control)) q s (routeFor (q .word) (rowsOf rows)) codes t .missed ≡ flag (eqb s 7 && isMc (q .control) && true && noRow (firstMatch (q .word) (rowsOf rows))) 1
       by-kind none true mc = simp mc (by-mark none mc (eqb (markOf (q .control)) 2) refl)
       by-kind none false other = simp (other, and-false)
 
-      by-error : (b : Bool) → eqb errors 0 ≡ b → wantedOf errors q s rows codes t .missed ≡ flag (eqb s 7 && isMc q && eqb errors 0 && noRow (firstMatch (q .word) (rowsOf rows))) 1
-      by-error true e = simp e (by-kind (eqb-true _ _ e) (isMc q) refl)
+      by-error : (b : Bool) → eqb errors 0 ≡ b → wantedOf errors q s rows codes t .missed ≡ flag (eqb s 7 && isMc (q .control) && eqb errors 0 && noRow (firstMatch (q .word) (rowsOf rows))) 1
+      by-error true e = simp e (by-kind (eqb-true _ _ e) (isMc (q .control)) refl)
       by-error false e = simp (e, and-false)
 
 -- ---- all ten
@@ -112,7 +114,7 @@ own p e =
     let b = bits (not (isOdd q)) (tooOld (q .control) s (p .setting .phase)) (wrongLength q) (badLocal (q .control) s) in
     let miss : p .outcome .missed ≡ flag (isMiss p) 1 =
     ap (λ (o : Outcome). o .missed) e ∙ missed-own q s (p .rows) (p .codes) (p .setting)
-    ∙ ap (λ (n : ℕ). flag (eqb s 7 && isMc q && eqb n 0 && noRow (firstMatch (q .word) (rowsOf (p .rows)))) 1) (sym errors-are) in
+    ∙ ap (λ (n : ℕ). flag (eqb s 7 && isMc (q .control) && eqb n 0 && noRow (firstMatch (q .word) (rowsOf (p .rows)))) 1) (sym errors-are) in
     λ i. 1 ∷ (ap (λ (n : ℕ). n % 2) errors-are ∙ b .0) i ∷ (ap (λ (n : ℕ). n / 2 % 2) errors-are ∙ b .1) i ∷ (ap (λ (n : ℕ). n / 4 % 2) errors-are ∙ b .2) i
     ∷ (ap (λ (n : ℕ). n / 8 % 2) errors-are ∙ b .3) i
     ∷ (ones (p .outcome .sent) + ones (p .outcome .leg))

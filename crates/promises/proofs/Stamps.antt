@@ -9,11 +9,12 @@ use lib.Dec.{eqb, ltb}
 use borrow.Author.Tests.{eq-eqb, ne-eqb, eqb-true, ltb-true, lt-ltb}
 use Rattle.packet.specs.declared.Packet.{Packet}
 use Rattle.packet.specs.Control.{kindOf, stampOf}
+use Rattle.packet.specs.Types.{isMarked, isStamped}
 use Rattle.packet.specs.Parity.{isOdd}
 use Rattle.packet.proofs.Rewrite.{stamp-set}
 use Rattle.steps.specs.declared.Setting.{Setting}
 use Rattle.steps.specs.Errors.{errorsOf, stampedOf, tooOld, wrongLength, badLocal, flag}
-use Rattle.steps.specs.Deciding.{isMc, decided, outcomeOf, packetOn, legPacket, Source, Checked}
+use Rattle.steps.specs.Deciding.{decided, outcomeOf, packetOn, legPacket, Source, Checked}
 use Rattle.kept.proofs.OnePass as pass
 use Rattle.links.specs.Line.{Flight}
 use Rattle.mesh.proofs.Fitting.{sent-no-error, leg-no-error}
@@ -40,10 +41,10 @@ second-flag a false c d e = absurd (omega (arith, flag-small a, flag-scaled c 4,
 
 module _ (p : Packet) (s : ℕ) (rows codes : List ℕ) (t : Setting) (h : Checked p s codes t) (from : Source s) where
   sent-kept : (i : ℕ) → SameStamp (outcomeOf p s rows codes t .packet) (packetOn (outcomeOf p s rows codes t) i)
-  sent-kept i = go (isMc (outcomeOf p s rows codes t .packet)) refl
+  sent-kept i = go (isMarked (outcomeOf p s rows codes t .packet .control)) refl
     where
-      go : (b : Bool) → isMc (outcomeOf p s rows codes t .packet) ≡ b → SameStamp (outcomeOf p s rows codes t .packet) (packetOn (outcomeOf p s rows codes t) i)
-      go true mc = let f = pass.sent-mc p s rows codes t h from i mc in record { kind = f .kind; stamp = f .beside }
+      go : (b : Bool) → isMarked (outcomeOf p s rows codes t .packet .control) ≡ b → SameStamp (outcomeOf p s rows codes t .packet) (packetOn (outcomeOf p s rows codes t) i)
+      go true marked = let f = pass.sent-marked p s rows codes t h from i marked in record { kind = f .kind; stamp = f .beside }
       go false other = subst (SameStamp (outcomeOf p s rows codes t .packet)) (sym (pass.sent-plain p s rows codes t h from i other)) (record { kind = refl; stamp = refl })
 
   leg-kept : SameStamp (outcomeOf p s rows codes t .packet) (legPacket (outcomeOf p s rows codes t))
@@ -76,12 +77,12 @@ module _ (p : Packet) (s : ℕ) (rows codes : List ℕ) (t : Setting) (h : Check
   stamp-local local none low = go (errorsOf p s (t .phase)) none
     where
       go : (e : ℕ) → e ≡ 0 → stampOf (stampedOf p s e (t .phase) .control) ≡ t .phase
-      go e z = simp (eq-eqb _ _ z, eq-eqb _ _ local, lt-ltb _ _ low) (stamp-set p (t .phase) (h .control) (omega (arith, h .phase)) .new)
+      go e z = simp (eq-eqb _ _ z, eq-eqb _ _ local, low) (stamp-set p (t .phase) (h .control) (omega (arith, h .phase)) .new)
 
   -- no error means that the stamp is not the phase with both bits flipped
   pub young : s < 6 → errorsOf p s (t .phase) ≡ 0 → Stamped p → ¬ (stampOf (p .control) ≡ 3 - t .phase)
   young near none low e =
-      let wrong : tooOld (p .control) s (t .phase) ≡ true = simp (lt-ltb _ _ near, lt-ltb _ _ low, eq-eqb _ _ e) in
+      let wrong : tooOld (p .control) s (t .phase) ≡ true = simp (lt-ltb _ _ near, low, eq-eqb _ _ e) in
       true≢false (sym wrong ∙ pass.right p s (t .phase) none .young)
 
   -- the age flag is set just where it is
@@ -89,6 +90,6 @@ module _ (p : Packet) (s : ℕ) (rows codes : List ℕ) (t : Setting) (h : Check
   unfolding outcomeOf decided
   old e =
       let found : tooOld (p .control) s (t .phase) ≡ true = second-flag (not (isOdd p)) (tooOld (p .control) s (t .phase)) (wrongLength p) (badLocal (p .control) s) e in
-      let parts = and-eq-true-iff (ltb s 6 && ltb (kindOf (p .control)) 2) (eqb (stampOf (p .control)) (3 - t .phase)) .0 found in
-      let near = and-eq-true-iff (ltb s 6) (ltb (kindOf (p .control)) 2) .0 (parts .0) in
-      (ltb-true _ _ (near .0), ltb-true _ _ (near .1), eqb-true _ _ (parts .1))
+      let parts = and-eq-true-iff (ltb s 6 && isStamped (p .control)) (eqb (stampOf (p .control)) (3 - t .phase)) .0 found in
+      let near = and-eq-true-iff (ltb s 6) (isStamped (p .control)) .0 (parts .0) in
+      (ltb-true _ _ (near .0), near .1, eqb-true _ _ (parts .1))

@@ -9,12 +9,14 @@ use lib.Dec.{eqb}
 use lib.ListN.{length, getD}
 use borrow.Author.Tests.{eqb-true}
 use Rattle.packet.specs.declared.Packet.{Packet}
-use Rattle.packet.specs.Control.{markOf, kindOf}
+use Rattle.packet.specs.Control.{markOf}
+use Rattle.packet.specs.Types.{isMarked}
+use Rattle.packet.proofs.Types.{same-marked}
 use Rattle.packet.proofs.Small.{every, at}
 use Rattle.steps.specs.declared.Outcome.{Outcome}
 use Rattle.steps.specs.declared.Setting.{Setting}
 use Rattle.steps.specs.Links.{has}
-use Rattle.steps.specs.Deciding.{isMc, decided, outcomeOf, markOn, packetOn, legPacket, Source, Checked}
+use Rattle.steps.specs.Deciding.{decided, outcomeOf, markOn, packetOn, legPacket, Source, Checked}
 use Rattle.kept.specs.Units.{weight, overLinks, weightSent}
 use Rattle.steps.proofs.Bounds.{outcome-sets}
 use Rattle.lists.proofs.Six.{six}
@@ -68,21 +70,21 @@ links-ones n h = eqb-true _ _ (at 64 bits-test refl n h)
 over-add : (f g : ℕ → ℕ) → overLinks (λ i. f i + g i) ≡ overLinks f + overLinks g
 over-add f g = omega arith
 
--- type and mark decide the weight
-weight-of : (q : Packet) (k m : ℕ) → kindOf (q .control) ≡ k → markOf (q .control) ≡ m → weight q ≡ cond (eqb k 0 && eqb m 1) 2 1
-weight-of q k m ek em = λ i. cond (eqb (ek i) 0 && eqb (em i) 1) 2 1
+-- whether there is a mark, and the mark, decide the weight
+weight-of : (q : Packet) (b : Bool) (m : ℕ) → isMarked (q .control) ≡ b → markOf (q .control) ≡ m → weight q ≡ cond (b && eqb m 1) 2 1
+weight-of q b m eb em = λ i. cond (eb i && eqb (em i) 1) 2 1
 
 module _ (p : Packet) (s : ℕ) (rows codes : List ℕ) (t : Setting) (h : Checked p s codes t) (from : Source s) where
-  -- only MC takes detours
-  no-detour : isMc (outcomeOf p s rows codes t .packet) ≡ false → outcomeOf p s rows codes t .carried ≡ 0
+  -- only a packet with a mark takes detours
+  no-detour : isMarked (outcomeOf p s rows codes t .packet .control) ≡ false → outcomeOf p s rows codes t .carried ≡ 0
   unfolding outcomeOf decided
   no-detour other = simp other
 
   on-weighs : (i : ℕ) → weight (packetOn (outcomeOf p s rows codes t) i) ≡ cond (eqb (markOn (outcomeOf p s rows codes t) i) 1) 2 1
-  on-weighs i = go (isMc (outcomeOf p s rows codes t .packet)) refl
+  on-weighs i = go (isMarked (outcomeOf p s rows codes t .packet .control)) refl
     where
-      go : (b : Bool) → isMc (outcomeOf p s rows codes t .packet) ≡ b → weight (packetOn (outcomeOf p s rows codes t) i) ≡ cond (eqb (markOn (outcomeOf p s rows codes t) i) 1) 2 1
-      go true mc = let f = pass.sent-mc p s rows codes t h from i mc in weight-of (packetOn (outcomeOf p s rows codes t) i) 0 (markOn (outcomeOf p s rows codes t) i) (f .kind ∙ eqb-true _ _ mc) (f .new)
+      go : (b : Bool) → isMarked (outcomeOf p s rows codes t .packet .control) ≡ b → weight (packetOn (outcomeOf p s rows codes t) i) ≡ cond (eqb (markOn (outcomeOf p s rows codes t) i) 1) 2 1
+      go true marked = let f = pass.sent-marked p s rows codes t h from i marked in weight-of (packetOn (outcomeOf p s rows codes t) i) true (markOn (outcomeOf p s rows codes t) i) (same-marked _ _ (f .kind) ∙ marked) (f .new)
       go false other =
           let plain : markOn (outcomeOf p s rows codes t) i ≡ 0 = simp (no-detour other, has-none) in
           ap weight (pass.sent-plain p s rows codes t h from i other) ∙ simp (other, plain)

@@ -7,6 +7,7 @@ use lib.Count.{ones, onesIn}
 use lib.Dec.{eqb}
 use Rattle.packet.specs.declared.Packet.{Packet}
 use Rattle.packet.specs.Bytes.{packedBytes, bytesIn}
+use Rattle.packet.specs.Types.{isMarked, isStamped}
 use Rattle.tables.specs.Rows.{rowsOf, firstMatch}
 use Rattle.tables.specs.Accept.{allRoutes, allCodes}
 use Rattle.router.specs.declared.Pass.{Pass}
@@ -122,5 +123,5 @@ table =
 
 -- every case of the table answers as it says
 pub known-passes : map (λ (c : Case). seen (c .given)) table ≡ map (λ (c : Case). c .answer) table
-unfolding table passOf checkedOf outcomeOf decided wantedOf rowsOf firstMatch allRoutes allCodes ones onesIn
+unfolding table passOf checkedOf outcomeOf decided isMarked isStamped wantedOf rowsOf firstMatch allRoutes allCodes ones onesIn
 known-passes = refl

@@ -1,12 +1,13 @@
 -- What a history tells: sums over its passes, the drops since a chip's registers were last read, the records of its log.
-use Prim.Native.Nat.{ℕ, _+_, _<_}
+use Prim.Native.Nat.{ℕ, _+_}
+use mathlib.Core.Path.{_≡_}
 use mathlib.Core.Bool.{Bool, true, false, cond, _&&_, not}
 use mathlib.Core.List.{List, [], _∷_, _++_, foldl, map}
 use lib.Count.{ones}
 use lib.Dec.{eqb}
 use lib.ListN.{getD}
 use Rattle.packet.specs.declared.Packet.{Packet}
-use Rattle.packet.specs.Control.{kindOf}
+use Rattle.packet.specs.Types.{isMc, isStamped}
 use Rattle.packet.specs.Parity.{isOdd}
 use Rattle.tables.specs.declared.Found.{Found}
 use Rattle.tables.specs.declared.Found.the-variants.{At, Nothing}
@@ -16,7 +17,6 @@ use Rattle.kept.specs.declared.Registers.{Registers}
 use Rattle.steps.specs.Links.{has}
 use Rattle.kept.specs.Keeping.{empty, withMore, dropCount}
 use Rattle.steps.specs.Errors.{flag, tooOld, wrongLength, badLocal}
-use Rattle.steps.specs.Deciding.{isMc}
 use Rattle.kept.specs.Counting.{delivered, swallowed}
 use Rattle.links.specs.Line.{Flight, Line}
 use Rattle.mesh.specs.Mesh.{Chip, Mesh}
@@ -27,9 +27,9 @@ use Rattle.promises.specs.History.{Passage, Event, passed, emptied}
 
 -- ---- copies
 
--- MC and P2P packets have a stamp and grow old.
+-- Packets that have a stamp grow old.
 abbrev pub Stamped : Packet → Type 0
-Stamped p = kindOf (p .control) < 2
+Stamped p = isStamped (p .control) ≡ true
 
 -- What holds of every packet in flight.
 abbrev pub EachFlight : {A : Type 0} → (Flight A → Type 0) → Mesh A → Type 0
@@ -55,7 +55,7 @@ noRow Nothing = true
 -- "A local miss is a local MC packet without error and without a matching row."
 abbrev pub isMiss : Passage → Bool
 isMiss p =
-    eqb (p .arrival .source) 7 && isMc (p .arrival .flight .packet) && eqb (p .outcome .errors) 0
+    eqb (p .arrival .source) 7 && isMc (p .arrival .flight .packet .control) && eqb (p .outcome .errors) 0
     && noRow (firstMatch (p .arrival .flight .packet .word) (rowsOf (p .rows)))
 
 -- What one pass adds to the history's own counts: passes, parity, age, length, bad local ("an error counter counts the passes that showed its

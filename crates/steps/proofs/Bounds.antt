@@ -1,4 +1,4 @@
--- Sets of links are below 64. Assumes nothing.
+-- Sets of links are below 64.
 use mathlib.Core.Bool.{Bool, true, false, cond, _&&_, not}
 use mathlib.Core.List.{List}
 use Prim.Native.Nat.{ℕ, _≤_, _<_}
@@ -6,6 +6,7 @@ use native.Mathlib.Nat.{le-refl}
 use native.Mathlib.Omega.{arith}
 use lib.Dec.{lit<}
 use Rattle.packet.specs.declared.Packet.{Packet}
+use Rattle.packet.specs.Types.{isMarked}
 use Rattle.steps.specs.declared.Setting.{Setting}
 use Rattle.steps.specs.declared.Wanted.{Wanted}
 use Rattle.steps.specs.declared.Outcome.{Outcome}
@@ -13,7 +14,7 @@ use Rattle.steps.specs.Links.{has, setOf, linksOf}
 use Rattle.steps.specs.Detour.{carries, sends, drops}
 use Rattle.steps.specs.Errors.{errorsOf, stampedOf}
 use Rattle.steps.specs.Wants.{wantedOf}
-use Rattle.steps.specs.Deciding.{isMc, legSet, decided, outcomeOf}
+use Rattle.steps.specs.Deciding.{legSet, decided, outcomeOf}
 
 bit-small : (b : Bool) (n : ℕ) → cond b n 0 ≤ n
 bit-small true n = le-refl n
@@ -43,9 +44,9 @@ decided-sets errors p source w ready =
     let l = linksOf (w .set) in
     let g = legSet errors p source in
     record {
-      sent = either-small (isMc p) (sends l ready) (λ i. has l i && has ready i);
-      carried = maybe-small (isMc p) (carries l ready);
-      dropped = either-small (isMc p) (drops l ready) (λ i. has l i && not (has ready i));
+      sent = either-small (isMarked (p .control)) (sends l ready) (λ i. has l i && has ready i);
+      carried = maybe-small (isMarked (p .control)) (carries l ready);
+      dropped = either-small (isMarked (p .control)) (drops l ready) (λ i. has l i && not (has ready i));
       leg = set-small (λ i. has g i && has ready i);
       lost = set-small (λ i. has g i && not (has ready i));
     }

@@ -1,11 +1,12 @@
--- The wanted set takes nothing from the rows but for a packet that goes by them, so that they need not be searched for any other. Assumes nothing.
+-- The wanted set takes nothing from the rows but for a packet that goes by them, so that they need not be searched for any other.
 use mathlib.Core.Path.{_≡_, refl, ap, _∙_}
 use mathlib.Core.Bool.{Bool, true, false, cond}
 use mathlib.Core.List.{List}
 use Prim.Native.Nat.{ℕ}
 use lib.Dec.{eqb}
 use Rattle.packet.specs.declared.Packet.{Packet}
-use Rattle.packet.specs.Control.{kindOf, markOf}
+use Rattle.packet.specs.Control.{markOf}
+use Rattle.packet.specs.Types.{isMc}
 use Rattle.tables.specs.declared.Matched.{Matched}
 use Rattle.tables.specs.declared.Matched.the-variants.{Missed}
 use Rattle.tables.specs.Rows.{rowsOf, routeFor}
@@ -13,7 +14,7 @@ use Rattle.steps.specs.declared.Setting.{Setting}
 use Rattle.steps.specs.Wants.{wantedGiven, wantedOf, byRows}
 
 module _ (errors : ℕ) (p : Packet) (source : ℕ) (rows codes : List ℕ) (t : Setting) where
-  found-or-missed : (a b c : Bool) → eqb errors 0 ≡ a → eqb (kindOf (p .control)) 0 ≡ b → eqb (markOf (p .control)) 2 ≡ c
+  found-or-missed : (a b c : Bool) → eqb errors 0 ≡ a → isMc (p .control) ≡ b → eqb (markOf (p .control)) 2 ≡ c
       → wantedGiven errors p source (cond (byRows errors (p .control)) (routeFor (p .word) (rowsOf rows)) Missed) codes t
       ≡ wantedOf errors p source rows codes t
   unfolding wantedOf
@@ -26,4 +27,4 @@ module _ (errors : ℕ) (p : Packet) (source : ℕ) (rows codes : List ℕ) (t :
       → wantedGiven errors p source found codes t ≡ wantedOf errors p source rows codes t
   wanted-by-rows goes found e f =
       ap (λ (m : Matched). wantedGiven errors p source m codes t) (f ∙ ap (λ (b : Bool). cond b (routeFor (p .word) (rowsOf rows)) Missed) e)
-      ∙ found-or-missed (eqb errors 0) (eqb (kindOf (p .control)) 0) (eqb (markOf (p .control)) 2) refl refl refl
+      ∙ found-or-missed (eqb errors 0) (isMc (p .control)) (eqb (markOf (p .control)) 2) refl refl refl

@@ -1,11 +1,12 @@
--- The errors that depend on where a packet came from: at most one of the two can show. Assumes nothing.
+-- The errors that depend on where a packet came from: at most one of the two can show.
 use mathlib.Core.Path.{_≡_, sym, ap, _∙_}
 use mathlib.Core.Bool.{Bool, false, _&&_, not}
 use Prim.Native.Nat.{ℕ, _+_}
 use native.Mathlib.Nat.{zero-add, add-zero}
 use borrow.Author.Tests.{ne-eqb}
 use lib.Dec.{eqb}
-use Rattle.packet.specs.Control.{kindOf, markOf}
+use Rattle.packet.specs.Control.{markOf}
+use Rattle.packet.specs.Types.{isMarked}
 use Rattle.steps.specs.Errors.{tooOld, badLocal, flag}
 
 module _ (control source phase : ℕ) where
@@ -16,5 +17,5 @@ module _ (control source phase : ℕ) where
 
   pub link-errors : (source ≡ 7 → ⊥) → flag (tooOld control source phase) 2 ≡ flag (tooOld control source phase) 2 + flag (badLocal control source) 8
   link-errors n =
-      let fine : badLocal control source ≡ false = ap (λ (b : Bool). b && eqb (kindOf control) 0 && not (eqb (markOf control) 0)) (ne-eqb source 7 n) in
+      let fine : badLocal control source ≡ false = ap (λ (b : Bool). b && isMarked control && not (eqb (markOf control) 0)) (ne-eqb source 7 n) in
       sym (ap (λ (b : Bool). flag (tooOld control source phase) 2 + flag b 8) fine ∙ add-zero _)

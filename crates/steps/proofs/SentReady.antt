@@ -3,17 +3,18 @@ use mathlib.Core.Path.{_≡_, sym, _∙_}
 use mathlib.Core.Bool.{Bool, true, false, cond, _&&_, _||_, and-eq-true-iff}
 use Prim.Native.Nat.{ℕ, _<_}
 use Rattle.packet.specs.declared.Packet.{Packet}
+use Rattle.packet.specs.Types.{isMarked}
 use Rattle.steps.specs.declared.Wanted.{Wanted}
 use Rattle.steps.specs.Links.{has, setOf, linksOf}
 use Rattle.steps.specs.Detour.{carries, sends}
-use Rattle.steps.specs.Deciding.{isMc, legSet, decided}
+use Rattle.steps.specs.Deciding.{legSet, decided}
 use Rattle.steps.proofs.Sets.{has-set}
 
 -- a link that a pass sends by is in its ready set
 module _ (e : ℕ) (p : Packet) (s : ℕ) (w : Wanted) (ready : ℕ) (i : ℕ) (hi : i < 6) where
   pub sent-ready : has (decided e p s w ready .sent) i ≡ true → has ready i ≡ true
   unfolding decided
-  sent-ready = go (isMc p)
+  sent-ready = go (isMarked (p .control))
     where
       go : (b : Bool) → has (cond b (setOf (sends (linksOf (w .set)) ready)) (setOf (λ j. has (linksOf (w .set)) j && has ready j))) i ≡ true → has ready i ≡ true
       go true h =

@@ -1,5 +1,5 @@
 -- Every wanted link is sent to, carried by a detour, or dropped, exactly one of the three; and a ready link is sent to. Computed for every
--- wanted and ready set. Assumes nothing.
+-- wanted and ready set.
 use mathlib.Core.Path.{_≡_, refl}
 use mathlib.Core.Bool.{Bool, true, false, cond, _&&_, _||_, not, and-eq-true-iff}
 use mathlib.Core.List.{List}
@@ -8,6 +8,7 @@ use native.Mathlib.Nat.{mod-lt}
 use lib.Dec.{eqb, lit<}
 use borrow.Author.Tests.{eqb-true}
 use Rattle.packet.specs.declared.Packet.{Packet}
+use Rattle.packet.specs.Types.{isMarked}
 use Rattle.packet.proofs.Small.{every, at, every₂, at₂}
 use Rattle.steps.specs.declared.Setting.{Setting}
 use Rattle.steps.specs.declared.Wanted.{Wanted}
@@ -15,7 +16,7 @@ use Rattle.steps.specs.Links.{has, linksOf, link}
 use Rattle.steps.specs.Detour.{carrySet, sendSet, dropSet, plainSendSet, plainDropSet}
 use Rattle.steps.specs.Errors.{errorsOf, stampedOf, flag}
 use Rattle.steps.specs.Wants.{wantedOf}
-use Rattle.steps.specs.Deciding.{isMc, decided, outcomeOf}
+use Rattle.steps.specs.Deciding.{decided, outcomeOf}
 
 -- the three ways of link i, counted: link i sends, the link before it carries its detour, it is dropped for
 abbrev pub waysOf : ℕ → ℕ → ℕ → ℕ → ℕ
@@ -52,7 +53,7 @@ one-way w r sent carried dropped i test wanted =
 module _ (e : ℕ) (p : Packet) (s : ℕ) (w : Wanted) (ready i : ℕ) (hr : ready < 64) (hi : i < 6) (wanted : has (linksOf (w .set)) i ≡ true) where
   decided-way : OneWay (decided e p s w ready .sent) (decided e p s w ready .carried) (decided e p s w ready .dropped) ready i
   unfolding decided detourTest plainTest
-  decided-way = go (isMc p)
+  decided-way = go (isMarked (p .control))
     where
       l : ℕ
       l = linksOf (w .set)

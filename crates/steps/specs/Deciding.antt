@@ -8,7 +8,8 @@ use lib.Dec.{eqb}
 use lib.ListN.{length}
 use Rattle.packet.specs.declared.Packet.{Packet}
 use Rattle.packet.specs.Bytes.{nothing}
-use Rattle.packet.specs.Control.{kindOf, markOf}
+use Rattle.packet.specs.Control.{markOf}
+use Rattle.packet.specs.Types.{isMarked}
 use Rattle.packet.specs.Parity.{withMark}
 use Rattle.steps.specs.declared.Setting.{Setting}
 use Rattle.steps.specs.declared.Wanted.{Wanted}
@@ -18,12 +19,9 @@ use Rattle.steps.specs.Detour.{carrySet, sendSet, dropSet, plainSendSet,
 use Rattle.steps.specs.Errors.{errorsOf, stampedOf}
 use Rattle.steps.specs.Wants.{wantedOf}
 
-abbrev pub isMc : Packet → Bool
-isMc p = eqb (kindOf (p .control)) 0
-
 -- Step 4: "MC marked 01 or 10 also has a second leg on link (source-1) mod 6." A packet in error has none. Source + 5 is source - 1.
 abbrev pub hasLeg : ℕ → Packet → Bool
-hasLeg errors p = eqb errors 0 && isMc p && (eqb (markOf (p .control)) 1 || eqb (markOf (p .control)) 2)
+hasLeg errors p = eqb errors 0 && isMarked (p .control) && (eqb (markOf (p .control)) 1 || eqb (markOf (p .control)) 2)
 
 abbrev pub legSet : ℕ → Packet → ℕ → ℕ
 legSet errors p source = cond (hasLeg errors p) (2 ^ link (source + 5)) 0
@@ -37,9 +35,9 @@ decided errors p source w ready =
       packet = p;
       wanted = w .set;
       missed = w .missed;
-      sent = cond (isMc p) (sendSet (linksOf (w .set)) ready) (plainSendSet (linksOf (w .set)) ready);
-      carried = cond (isMc p) (carrySet (linksOf (w .set)) ready) 0;
-      dropped = cond (isMc p) (dropSet (linksOf (w .set)) ready) (plainDropSet (linksOf (w .set)) ready);
+      sent = cond (isMarked (p .control)) (sendSet (linksOf (w .set)) ready) (plainSendSet (linksOf (w .set)) ready);
+      carried = cond (isMarked (p .control)) (carrySet (linksOf (w .set)) ready) 0;
+      dropped = cond (isMarked (p .control)) (dropSet (linksOf (w .set)) ready) (plainDropSet (linksOf (w .set)) ready);
       leg = plainSendSet (legSet errors p source) ready;
       lost = plainDropSet (legSet errors p source) ready;
     }
@@ -60,7 +58,7 @@ markOn o i = cond (has (o .carried) i) (cond (has (linksOf (o .wanted)) i) 1 2) 
 
 -- What link i sends in step 5 or 7.
 abbrev pub packetOn : Outcome → ℕ → Packet
-packetOn o i = cond (isMc (o .packet)) (withMark (o .packet) (markOn o i)) (o .packet)
+packetOn o i = cond (isMarked (o .packet .control)) (withMark (o .packet) (markOn o i)) (o .packet)
 
 -- What the second leg's link sends.
 abbrev pub legPacket : Outcome → Packet

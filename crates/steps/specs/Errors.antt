@@ -3,12 +3,13 @@ use Prim.Native.Nat.{ℕ, _+_, _-_}
 use mathlib.Core.Bool.{Bool, cond, _&&_, not}
 use lib.Dec.{eqb, ltb}
 use Rattle.packet.specs.declared.Packet.{Packet}
-use Rattle.packet.specs.Control.{kindOf, markOf, stampOf, carriesOf}
+use Rattle.packet.specs.Control.{markOf, stampOf, carriesOf}
+use Rattle.packet.specs.Types.{isMarked, isStamped}
 use Rattle.packet.specs.Parity.{isOdd, withStamp}
 
 -- "Too old (source below 6, MC or P2P)"; "a stamp is too old when it equals the phase with both bits flipped."
 abbrev pub tooOld : ℕ → ℕ → ℕ → Bool
-tooOld control source phase = ltb source 6 && ltb (kindOf control) 2 && eqb (stampOf control) (3 - phase)
+tooOld control source phase = ltb source 6 && isStamped control && eqb (stampOf control) (3 - phase)
 
 -- "Length disagreeing with bit 1".
 abbrev pub wrongLength : Packet → Bool
@@ -16,7 +17,7 @@ wrongLength p = not (eqb (carriesOf (p .control)) (p .nine))
 
 -- "Bad local (source 7, MC, mark not 00)".
 abbrev pub badLocal : ℕ → ℕ → Bool
-badLocal control source = eqb source 7 && eqb (kindOf control) 0 && not (eqb (markOf control) 0)
+badLocal control source = eqb source 7 && isMarked control && not (eqb (markOf control) 0)
 
 abbrev pub flag : Bool → ℕ → ℕ
 flag b n = cond b n 0
@@ -28,4 +29,4 @@ errorsOf p source phase =
 
 -- "A local MC or P2P packet without error is stamped with the phase." "A packet in error goes, as it came".
 abbrev pub stampedOf : Packet → ℕ → ℕ → ℕ → Packet
-stampedOf p source errors phase = cond (eqb errors 0 && eqb source 7 && ltb (kindOf (p .control)) 2) (withStamp p phase) p
+stampedOf p source errors phase = cond (eqb errors 0 && eqb source 7 && isStamped (p .control)) (withStamp p phase) p

@@ -5,6 +5,7 @@ use mathlib.Core.List.{List}
 use lib.Dec.{eqb, ltb}
 use Rattle.packet.specs.declared.Packet.{Packet}
 use Rattle.packet.specs.Control.{kindOf, markOf, routeOf}
+use Rattle.packet.specs.Types.{isMc}
 use Rattle.tables.specs.declared.Matched.{Matched}
 use Rattle.tables.specs.declared.Matched.the-variants.{Route, Missed}
 use Rattle.tables.specs.Rows.{rowsOf, routeFor}
@@ -59,4 +60,4 @@ wantedOf errors p source rows codes t = wantedGiven errors p source (routeFor (p
 
 -- Whom the rows concern: an MC packet without error and not marked 10.
 abbrev pub byRows : ℕ → ℕ → Bool
-byRows errors control = eqb errors 0 && eqb (kindOf control) 0 && not (eqb (markOf control) 2)
+byRows errors control = eqb errors 0 && isMc control && not (eqb (markOf control) 2)

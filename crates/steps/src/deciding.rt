@@ -14,7 +14,7 @@ use super::wants::by_rows;
 use super::wants::looked_up;
 use super::wants::wanted_given;
 use packet::Packet;
-use packet::control::kind_of;
+use packet::control::is_marked;
 use packet::control::mark_of;
 use packet::parity::with_mark;
 ghost use mathlib.Core.Path.{_≡_};
@@ -64,7 +64,7 @@ pub fn packet_on(o: Outcome, i: u32) -> Packet
     ensures { λ r. ⌜ r ≡ packetOn o i ⌝ }
 {
     let p = o.packet;
-    if kind_of(p.control) == 0 {
+    if is_marked(p.control) {
         with_mark(p, mark_on(o, i))
     } else {
         p
@@ -93,7 +93,7 @@ pub fn decide(errors: u32, p: Packet, source: u32, w: Wanted, ready: u32) -> Out
 {
     let leg = leg_set(errors, p, source);
     let links = w.set % 64;
-    if kind_of(p.control) == 0 {
+    if is_marked(p.control) {
         Outcome {
             errors,
             packet: p,
@@ -134,9 +134,7 @@ fn mark_on(o: Outcome, i: u32) -> u32
 fn has_leg(errors: u32, p: Packet) -> bool
     ensures { λ r. ⌜ r ≡ hasLeg errors p ⌝ }
 {
-    (errors == 0)
-        & (kind_of(p.control) == 0)
-        & ((mark_of(p.control) == 1) | (mark_of(p.control) == 2))
+    (errors == 0) & is_marked(p.control) & ((mark_of(p.control) == 1) | (mark_of(p.control) == 2))
 }
 
 fn leg_set(errors: u32, p: Packet, source: u32) -> u32

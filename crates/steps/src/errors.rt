@@ -1,7 +1,8 @@
 // The errors of a packet, and the stamping of a local one.
 use packet::Packet;
 use packet::control::carries_of;
-use packet::control::kind_of;
+use packet::control::is_marked;
+use packet::control::is_stamped;
 use packet::control::mark_of;
 use packet::control::stamp_of;
 use packet::parity::is_odd;
@@ -20,7 +21,7 @@ pub fn errors_of(p: Packet, source: u32, phase: u32) -> u32
 pub fn stamped_of(p: Packet, source: u32, errors: u32, phase: u32) -> Packet
     ensures { λ r. ⌜ r ≡ stampedOf p source errors phase ⌝ }
 {
-    if (errors == 0) & (source == 7) & (kind_of(p.control) < 2) {
+    if (errors == 0) & (source == 7) & is_stamped(p.control) {
         with_stamp(p, phase)
     } else {
         p
@@ -49,7 +50,7 @@ fn too_old(control: u32, source: u32, phase: u32) -> bool
     requires { ⌜ phase ≤ 3 ⌝ }
     ensures { λ r. ⌜ r ≡ tooOld control source phase ⌝ }
 {
-    (source < 6) & (kind_of(control) < 2) & (stamp_of(control) == 3 - phase)
+    (source < 6) & is_stamped(control) & (stamp_of(control) == 3 - phase)
 }
 
 fn wrong_length(p: Packet) -> bool
@@ -61,5 +62,5 @@ fn wrong_length(p: Packet) -> bool
 fn bad_local(control: u32, source: u32) -> bool
     ensures { λ r. ⌜ r ≡ badLocal control source ⌝ }
 {
-    (source == 7) & (kind_of(control) == 0) & (mark_of(control) != 0)
+    (source == 7) & is_marked(control) & (mark_of(control) != 0)
 }

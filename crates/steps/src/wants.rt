@@ -2,6 +2,7 @@
 use super::Setting;
 use super::Wanted;
 use packet::Packet;
+use packet::control::is_mc;
 use packet::control::kind_of;
 use packet::control::mark_of;
 use packet::control::route_of;
@@ -21,7 +22,7 @@ ghost use Rattle.steps.specs.Wants.{wants, missWanted, matchWanted, mark
 pub fn by_rows(errors: u32, control: u32) -> bool
     ensures { λ r. ⌜ r ≡ byRows errors control ⌝ }
 {
-    (errors == 0) & (kind_of(control) == 0) & (mark_of(control) != 2)
+    (errors == 0) & is_mc(control) & (mark_of(control) != 2)
 }
 
 // What the rows say to a key, where it is to be looked up. It is a step of its own, and small, so that the compiler puts it in

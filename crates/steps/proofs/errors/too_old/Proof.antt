@@ -2,8 +2,8 @@ use borrow.Author.Needs.{needs}
 use Rattle.steps.proofs.errors.too_old.Statement.{statement}
 use Rattle.steps.proofs.errors.too_old.Tie as tie
 
-kind-of-requires : tie.Need-kind-of-requires
-kind-of-requires c κs = search needs
+is-stamped-requires : tie.Need-is-stamped-requires
+is-stamped-requires c κs = search needs
 
 stamp-of-requires : tie.Need-stamp-of-requires
 stamp-of-requires c κs = search needs
@@ -12,7 +12,7 @@ sub-result : tie.Need-sub-result
 sub-result c = search needs
 
 returns : tie.Need-returns
-returns c = simp (c .before .kind-of .ensures, c .stamp-of .ensures)
+returns c = simp (c .before .is-stamped .ensures, c .stamp-of .ensures)
 
 pub too-old-spec : {M : Type 1} → statement M
-too-old-spec = tie.close (tie.spec kind-of-requires stamp-of-requires sub-result returns)
+too-old-spec = tie.close (tie.spec is-stamped-requires stamp-of-requires sub-result returns)
