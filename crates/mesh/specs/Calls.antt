@@ -18,7 +18,7 @@ use Rattle.mesh.specs.declared.LinkRead.{LinkRead}
 use Rattle.mesh.specs.declared.FlightRead.{FlightRead}
 use Rattle.links.specs.Line.{Flight, Line, idle, isReady}
 use Rattle.mesh.specs.Mesh.{Chip, Mesh, fresh}
-use Rattle.mesh.specs.Steps.{Tables, Going, withChip, injected, rounded}
+use Rattle.mesh.specs.Steps.{Tables, Going, setOut, withChip, injected, rounded}
 use Rattle.mesh.specs.Weights.{inFlight}
 
 -- ---- refusals: "Order: 8, 7, 9, 6, 5, 11, 10, 1, 2, 3, 4, those that apply to the call". `holds` says whether the buffer holds a mesh.
@@ -114,14 +114,14 @@ module _ {A : Type 0} where
   -- "A link change sets the one directed link it names up or down, as asked, and nothing else".
   abbrev pub linking : Bool → Mesh A → ℕ → ℕ → Bool → Left A
   linking holds m chip link up =
-      unless (firstOf (linkRefusals holds (many m) chip link)) m (record { mesh = withLink m chip link up; log = [] })
+      unless (firstOf (linkRefusals holds (many m) chip link)) m (setOut (withLink m chip link up))
 
   abbrev pub withEmpty : Mesh A → ℕ → Mesh A
   withEmpty m chip = let c = chipOf m chip in withChip m chip (record { registers = empty; counters = c .counters; lines = c .lines })
 
   -- "Reading hands them over and empties them; empty ones are all zeros."
   abbrev pub emptying : Bool → Mesh A → ℕ → Left A
-  emptying holds m chip = unless (firstOf (chipRefusals holds (many m) chip)) m (record { mesh = withEmpty m chip; log = [] })
+  emptying holds m chip = unless (firstOf (chipRefusals holds (many m) chip)) m (setOut (withEmpty m chip))
 
   abbrev pub registersRead : Bool → Mesh A → ℕ → RegistersRead
   registersRead holds m chip =

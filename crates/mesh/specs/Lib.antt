@@ -1,3 +1,5 @@
+pub mod Aside
+pub mod Asked
 pub mod Calls
 pub mod Mesh
 pub mod Sound

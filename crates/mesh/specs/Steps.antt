@@ -56,6 +56,10 @@ abbrev pub same : Unit {0} → Unit {0}
 same u = u
 
 module _ {A : Type 0} where
+  -- A mesh that sets out: nothing is logged yet.
+  abbrev pub setOut : Mesh A → Going A
+  setOut m = record { mesh = m; log = [] }
+
   -- ---- one pass
 
   abbrev pub settingAt : Mesh A → Chip A → Setting
@@ -142,10 +146,10 @@ module _ {A : Type 0} where
 
     -- "Injection passes a local packet at once."
     abbrev pub injected : Mesh A → ℕ → Flight A → Going A
-    injected m chip f = passAt (record { mesh = m; log = [] }) (record { chip = chip; source = 7; flight = f })
+    injected m chip f = passAt (setOut m) (record { chip = chip; source = 7; flight = f })
 
     abbrev pub passed : Mesh A → Going A
-    passed m = foldl passAt (record { mesh = setAside m; log = [] }) (arrivals m)
+    passed m = foldl passAt (setOut (setAside m)) (arrivals m)
 
     abbrev pub rounded : Mesh A → Going A
     rounded m = record { mesh = roundOver (passed m .mesh); log = passed m .log }

@@ -1,5 +1,5 @@
 -- What is known of a call that is accepted: the numbers that it names are there, its tables are for this mesh, its packet may pass; and the
--- state that it leaves, by the kind of the call. Assumes nothing.
+-- state that it leaves, by the kind of the call.
 use mathlib.Core.Path.{_≡_, refl, ap, _∙_}
 use mathlib.Core.Bool.{Bool, true, false, cond, and-eq-true-iff}
 use mathlib.Core.List.{List, [], _∷_, _++_, append-nil}
@@ -11,13 +11,13 @@ use Rattle.packet.specs.Bytes.{packetAt}
 use Rattle.packet.specs.Refusal.{firstOf}
 use Rattle.packet.proofs.First.{none-applies}
 use Rattle.mesh.specs.Mesh.{Mesh}
-use Rattle.mesh.specs.Steps.{Tables, Arrival, Going, setAside, arrivals, injected, rounded}
+use Rattle.mesh.specs.Steps.{Tables, Arrival, Going, setOut, setAside, arrivals, injected, rounded}
 use Rattle.mesh.specs.Calls.{Left, many, unless, withLink, withEmpty, injectRefusals, roundRefusals, chipRefusals, linkRefusals}
 use Rattle.mesh.specs.Weights.{inFlight}
 use Rattle.mesh.specs.Sound.{Passable}
 use Rattle.mesh.proofs.SoundSteps.{CodesFor}
 use Rattle.mesh.proofs.Accepts.{inject-goes, round-goes}
-use Rattle.promises.specs.Asked.{Call, inject, round, setLink, readRegisters, readCounter, lookMesh, lookLink, lookFlight, leftBy}
+use Rattle.mesh.specs.Asked.{Look, Call, inject, round, setLink, readRegisters, change, look, leftBy}
 use Rattle.promises.specs.History.{Tag, State, Event, emptied, turned, tagOf, tagNow, passages, accepted}
 
 -- ---- the tests that have passed
@@ -70,7 +70,7 @@ module _ (s : State) where
         mesh = injected t turned (s .mesh) chip (arrivalNow chip bytes .flight) .mesh;
         injections = s .injections + 1;
         rounds = s .rounds;
-        events = s .events ++ passages t (s .rounds) (record { mesh = s .mesh; log = [] }) (arrivalNow chip bytes ∷ []);
+        events = s .events ++ passages t (s .rounds) (setOut (s .mesh)) (arrivalNow chip bytes ∷ []);
         log = s .log ++ injected t turned (s .mesh) chip (arrivalNow chip bytes .flight) .log;
       }
 
@@ -80,7 +80,7 @@ module _ (s : State) where
         mesh = rounded t turned (s .mesh) .mesh;
         injections = s .injections;
         rounds = s .rounds + 1;
-        events = s .events ++ passages t (s .rounds) (record { mesh = setAside (s .mesh); log = [] }) (arrivals (s .mesh));
+        events = s .events ++ passages t (s .rounds) (setOut (setAside (s .mesh))) (arrivals (s .mesh));
         log = s .log ++ rounded t turned (s .mesh) .log;
       }
 
@@ -99,18 +99,18 @@ module _ (s : State) where
   abbrev plainly : Mesh Tag → List Event → List ℕ → ℕ → ℕ → State
   plainly m events log i r = record { mesh = m; injections = i; rounds = r; events = events; log = log }
 
-  pub inject-leaves : (chip : ℕ) (bytes : List ℕ) (t : Tables) (room : ℕ) → here (inject chip bytes t room) .refusal ≡ 0
-      → accepted s (here (inject chip bytes t room)) (inject chip bytes t room) ≡ afterInjection chip bytes t
+  pub inject-leaves : (chip : ℕ) (bytes : List ℕ) (t : Tables) (room : ℕ) → here (change (inject chip bytes t room)) .refusal ≡ 0
+      → accepted s (here (change (inject chip bytes t room))) (change (inject chip bytes t room)) ≡ afterInjection chip bytes t
   inject-leaves chip bytes t room e =
       let k = afterInjection chip bytes t in
-      ap (λ (r : Left Tag). accepted s r (inject chip bytes t room))
+      ap (λ (r : Left Tag). accepted s r (change (inject chip bytes t room)))
       (unless-leaves (firstOf (injectRefusals true (many (s .mesh)) chip t room bytes)) (s .mesh) (injected t turned (s .mesh) chip (arrivalNow chip bytes .flight)) e)
       ∙ ap (λ (n : ℕ). plainly (k .mesh) (k .events) (k .log) (s .injections + 1) n) (add-zero (s .rounds))
 
-  pub round-leaves : (t : Tables) (room : ℕ) → here (round t room) .refusal ≡ 0 → accepted s (here (round t room)) (round t room) ≡ afterRound t
+  pub round-leaves : (t : Tables) (room : ℕ) → here (change (round t room)) .refusal ≡ 0 → accepted s (here (change (round t room))) (change (round t room)) ≡ afterRound t
   round-leaves t room e =
       let k = afterRound t in
-      ap (λ (r : Left Tag). accepted s r (round t room))
+      ap (λ (r : Left Tag). accepted s r (change (round t room)))
       (unless-leaves (firstOf (roundRefusals true (many (s .mesh)) (inFlight (s .mesh)) t room)) (s .mesh) (rounded t turned (s .mesh)) e)
       ∙ ap (λ (n : ℕ). plainly (k .mesh) (k .events) (k .log) n (s .rounds + 1)) (add-zero (s .injections))
 
@@ -124,27 +124,17 @@ module _ (s : State) where
       → plainly m (s .events ++ []) (s .log ++ []) (s .injections + 0) (s .rounds + 0) ≡ plainly m (s .events) (s .log) (s .injections) (s .rounds)
   quiet m = still m (s .events ++ []) ∙ ap (λ (events : List Event). plainly m events (s .log) (s .injections) (s .rounds)) (append-nil (s .events))
 
-  pub link-leaves : (chip link : ℕ) (up : Bool) → here (setLink chip link up) .refusal ≡ 0 → accepted s (here (setLink chip link up)) (setLink chip link up) ≡ afterLink chip link up
+  pub link-leaves : (chip link : ℕ) (up : Bool) → here (change (setLink chip link up)) .refusal ≡ 0 → accepted s (here (change (setLink chip link up))) (change (setLink chip link up)) ≡ afterLink chip link up
   link-leaves chip link up e =
-      ap (λ (r : Left Tag). accepted s r (setLink chip link up))
-      (unless-leaves (firstOf (linkRefusals true (many (s .mesh)) chip link)) (s .mesh) (record { mesh = withLink (s .mesh) chip link up; log = [] }) e)
+      ap (λ (r : Left Tag). accepted s r (change (setLink chip link up)))
+      (unless-leaves (firstOf (linkRefusals true (many (s .mesh)) chip link)) (s .mesh) (setOut (withLink (s .mesh) chip link up)) e)
       ∙ quiet (withLink (s .mesh) chip link up)
 
-  pub read-leaves : (chip : ℕ) → here (readRegisters chip) .refusal ≡ 0 → accepted s (here (readRegisters chip)) (readRegisters chip) ≡ afterRead chip
+  pub read-leaves : (chip : ℕ) → here (change (readRegisters chip)) .refusal ≡ 0 → accepted s (here (change (readRegisters chip))) (change (readRegisters chip)) ≡ afterRead chip
   read-leaves chip e =
-      ap (λ (r : Left Tag). accepted s r (readRegisters chip))
-      (unless-leaves (firstOf (chipRefusals true (many (s .mesh)) chip)) (s .mesh) (record { mesh = withEmpty (s .mesh) chip; log = [] }) e)
+      ap (λ (r : Left Tag). accepted s r (change (readRegisters chip)))
+      (unless-leaves (firstOf (chipRefusals true (many (s .mesh)) chip)) (s .mesh) (setOut (withEmpty (s .mesh) chip)) e)
       ∙ still (withEmpty (s .mesh) chip) (s .events ++ emptied chip ∷ [])
 
-  -- the calls that only look
-  pub count-leaves : (chip counter : ℕ) → accepted s (here (readCounter chip counter)) (readCounter chip counter) ≡ s
-  count-leaves chip counter = quiet (s .mesh)
-
-  pub mesh-leaves : accepted s (here lookMesh) lookMesh ≡ s
-  mesh-leaves = quiet (s .mesh)
-
-  pub look-leaves : (chip link : ℕ) → accepted s (here (lookLink chip link)) (lookLink chip link) ≡ s
-  look-leaves chip link = quiet (s .mesh)
-
-  pub flight-leaves : (chip link place : ℕ) → accepted s (here (lookFlight chip link place)) (lookFlight chip link place) ≡ s
-  flight-leaves chip link place = quiet (s .mesh)
+  pub look-leaves : (l : Look) → accepted s (here (look l)) (look l) ≡ s
+  look-leaves l = quiet (s .mesh)

@@ -1,5 +1,5 @@
 -- The account of units closes throughout every history: each pass's own account closes, what it sends lands on the links, and a round takes all that
--- is in flight. Assumes nothing.
+-- is in flight.
 use mathlib.Core.Path.{_≡_, refl, sym, ap, _∙_}
 use mathlib.Core.Logic.{inr}
 use mathlib.Core.Bool.{Bool}
@@ -16,7 +16,7 @@ use Rattle.tables.proofs.Sizes as sizes
 use Rattle.kept.proofs.OnePass as pass
 use Rattle.links.specs.Line.{idle}
 use Rattle.mesh.specs.Mesh.{Chip, Mesh, fresh, opened}
-use Rattle.mesh.specs.Steps.{Tables, Arrival, Going, rowsAt, codesAt, settingAt, outcomeAt, withChip, emptied, emptiedChip, setAside, arrivals, passAt}
+use Rattle.mesh.specs.Steps.{Tables, Arrival, Going, setOut, rowsAt, codesAt, settingAt, outcomeAt, withChip, emptied, emptiedChip, setAside, arrivals, passAt}
 use Rattle.mesh.specs.Calls.{chipOf, lineOf, withUp, withLink, withEmpty}
 use Rattle.lists.specs.Lists.{total, All}
 use Rattle.mesh.specs.Weights.{onLine, onChip, onMesh}
@@ -135,7 +135,7 @@ account-kept =
       opens = λ w h f monitor o. ap (λ (n : ℕ). 0 + n) (sym (opened-weighs w h f monitor));
       injects = λ f s chip bytes t sound h closes.
           let a = accepts.arrivalNow s chip bytes in
-          let g : Going Tag = record { mesh = s .mesh; log = [] } in
+          let g = setOut (s .mesh) in
           omega (
             arith,
             closes,
@@ -144,7 +144,7 @@ account-kept =
             passes-account t (s .rounds) g (a ∷ []) sound (h .codes) (record { there = h .there; from = inr refl; passable = h .passable }, tt),
           );
       rounds = λ f s t sound codes closes.
-          let g : Going Tag = record { mesh = setAside (s .mesh); log = [] } in
+          let g = setOut (setAside (s .mesh)) in
           omega (
             arith,
             closes,

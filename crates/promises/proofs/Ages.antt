@@ -1,15 +1,15 @@
 -- In every history each copy of an MC or P2P packet in flight has an age within its span. So the links that it crosses are bounded, it is gone in time,
--- and age does not stop it before. Assumes nothing.
+-- and age does not stop it before.
 use mathlib.Core.Path.{_≡_, refl, _∙_}
 use mathlib.Core.Logic.{inr}
-use mathlib.Core.List.{List, []}
+use mathlib.Core.List.{List}
 use Prim.Native.Nat.{ℕ, _+_, _*_, _/_, _%_, _≤_, _<_}
 use native.Mathlib.Omega.{arith}
 use lib.ListN.{getD}
 use Rattle.packet.specs.Bytes.{packetAt}
 use Rattle.steps.specs.Deciding.{Checked}
 use Rattle.mesh.specs.Mesh.{Mesh, fresh}
-use Rattle.mesh.specs.Steps.{Tables, Arrival, Going, codesAt, settingAt, setAside, arrivals}
+use Rattle.mesh.specs.Steps.{Tables, Arrival, Going, codesAt, settingAt, setAside, arrivals, setOut}
 use Rattle.lists.specs.Lists.{All}
 use Rattle.mesh.specs.Sound.{Arrives, SoundMesh}
 use Rattle.mesh.proofs.SoundArrivals.{sound-arrivals}
@@ -58,7 +58,7 @@ module _ (f : ℕ) (s : State) (t : Tables) (sound : SoundMesh (s .mesh)) (codes
       }
     where
       g : Going Tag
-      g = record { mesh = s .mesh; log = [] }
+      g = setOut (s .mesh)
 
       a : Arrival Tag
       a = accepts.arrivalNow s chip bytes
@@ -81,7 +81,7 @@ module _ (f : ℕ) (s : State) (t : Tables) (sound : SoundMesh (s .mesh)) (codes
       }
     where
       g : Going Tag
-      g = record { mesh = setAside (s .mesh); log = [] }
+      g = setOut (setAside (s .mesh))
 
       Comes : Arrival Tag → Type 0
       Comes = Arriving (Ages f (s .rounds))

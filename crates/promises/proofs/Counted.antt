@@ -1,4 +1,4 @@
--- Each counter of each chip is the history's own count, modulo 2 ^ 32. Assumes nothing.
+-- Each counter of each chip is the history's own count, modulo 2 ^ 32.
 use mathlib.Core.Path.{_≡_, refl, sym, ap, _∙_, subst}
 use mathlib.Core.Bool.{Bool, true, false, cond}
 use mathlib.Core.List.{List, [], _∷_, _++_}
@@ -11,7 +11,7 @@ use lib.Seq.{getD-set-same, getD-set-other}
 use borrow.Author.Tests.{eqb-true, eqb-false, eq-eqb}
 use Rattle.kept.specs.Counting.{countsOf, plus, added, zeros}
 use Rattle.mesh.specs.Mesh.{Chip, Mesh, fresh}
-use Rattle.mesh.specs.Steps.{Tables, Arrival, emptiedChip, passAt}
+use Rattle.mesh.specs.Steps.{Tables, Arrival, setOut, emptiedChip, passAt}
 use Rattle.mesh.specs.Sound.{SoundMesh}
 use Rattle.promises.specs.History.{Tag, Passage, Event, passed, emptied, turned}
 use Rattle.promises.specs.Told.{sumOf}
@@ -53,7 +53,7 @@ module _ (t : Tables) (n : ℕ) (m : Mesh Tag) (a : Arrival Tag) (es : List Even
   later = es ++ passed (passage t n m a) ∷ []
 
   abbrev left : List (Chip Tag)
-  left = passAt t turned (record { mesh = m; log = [] }) a .mesh .chips
+  left = passAt t turned (setOut m) a .mesh .chips
 
   sum-later : (chip k : ℕ) → sumOf (countedAt chip k) later ≡ sumOf (countedAt chip k) es + countedAt chip k (passage t n m a)
   unfolding sumOf
@@ -82,7 +82,7 @@ module _ (t : Tables) (n : ℕ) (m : Mesh Tag) (a : Arrival Tag) (es : List Even
       ∙ ap (λ (b : Bool). (s + cond b (getD (countsOf o) k 0) 0) % 2 ^ 32) (sym e)
       ∙ ap (λ (x : ℕ). x % 2 ^ 32) (sym (sum-later chip k))
 
-  counted-pass : Counted (passAt t turned (record { mesh = m; log = [] }) a .mesh) later
+  counted-pass : Counted (passAt t turned (setOut m) a .mesh) later
   counted-pass chip k c h = go (eqb (a .chip) chip) refl
     where
       go : (b : Bool) → eqb (a .chip) chip ≡ b → count left chip k ≡ sumOf (countedAt chip k) later % 2 ^ 32

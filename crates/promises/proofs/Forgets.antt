@@ -1,5 +1,5 @@
 -- Forgetting the tags gives, call by call, the meshes, answers and logs of the calls' contracts; so a buffer that holds a state's mesh holds the
--- next state's after the call. Assumes nothing.
+-- next state's after the call.
 use mathlib.Core.Path.{_≡_, refl, sym, ap, _∙_}
 use mathlib.Core.Bool.{Bool, true, false, cond}
 use mathlib.Core.List.{List, [], _∷_, map}
@@ -18,10 +18,10 @@ use Rattle.links.specs.Line.{Flight, Line, idle, isReady}
 use Rattle.mesh.specs.Mesh.{Chip, Mesh, fresh}
 use Rattle.buffer.specs.Layout.{meshOf}
 use Rattle.buffer.specs.Holding.{holdsMesh}
-use Rattle.mesh.specs.Steps.{Going, withChip, injected, rounded, same}
+use Rattle.mesh.specs.Steps.{Going, withChip, injected, rounded, same, setOut}
 use Rattle.mesh.specs.Calls as calls
 use Rattle.mesh.specs.Weights.{inFlight}
-use Rattle.promises.specs.Asked.{Call, inject, round, setLink, readRegisters, readCounter, lookMesh, lookLink, lookFlight, ofAdded, ofRefusal, ofRegisters, ofCount, ofMesh, ofLink, ofFlight, leftBy, answerOf}
+use Rattle.mesh.specs.Asked.{Look, Answer, Call, inject, round, setLink, readRegisters, readCounter, lookMesh, lookLink, lookFlight, change, look, refusalOf, seenBy, ofAdded, ofRefusal, ofRegisters, ofCount, ofMesh, ofLink, ofFlight, leftBy, answerOf}
 use Rattle.promises.specs.History.{Tag, turned, tagNow, accepted, after}
 use Rattle.promises.specs.Told.{plainFlight, plainLine, plainChip, plain, plainLeft}
 use Rattle.promises.specs.Demand3.{Forgetting, Program}
@@ -79,44 +79,43 @@ module _ {A : Type 0} where
       (λ k. answer (sym (length-map (l .held) plainFlight) k) (plain-packets (l .held) k))
       ∙ ap (λ (x : Line (Unit {0})). answer (length (x .held)) (map (λ (f : Flight (Unit {0})). f .packet) (x .held))) (sym (plain-of m chip link))
 
+  forgets-seen : (m : Mesh A) (l : Look) → seenBy m l ≡ seenBy (plain m) l
+  forgets-seen m (readCounter chip counter) =
+      let n = firstOf (calls.counterRefusals true (calls.many m) chip counter) in
+      ap (λ (x : Chip (Unit {0})). ofCount (record { refusal = n; count = cond (eqb n 0) (getD (x .counters .count) counter 0) 0 })) (sym (plain-chip m chip))
+  forgets-seen m lookMesh = ap (λ (flying : ℕ). ofMesh (calls.meshShown m flying)) (sym (plain-flying m))
+  forgets-seen m (lookLink chip link) = ap ofLink (plain-looked m chip link)
+  forgets-seen m (lookFlight chip link place) = ap ofFlight (plain-seen m chip link place)
+
   module _ (turn : A → A) (tag : A) (m : Mesh A) where
     forgets-left : (c : Call) → plainLeft (leftBy turn tag m c) ≡ leftBy same tt (plain m) c
-    forgets-left (inject chip bytes t room) =
+    forgets-left (change (inject chip bytes t room)) =
         let n = firstOf (calls.injectRefusals true (calls.many m) chip t room bytes) in
         let f : Flight A = record { packet = packetAt bytes; tag = tag } in
         plain-unless n m (injected t turn m chip f)
         ∙ ap (λ (g : Going (Unit {0})). calls.unless n (plain m) g)
-        (plain-pass t turn (record { mesh = m; log = [] }) (record { chip = chip; source = 7; flight = f }))
-    forgets-left (round t room) =
+        (plain-pass t turn (setOut m) (record { chip = chip; source = 7; flight = f }))
+    forgets-left (change (round t room)) =
         plain-unless (firstOf (calls.roundRefusals true (calls.many m) (inFlight m) t room)) m (rounded t turn m)
         ∙ (λ k. calls.unless (firstOf (calls.roundRefusals true (calls.many m) (sym (plain-flying m) k) t room)) (plain m) (plain-rounded t turn m k))
-    forgets-left (setLink chip link up) =
+    forgets-left (change (setLink chip link up)) =
         let n = firstOf (calls.linkRefusals true (calls.many m) chip link) in
-        plain-unless n m (record { mesh = calls.withLink m chip link up; log = [] })
-        ∙ ap (λ (x : Mesh (Unit {0})). calls.unless n (plain m) (record { mesh = x; log = [] })) (plain-link m chip link up)
-    forgets-left (readRegisters chip) =
+        plain-unless n m (setOut (calls.withLink m chip link up))
+        ∙ ap (λ (x : Mesh (Unit {0})). calls.unless n (plain m) (setOut x)) (plain-link m chip link up)
+    forgets-left (change (readRegisters chip)) =
         let n = firstOf (calls.chipRefusals true (calls.many m) chip) in
-        plain-unless n m (record { mesh = calls.withEmpty m chip; log = [] })
-        ∙ ap (λ (x : Mesh (Unit {0})). calls.unless n (plain m) (record { mesh = x; log = [] })) (plain-empty m chip)
-    forgets-left (readCounter chip counter) = refl
-    forgets-left lookMesh = refl
-    forgets-left (lookLink chip link) = ap (λ (r : LinkRead). record { refusal = r .refusal; mesh = plain m; log = [] }) (plain-looked m chip link)
-    forgets-left (lookFlight chip link place) = ap (λ (r : FlightRead). record { refusal = r .refusal; mesh = plain m; log = [] }) (plain-seen m chip link place)
+        plain-unless n m (setOut (calls.withEmpty m chip))
+        ∙ ap (λ (x : Mesh (Unit {0})). calls.unless n (plain m) (setOut x)) (plain-empty m chip)
+    forgets-left (look l) = ap (λ (r : Answer). record { refusal = refusalOf r; mesh = plain m; log = [] }) (forgets-seen m l)
 
     forgets-answer : (c : Call) → answerOf turn tag m c ≡ answerOf same tt (plain m) c
-    forgets-answer (inject chip bytes t room) = ap (λ (r : calls.Left (Unit {0})). ofAdded (calls.addedOf r)) (forgets-left (inject chip bytes t room))
-    forgets-answer (round t room) = ap (λ (r : calls.Left (Unit {0})). ofAdded (calls.addedOf r)) (forgets-left (round t room))
-    forgets-answer (setLink chip link up) = ap (λ (r : calls.Left (Unit {0})). ofRefusal (r .refusal)) (forgets-left (setLink chip link up))
-    forgets-answer (readRegisters chip) =
+    forgets-answer (change (inject chip bytes t room)) = ap (λ (r : calls.Left (Unit {0})). ofAdded (calls.addedOf r)) (forgets-left (change (inject chip bytes t room)))
+    forgets-answer (change (round t room)) = ap (λ (r : calls.Left (Unit {0})). ofAdded (calls.addedOf r)) (forgets-left (change (round t room)))
+    forgets-answer (change (setLink chip link up)) = ap (λ (r : calls.Left (Unit {0})). ofRefusal (r .refusal)) (forgets-left (change (setLink chip link up)))
+    forgets-answer (change (readRegisters chip)) =
         let n = firstOf (calls.chipRefusals true (calls.many m) chip) in
         ap (λ (x : Chip (Unit {0})). ofRegisters (record { refusal = n; registers = cond (eqb n 0) (x .registers) empty })) (sym (plain-chip m chip))
-    forgets-answer (readCounter chip counter) =
-        let n = firstOf (calls.counterRefusals true (calls.many m) chip counter) in
-        ap (λ (x : Chip (Unit {0})). ofCount (record { refusal = n; count = cond (eqb n 0) (getD (x .counters .count) counter 0) 0 })) (sym (plain-chip m chip))
-    forgets-answer lookMesh =
-        ap (λ (flying : ℕ). ofMesh (calls.meshShown m flying)) (sym (plain-flying m))
-    forgets-answer (lookLink chip link) = ap ofLink (plain-looked m chip link)
-    forgets-answer (lookFlight chip link place) = ap ofFlight (plain-seen m chip link place)
+    forgets-answer (look l) = forgets-seen m l
 
 pub forgetting : Forgetting
 forgetting A turn tag m c = (forgets-left turn tag m c, forgets-answer turn tag m c)

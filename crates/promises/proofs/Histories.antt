@@ -1,5 +1,5 @@
 -- What holds of every history: it holds of a mesh just opened, and of the state after a call that is accepted where it held before. A call that
--- is refused changes nothing, and the mesh of every history is sound. Assumes nothing.
+-- is refused changes nothing, and the mesh of every history is sound.
 use mathlib.Core.Path.{_≡_, refl, sym, subst}
 use mathlib.Core.Bool.{Bool, true, false, cond}
 use mathlib.Core.List.{List, [], _∷_, foldl}
@@ -10,13 +10,13 @@ use Rattle.packet.specs.Bytes.{packetAt}
 use Rattle.packet.specs.Refusal.{firstOf}
 use Rattle.links.specs.Line.{Flight}
 use Rattle.mesh.specs.Mesh.{Mesh}
-use Rattle.mesh.specs.Steps.{Tables, Going, injected, rounded}
+use Rattle.mesh.specs.Steps.{Tables, Going, setOut, injected, rounded}
 use Rattle.mesh.specs.Calls.{Left, many, unless, withLink, withEmpty, injectRefusals, roundRefusals, chipRefusals, linkRefusals}
 use Rattle.mesh.specs.Weights.{inFlight}
 use Rattle.mesh.specs.Sound.{SoundMesh}
 use Rattle.mesh.proofs.SoundChanges.{sound-linked, sound-emptied}
 use Rattle.mesh.proofs.SoundSteps.{CodesFor, sound-opened, sound-injected, sound-rounded}
-use Rattle.promises.specs.Asked.{Call, inject, round, setLink, readRegisters, readCounter, lookMesh, lookLink, lookFlight, leftBy}
+use Rattle.mesh.specs.Asked.{Call, inject, round, setLink, readRegisters, change, look, leftBy}
 use Rattle.promises.specs.History.{Tag, State, Opens, turned, tagNow, accepted, after, begun, history}
 use Rattle.promises.specs.Sequence.{madeIn}
 use Rattle.promises.specs.Demand3.{Always}
@@ -56,22 +56,19 @@ module _ {A : Type 0} {m : Mesh A} (sound : SoundMesh m) where
   left n g e h = subst (λ (r : Left A). SoundMesh (r .mesh)) (sym (accepts.unless-leaves n m g e)) (h (accepts.unless-accepts n m g e))
 
   pub sound-left : (turn : A → A) (tag : A) (c : Call) → leftBy turn tag m c .refusal ≡ 0 → SoundMesh (leftBy turn tag m c .mesh)
-  sound-left turn tag (inject chip bytes t room) e =
+  sound-left turn tag (change (inject chip bytes t room)) e =
       let f : Flight A = record { packet = packetAt bytes; tag = tag } in
       left (firstOf (injectRefusals true (many m) chip t room bytes)) (injected t turn m chip f) e
       (λ z. let h = accepts.inject-accepts m chip bytes t room z in sound-injected t turn m chip f sound (h .there) (h .passable) (h .codes))
-  sound-left turn tag (round t room) e =
+  sound-left turn tag (change (round t room)) e =
       left (firstOf (roundRefusals true (many m) (inFlight m) t room)) (rounded t turn m) e
       (λ z. sound-rounded t turn sound (accepts.round-accepts m (inFlight m) t room z))
-  sound-left turn tag (setLink chip link up) e =
-      left (firstOf (linkRefusals true (many m) chip link)) (record { mesh = withLink m chip link up; log = [] }) e
+  sound-left turn tag (change (setLink chip link up)) e =
+      left (firstOf (linkRefusals true (many m) chip link)) (setOut (withLink m chip link up)) e
       (λ z. let h = accepts.link-accepts m chip link z in sound-linked sound chip link up (h .0) (h .1))
-  sound-left turn tag (readRegisters chip) e =
-      left (firstOf (chipRefusals true (many m) chip)) (record { mesh = withEmpty m chip; log = [] }) e (λ z. sound-emptied sound chip (accepts.chip-accepts m chip z))
-  sound-left turn tag (readCounter chip counter) e = sound
-  sound-left turn tag lookMesh e = sound
-  sound-left turn tag (lookLink chip link) e = sound
-  sound-left turn tag (lookFlight chip link place) e = sound
+  sound-left turn tag (change (readRegisters chip)) e =
+      left (firstOf (chipRefusals true (many m) chip)) (setOut (withEmpty m chip)) e (λ z. sound-emptied sound chip (accepts.chip-accepts m chip z))
+  sound-left turn tag (look l) e = sound
 
 module _ (P : ℕ → State → Type 0) where
   pub always-sound : ((w h f monitor : ℕ) → Opens w h f monitor → P f (begun w h f monitor))
@@ -103,27 +100,24 @@ pub record Kept (P : ℕ → State → Type 0) : Type 0 where
 
 module _ (P : ℕ → State → Type 0) (kept : Kept P) where
   kept-step : (f : ℕ) (s : State) (c : Call) → SoundMesh (s .mesh) → answered s c .refusal ≡ 0 → P f s → P f (accepted s (answered s c) c)
-  kept-step f s (inject chip bytes t room) sound e p =
+  kept-step f s (change (inject chip bytes t room)) sound e p =
       let n = firstOf (injectRefusals true (many (s .mesh)) chip t room bytes) in
       let z : n ≡ 0 = accepts.unless-accepts n (s .mesh) (injected t turned (s .mesh) chip (accepts.arrivalNow s chip bytes .flight)) e in
       subst (P f) (sym (accepts.inject-leaves s chip bytes t room e)) (kept .injects f s chip bytes t sound (accepts.inject-accepts (s .mesh) chip bytes t room z) p)
-  kept-step f s (round t room) sound e p =
+  kept-step f s (change (round t room)) sound e p =
       let n = firstOf (roundRefusals true (many (s .mesh)) (inFlight (s .mesh)) t room) in
       let z : n ≡ 0 = accepts.unless-accepts n (s .mesh) (rounded t turned (s .mesh)) e in
       subst (P f) (sym (accepts.round-leaves s t room e)) (kept .rounds f s t sound (accepts.round-accepts (s .mesh) (inFlight (s .mesh)) t room z) p)
-  kept-step f s (setLink chip link up) sound e p =
+  kept-step f s (change (setLink chip link up)) sound e p =
       let n = firstOf (linkRefusals true (many (s .mesh)) chip link) in
-      let z : n ≡ 0 = accepts.unless-accepts n (s .mesh) (record { mesh = withLink (s .mesh) chip link up; log = [] }) e in
+      let z : n ≡ 0 = accepts.unless-accepts n (s .mesh) (setOut (withLink (s .mesh) chip link up)) e in
       let h = accepts.link-accepts (s .mesh) chip link z in
       subst (P f) (sym (accepts.link-leaves s chip link up e)) (kept .links f s chip link up sound (h .0) (h .1) p)
-  kept-step f s (readRegisters chip) sound e p =
+  kept-step f s (change (readRegisters chip)) sound e p =
       let n = firstOf (chipRefusals true (many (s .mesh)) chip) in
-      let z : n ≡ 0 = accepts.unless-accepts n (s .mesh) (record { mesh = withEmpty (s .mesh) chip; log = [] }) e in
+      let z : n ≡ 0 = accepts.unless-accepts n (s .mesh) (setOut (withEmpty (s .mesh) chip)) e in
       subst (P f) (sym (accepts.read-leaves s chip e)) (kept .reads f s chip sound (accepts.chip-accepts (s .mesh) chip z) p)
-  kept-step f s (readCounter chip counter) sound e p = subst (P f) (sym (accepts.count-leaves s chip counter)) p
-  kept-step f s lookMesh sound e p = subst (P f) (sym (accepts.mesh-leaves s)) p
-  kept-step f s (lookLink chip link) sound e p = subst (P f) (sym (accepts.look-leaves s chip link)) p
-  kept-step f s (lookFlight chip link place) sound e p = subst (P f) (sym (accepts.flight-leaves s chip link place)) p
+  kept-step f s (look l) sound e p = subst (P f) (sym (accepts.look-leaves s l)) p
 
   pub always-kept : Always P
   always-kept = always-sound P (kept .opens) kept-step

@@ -1,5 +1,5 @@
 -- Forgetting the tags of a mesh goes with everything that happens in it: ready sets, outcomes, what is in flight, passes one after the other,
--- what a round begins and ends with. Assumes nothing.
+-- what a round begins and ends with.
 use mathlib.Core.Path.{_≡_, refl, sym, ap, _∙_, fun-ext}
 use mathlib.Core.Bool.{Bool, true, false, _&&_}
 use mathlib.Core.List.{List, [], _∷_, _++_, map, foldl, map-map, map-append}
@@ -15,7 +15,7 @@ use Rattle.kept.specs.Counting.{countedOf}
 use Rattle.links.specs.Line.{Flight, Line, idle, isReady, sent, lineAfter}
 use Rattle.links.specs.Across.{across, opposite}
 use Rattle.mesh.specs.Mesh.{Chip, Mesh, fresh, readyOf}
-use Rattle.mesh.specs.Steps.{Tables, Arrival, Going, rowsAt, codesAt, outcomeAt, logOf, linesAfter, chipAfter, withChips, withChip, emptied, emptiedChip, setAside, arrivingBy, arrivingAt, arrivingFrom, arrivals, roundOver, passAt, passed, rounded, same}
+use Rattle.mesh.specs.Steps.{Tables, Arrival, Going, rowsAt, codesAt, outcomeAt, logOf, linesAfter, chipAfter, withChips, withChip, emptied, emptiedChip, setAside, arrivingBy, arrivingAt, arrivingFrom, arrivals, roundOver, passAt, passed, rounded, same, setOut}
 use Rattle.lists.specs.Lists.{total}
 use Rattle.mesh.specs.Weights.{onLine, onChip, inFlight}
 use Rattle.lists.proofs.Totals.{total-map, total-ones}
@@ -153,6 +153,6 @@ module _ {A : Type 0} where
   pub plain-rounded : (t : Tables) (turn : A → A) (m : Mesh A) → plainGoing (rounded t turn m) ≡ rounded t same (plain m)
   plain-rounded t turn m =
       let all : plainGoing (passed t turn m) ≡ passed t same (plain m) =
-      plain-passes t turn (record { mesh = setAside m; log = [] }) (arrivals m)
-      ∙ (λ k. foldl (passAt t same) (record { mesh = plain-aside m k; log = [] }) (arriving-from m 0 (m .height * m .width) k)) in
+      plain-passes t turn (setOut (setAside m)) (arrivals m)
+      ∙ (λ k. foldl (passAt t same) (setOut (plain-aside m k)) (arriving-from m 0 (m .height * m .width) k)) in
       ap (λ (g : Going (Unit {0})). record { mesh = roundOver (g .mesh); log = g .log }) all

@@ -1,4 +1,4 @@
--- A chip's registers hold the first unit dropped there since they were last read, with a flag where more followed. Assumes nothing.
+-- A chip's registers hold the first unit dropped there since they were last read, with a flag where more followed.
 use mathlib.Core.Path.{_≡_, refl, sym, ap, _∙_, subst}
 use mathlib.Core.Bool.{Bool, true, false, cond}
 use mathlib.Core.List.{List, [], _∷_, _++_, foldl-append}
@@ -17,7 +17,7 @@ use Rattle.kept.specs.Keeping.{empty, dropCount, keptOf}
 use Rattle.steps.proofs.Bounds.{outcome-sets}
 use Rattle.kept.proofs.OnePass as pass
 use Rattle.mesh.specs.Mesh.{Chip, Mesh, fresh}
-use Rattle.mesh.specs.Steps.{Tables, Arrival, rowsAt, codesAt, settingAt, emptiedChip, passAt}
+use Rattle.mesh.specs.Steps.{Tables, Arrival, setOut, rowsAt, codesAt, settingAt, emptiedChip, passAt}
 use Rattle.mesh.specs.Calls.{withEmpty}
 use Rattle.lists.specs.Lists.{All}
 use Rattle.mesh.specs.Sound.{Arrives, SoundMesh}
@@ -67,7 +67,7 @@ module _ (t : Tables) (n : ℕ) (m : Mesh Tag) (a : Arrival Tag) (es : List Even
   later = es ++ passed (passage t n m a) ∷ []
 
   abbrev left : List (Chip Tag)
-  left = passAt t turned (record { mesh = m; log = [] }) a .mesh .chips
+  left = passAt t turned (setOut m) a .mesh .chips
 
   kept-here : Keeps (registersAt left (a .chip)) (dropsSince (a .chip) es ++ droppedUnits (passage t n m a .outcome))
   kept-here =
@@ -85,7 +85,7 @@ module _ (t : Tables) (n : ℕ) (m : Mesh Tag) (a : Arrival Tag) (es : List Even
             (drops-some p (a .source) rows own (settingAt m c) (checked t m a sound codes h) (h .from)),
       )
 
-  registered-pass : Registered (passAt t turned (record { mesh = m; log = [] }) a .mesh) later
+  registered-pass : Registered (passAt t turned (setOut m) a .mesh) later
   registered-pass chip c = rw (drops-later chip es (passed (passage t n m a))) (go (eqb (a .chip) chip) refl)
     where
       go : (b : Bool) → eqb (a .chip) chip ≡ b → Keeps (registersAt left chip) (cond b (dropsSince chip es ++ droppedUnits (passage t n m a .outcome)) (dropsSince chip es))

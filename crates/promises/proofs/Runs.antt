@@ -1,5 +1,5 @@
 -- Passes one after the other, in a history: what each single thing that happens keeps is kept throughout. Single things are a pass, a mesh's
--- packets set aside, the end of a round, a link change, registers read. Assumes nothing.
+-- packets set aside, the end of a round, a link change, registers read.
 use mathlib.Core.Path.{_≡_, refl, subst}
 use mathlib.Core.Logic.{inr}
 use mathlib.Core.Bool.{Bool}
@@ -7,7 +7,7 @@ use mathlib.Core.List.{List, [], _∷_, _++_, foldl, append-nil, append-assoc}
 use Prim.Native.Nat.{ℕ, zero, suc, _*_, _<_}
 use lib.ListN.{getD, set}
 use Rattle.mesh.specs.Mesh.{Mesh, fresh, opened}
-use Rattle.mesh.specs.Steps.{Tables, Arrival, Going, rowsAt, codesAt, settingAt, outcomeAt, logOf, setAside, arrivals, roundOver, passAt}
+use Rattle.mesh.specs.Steps.{Tables, Arrival, Going, setOut, rowsAt, codesAt, settingAt, outcomeAt, logOf, setAside, arrivals, roundOver, passAt}
 use Rattle.mesh.specs.Calls.{withLink, withEmpty}
 use Rattle.lists.specs.Lists.{All}
 use Rattle.mesh.specs.Sound.{Arrives, SoundMesh}
@@ -36,7 +36,7 @@ pub record Steady (P : Mesh Tag → List Event → List ℕ → Type 0) : Type 0
   pub opens : (w h f monitor : ℕ) → P (opened w h f monitor) [] []
   pub aside : (m : Mesh Tag) (es : List Event) (log : List ℕ) → P m es log → P (setAside m) es log
   pub passes : (t : Tables) (n : ℕ) (m : Mesh Tag) (a : Arrival Tag) (es : List Event) (log : List ℕ) → SoundMesh m → CodesFor t m → Arrives (m .height * m .width) a → P m es log
-      → P (passAt t turned (record { mesh = m; log = [] }) a .mesh) (es ++ passed (passage t n m a) ∷ []) (log ++ logOf (a .chip) (outcomeAt t m (a .chip) (a .source) (a .flight .packet)))
+      → P (passAt t turned (setOut m) a .mesh) (es ++ passed (passage t n m a) ∷ []) (log ++ logOf (a .chip) (outcomeAt t m (a .chip) (a .source) (a .flight .packet)))
   pub over : (m : Mesh Tag) (es : List Event) (log : List ℕ) → P m es log → P (roundOver m) es log
   pub links : (m : Mesh Tag) (chip link : ℕ) (up : Bool) (es : List Event) (log : List ℕ) → P m es log → P (withLink m chip link up) es log
   pub reads : (m : Mesh Tag) (chip : ℕ) (es : List Event) (log : List ℕ) → SoundMesh m → chip < m .height * m .width → P m es log
@@ -65,12 +65,12 @@ module _ (P : Mesh Tag → List Event → List ℕ → Type 0) (steady : Steady 
       record {
         opens = λ w h f monitor o. steady .opens w h f monitor;
         injects = λ f s chip bytes t sound h p.
-            run t (s .rounds) (record { mesh = s .mesh; log = [] }) (arrivalNow s chip bytes ∷ []) (s .events) (s .log) sound (h .codes)
+            run t (s .rounds) (setOut (s .mesh)) (arrivalNow s chip bytes ∷ []) (s .events) (s .log) sound (h .codes)
             (record { there = h .there; from = inr refl; passable = h .passable }, tt)
             (rw append-nil p);
         rounds = λ f s t sound codes p.
             steady .over _ _ _
-            (run t (s .rounds) (record { mesh = setAside (s .mesh); log = [] }) (arrivals (s .mesh)) (s .events) (s .log) (sound-aside sound) codes (sound-arrivals sound)
+            (run t (s .rounds) (setOut (setAside (s .mesh))) (arrivals (s .mesh)) (s .events) (s .log) (sound-aside sound) codes (sound-arrivals sound)
             (rw append-nil (steady .aside (s .mesh) (s .events) (s .log) p)));
         links = λ f s chip link up sound h k p. steady .links (s .mesh) chip link up (s .events) (s .log) p;
         reads = λ f s chip sound h p. steady .reads (s .mesh) chip (s .events) (s .log) sound h p;

@@ -1,4 +1,4 @@
--- A replay is the calls that it makes, and a sequence of calls and replays is the history of all the calls that are made in it. Assumes nothing.
+-- A replay is the calls that it makes, and a sequence of calls and replays is the history of all the calls that are made in it.
 use mathlib.Core.Path.{_≡_, refl, sym, ap, _∙_, subst}
 use mathlib.Core.Bool.{Bool, true, false, cond}
 use mathlib.Core.List.{List, [], _∷_, _++_, foldl, append-nil, append-assoc, foldl-append}
@@ -12,7 +12,7 @@ use Rattle.trace.specs.declared.Call.{Call as KeptCall}
 use Rattle.trace.specs.Records.{packetOf}
 use Rattle.trace.specs.Replay.{Trace, over, refused, then, traceOf, making, Replay, stopped, behind, replaying, replayOf}
 use Rattle.trace.proofs.ByKind.{by-made}
-use Rattle.promises.specs.Asked.{Call, inject, round, setLink, readRegisters, leftBy}
+use Rattle.mesh.specs.Asked.{Change, Call, inject, round, setLink, readRegisters, change, leftBy}
 use Rattle.promises.specs.History.{Tag, State, turned, tagNow, accepted, after, begun, history}
 use Rattle.promises.specs.Told.{plain, plainLeft}
 use Rattle.promises.specs.Sequence.{Step, askedOf, callsIn, callsBy, stepped, sequence, madeIn}
@@ -34,7 +34,7 @@ sequence-is-calls w h f monitor xs = made-in xs (begun w h f monitor)
 
 asked-left : {A : Type 0} (turn : A → A) (tag : A) (m : Mesh A) (t : Tables) (room : ℕ) (c : KeptCall) → leftBy turn tag m (askedOf t room c) ≡ making true t turn tag m room c
 asked-left turn tag m t room c =
-    by-made (leftBy turn tag m) (c .kind) (inject (c .chip) (packetOf c) t room) (round t room) (setLink (c .chip) (c .link) (eqb (c .up) 1)) (readRegisters (c .chip))
+    by-made (λ (x : Change). leftBy turn tag m (change x)) (c .kind) (inject (c .chip) (packetOf c) t room) (round t room) (setLink (c .chip) (c .link) (eqb (c .up) 1)) (readRegisters (c .chip))
 
 module _ (s : State) (q : Call) where
   abbrev given : Left Tag

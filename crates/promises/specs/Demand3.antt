@@ -17,7 +17,7 @@ use Rattle.buffer.specs.Holding.{holdsMesh}
 use Rattle.mesh.specs.Steps.{Tables, same}
 use Rattle.mesh.specs.Weights.{onMesh}
 use Rattle.buffer.specs.Leaving.{Leaves}
-use Rattle.promises.specs.Asked.{Call, leftBy, answerOf}
+use Rattle.mesh.specs.Asked.{Call, leftBy, answerOf}
 use Rattle.trace.specs.declared.Replayed.{Replayed}
 use Rattle.trace.specs.Replay.{replayOf, Replays}
 use Rattle.promises.specs.History.{State, Opens, after, begun, history}

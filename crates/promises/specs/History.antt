@@ -13,9 +13,9 @@ use Rattle.steps.specs.declared.Outcome.{Outcome}
 use Rattle.steps.specs.declared.Setting.{Setting}
 use Rattle.tables.specs.Sizes.{sizeFine}
 use Rattle.mesh.specs.Mesh.{Chip, Mesh, fresh, opened, roundsFine}
-use Rattle.mesh.specs.Steps.{Tables, Arrival, Going, rowsAt, codesAt, settingAt, outcomeAt, setAside, arrivals, passAt}
+use Rattle.mesh.specs.Steps.{Tables, Arrival, Going, rowsAt, codesAt, settingAt, outcomeAt, setAside, arrivals, passAt, setOut}
 use Rattle.mesh.specs.Calls as calls
-use Rattle.promises.specs.Asked.{Call, inject, round, setLink, readRegisters, readCounter, lookMesh, lookLink, lookFlight, leftBy, isInjection, isRound, handedIn}
+use Rattle.mesh.specs.Asked.{Call, inject, round, setLink, readRegisters, change, look, leftBy, isInjection, isRound, handedIn}
 
 -- ---- what a history remembers
 
@@ -75,15 +75,12 @@ passages t n g (a ∷ later) =
 
 -- What happens in a call that is accepted.
 abbrev pub eventsOf : State → Tag → Call → List Event
-eventsOf s tag (inject chip bytes t room) =
-    passages t (s .rounds) (record { mesh = s .mesh; log = [] }) (record { chip = chip; source = 7; flight = record { packet = packetAt bytes; tag = tag } } ∷ [])
-eventsOf s tag (round t room) = passages t (s .rounds) (record { mesh = setAside (s .mesh); log = [] }) (arrivals (s .mesh))
-eventsOf s tag (readRegisters chip) = emptied chip ∷ []
-eventsOf s tag (setLink chip link up) = []
-eventsOf s tag (readCounter chip counter) = []
-eventsOf s tag lookMesh = []
-eventsOf s tag (lookLink chip link) = []
-eventsOf s tag (lookFlight chip link place) = []
+eventsOf s tag (change (inject chip bytes t room)) =
+    passages t (s .rounds) (setOut (s .mesh)) (record { chip = chip; source = 7; flight = record { packet = packetAt bytes; tag = tag } } ∷ [])
+eventsOf s tag (change (round t room)) = passages t (s .rounds) (setOut (setAside (s .mesh))) (arrivals (s .mesh))
+eventsOf s tag (change (readRegisters chip)) = emptied chip ∷ []
+eventsOf s tag (change (setLink chip link up)) = []
+eventsOf s tag (look l) = []
 
 -- The tag of a packet that is injected now.
 abbrev pub tagOf : State → Packet → Tag

@@ -1,4 +1,3 @@
-pub mod Asked
 pub mod Demand3
 pub mod Determined
 pub mod FirstRow

@@ -13,14 +13,14 @@ use Rattle.trace.specs.declared.Call.{Call as KeptCall}
 use Rattle.trace.specs.declared.Replayed.{Replayed}
 use Rattle.trace.specs.Records.{byKind, packetOf}
 use Rattle.trace.specs.Replay.{Trace, over, refused, then, traceOf, making, replayOf, Replays}
-use Rattle.promises.specs.Asked.{Call, inject, round, setLink, readRegisters, leftBy}
+use Rattle.mesh.specs.Asked.{Call, inject, round, setLink, readRegisters, change, leftBy}
 use Rattle.promises.specs.History.{State, after, begun}
 use Rattle.promises.specs.Told.{plain}
 
 -- A kept call with its tables and a log of so many numbers.
 abbrev pub askedOf : Tables → ℕ → KeptCall → Call
 askedOf t room c =
-    byKind (c .kind) (inject (c .chip) (packetOf c) t room) (round t room) (setLink (c .chip) (c .link) (eqb (c .up) 1)) (readRegisters (c .chip))
+    change (byKind (c .kind) (inject (c .chip) (packetOf c) t room) (round t room) (setLink (c .chip) (c .link) (eqb (c .up) 1)) (readRegisters (c .chip)))
 
 -- The calls that a replay makes on a mesh: "each with the rest of the log, and stops at the first refusal". The one that is refused is among them; it
 -- changes nothing. A record that cannot be read makes no call.
