@@ -19,9 +19,8 @@ use Rattle.steps.specs.declared.Wanted.{Wanted}
 use Rattle.steps.specs.Links.{has, linksOf, processorsOf, link}
 use Rattle.steps.specs.Detour.{carrySet, sendSet, dropSet, plainSendSet, plainDropSet}
 use Rattle.steps.specs.Deciding.{hasLeg, decided}
-use Rattle.kept.specs.Keeping.{dropCount}
 use Rattle.kept.specs.Counting.{delivered, swallowed}
-use Rattle.kept.specs.Units.{weightIn, extra, ended, overLinks, weightSent}
+use Rattle.kept.specs.Units.{weightIn, extra, ended, sumList, settled, overLinks, weightSent}
 
 -- ---- link by link, computed
 
@@ -150,19 +149,25 @@ module _ (e : ℕ) (q : Packet) (s : ℕ) (w : Wanted) (ready : ℕ) (hr : ready
 
   pub account-decided : Consistent e q s w
       → weightIn q s + extra (decided e q s w ready)
-      ≡ delivered (decided e q s w ready) + ended (decided e q s w ready) s + dropCount (decided e q s w ready) + swallowed (decided e q s w ready) + weightSent (decided e q s w ready)
-  unfolding decided linkWeight
+      ≡ settled (decided e q s w ready) s + weightSent (decided e q s w ready)
+  unfolding decided linkWeight sumList
   account-decided h = go (eqb e 0) refl
     where
       o : Outcome
       o = decided e q s w ready
 
       go : (b : Bool) → eqb e 0 ≡ b
-          → weightIn q s + cond b (ones (w .set) - 1) 0
-          ≡ cond b (ones (processorsOf (w .set))) 0 + cond b 0 (weightIn q s) + dropCount o + swallowed o + weightSent o
-      go true f = omega (arith, parts h (eqb-true _ _ f), ones-route (w .set), links-close, leg-close)
+          → weightIn q s + extra (decided e q s w ready) ≡ settled (decided e q s w ready) s + weightSent (decided e q s w ready)
+      go true f =
+          let branches : extra o ≡ ones (w .set) - 1 = simp f in
+          let reached : delivered o ≡ ones (processorsOf (w .set)) = simp f in
+          let right : ended o s ≡ 0 = simp f in
+          omega (arith, parts h (eqb-true _ _ f), ones-route (w .set), links-close, leg-close)
       go false f =
           let links : ones (linksOf (w .set)) ≡ 0 = ap ones (h .quiet (eqb-false _ _ f)) ∙ ones-zero in
           let leg : _≡_ {A = ℕ} (cond (hasLeg e q) 1 0) 0 = simp f in
+          let branches : extra o ≡ 0 = simp f in
+          let reached : delivered o ≡ 0 = simp f in
+          let wrong : ended o s ≡ weightIn q s = simp f in
           let food : swallowed o ≡ 0 = simp f in
           omega (arith, links-close, leg-close)

@@ -21,9 +21,7 @@ use Rattle.steps.specs.Links.{has, linksOf, monitorBit}
 use Rattle.steps.specs.Errors.{errorsOf, stampedOf, tooOld, badLocal, wrongLength, flag}
 use Rattle.steps.specs.Wants.{wantedOf}
 use Rattle.steps.specs.Deciding.{decided, outcomeOf, markOn, packetOn, legPacket, Source, Checked}
-use Rattle.kept.specs.Keeping.{dropCount}
-use Rattle.kept.specs.Counting.{delivered, swallowed}
-use Rattle.kept.specs.Units.{weightIn, extra, ended, weightSent}
+use Rattle.kept.specs.Units.{weightIn, extra, weightSent, settled}
 use Rattle.kept.proofs.Account.{Consistent, account-decided}
 
 -- ---- stamping
@@ -102,8 +100,7 @@ module _ (p : Packet) (s : ℕ) (rows codes : List ℕ) (t : Setting) (h : Check
 
   -- "weight in plus extra branches equals delivered plus ended in error plus dropped plus swallowed plus weight sent"
   pub account : weightIn p s + extra (outcomeOf p s rows codes t)
-      ≡ delivered (outcomeOf p s rows codes t) + ended (outcomeOf p s rows codes t) s + dropCount (outcomeOf p s rows codes t) + swallowed (outcomeOf p s rows codes t)
-      + weightSent (outcomeOf p s rows codes t)
+      ≡ settled (outcomeOf p s rows codes t) s + weightSent (outcomeOf p s rows codes t)
   unfolding outcomeOf
   account =
       let e = errorsOf p s (t .phase) in

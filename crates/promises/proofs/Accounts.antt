@@ -9,10 +9,9 @@ use native.Mathlib.Nat.{add-zero}
 use native.Mathlib.Omega.{arith}
 use lib.ListN.{replicate}
 use borrow.Author.Tests.{lt-ltb}
-use Rattle.kept.specs.Counting.{delivered, swallowed}
-use Rattle.kept.specs.Keeping.{dropCount}
-use Rattle.kept.specs.Units.{weightIn, extra, ended, weightSent}
+use Rattle.kept.specs.Units.{weightIn, extra, weightSent, settled}
 use Rattle.tables.proofs.Sizes as sizes
+use Rattle.router.proofs.Inputs as inputs
 use Rattle.kept.proofs.OnePass as pass
 use Rattle.links.specs.Line.{idle}
 use Rattle.mesh.specs.Mesh.{Chip, Mesh, fresh, opened}
@@ -90,14 +89,12 @@ module _ {A : Type 0} (m : Mesh A) where
 
 -- ---- passes
 
--- "extra branches", and "units delivered, ended in error, dropped, swallowed", over some passes
+-- extra branches, and the units that end, over some passes
 abbrev extras : List Event → ℕ
 extras es = sumOf (λ p. extra (p .outcome)) es
 
-abbrev settled : List Event → ℕ
-settled es =
-    sumOf (λ p. delivered (p .outcome)) es + sumOf (λ p. ended (p .outcome) (p .arrival .source)) es + sumOf (λ p. dropCount (p .outcome)) es
-    + sumOf (λ p. swallowed (p .outcome)) es
+abbrev ends : List Event → ℕ
+ends es = sumOf (λ p. settled (p .outcome) (p .arrival .source)) es
 
 pass-weighs : {A : Type 0} (t : Tables) (turn : A → A) (g : Going A) (a : Arrival A) → SoundMesh (g .mesh) → CodesFor t (g .mesh) → Arrives (g .mesh .height * g .mesh .width) a
     → onMesh weighed (passAt t turn g a .mesh) ≡ onMesh weighed (g .mesh) + weightSent (outcomeAt t (g .mesh) (a .chip) (a .source) (a .flight .packet))
@@ -106,7 +103,7 @@ pass-weighs t turn g a sound codes h =
     (chip-weighs-sent _ _ _ _ _ (checked t (g .mesh) a sound codes h) (h .from) (turn (a .flight .tag)) (chipOf (g .mesh) (a .chip)) (chip-sound sound (a .chip) (h .there) .six))
 
 passes-account : (t : Tables) (n : ℕ) (g : Going Tag) (later : List (Arrival Tag)) → SoundMesh (g .mesh) → CodesFor t (g .mesh) → All (Arrives (g .mesh .height * g .mesh .width)) later
-    → total weightOf later + extras (passages t n g later) + onMesh weighed (g .mesh) ≡ settled (passages t n g later) + onMesh weighed (foldl (passAt t turned) g later .mesh)
+    → total weightOf later + extras (passages t n g later) + onMesh weighed (g .mesh) ≡ ends (passages t n g later) + onMesh weighed (foldl (passAt t turned) g later .mesh)
 unfolding total sumOf passages All
 passes-account t n g [] sound codes h = omega arith
 passes-account t n g (a ∷ later) sound codes h =
@@ -120,13 +117,13 @@ passes-account t n g (a ∷ later) sound codes h =
 -- ---- every history
 
 abbrev Closes : ℕ → State → Type 0
-Closes f s = s .injections + extras (s .events) ≡ settled (s .events) + onMesh weighed (s .mesh)
+Closes f s = s .injections + extras (s .events) ≡ ends (s .events) + onMesh weighed (s .mesh)
 
 extras-append : (es later : List Event) → extras (es ++ later) ≡ extras es + extras later
 extras-append es later = sum-append _ es later
 
-settled-append : (es later : List Event) → settled (es ++ later) ≡ settled es + settled later
-settled-append es later = simp sum-append (omega arith)
+ends-append : (es later : List Event) → ends (es ++ later) ≡ ends es + ends later
+ends-append es later = sum-append _ es later
 
 account-kept : Kept Closes
 unfolding sumOf All total
@@ -140,7 +137,7 @@ account-kept =
             arith,
             closes,
             extras-append (s .events) (passages t (s .rounds) g (a ∷ [])),
-            settled-append (s .events) (passages t (s .rounds) g (a ∷ [])),
+            ends-append (s .events) (passages t (s .rounds) g (a ∷ [])),
             passes-account t (s .rounds) g (a ∷ []) sound (h .codes) (record { there = h .there; from = inr refl; passable = h .passable }, tt),
           );
       rounds = λ f s t sound codes closes.
@@ -149,14 +146,14 @@ account-kept =
             arith,
             closes,
             extras-append (s .events) (passages t (s .rounds) g (arrivals (s .mesh))),
-            settled-append (s .events) (passages t (s .rounds) g (arrivals (s .mesh))),
+            ends-append (s .events) (passages t (s .rounds) g (arrivals (s .mesh))),
             passes-account t (s .rounds) g (arrivals (s .mesh)) (sound-aside sound) codes (sound-arrivals sound),
             aside-weighs (s .mesh),
             arrivals-weigh-in (s .mesh) sound,
           );
-      links = λ f s chip link up sound there six closes. closes ∙ ap (λ (n : ℕ). settled (s .events) + n) (sym (linked-weighs (s .mesh) sound chip there link up six));
+      links = λ f s chip link up sound there six closes. closes ∙ ap (λ (n : ℕ). ends (s .events) + n) (sym (linked-weighs (s .mesh) sound chip there link up six));
       reads = λ f s chip sound there closes.
-          omega (arith, closes, extras-append (s .events) (read chip ∷ []), settled-append (s .events) (read chip ∷ []), emptied-weighs (s .mesh) sound chip there);
+          omega (arith, closes, extras-append (s .events) (read chip ∷ []), ends-append (s .events) (read chip ∷ []), emptied-weighs (s .mesh) sound chip there);
     }
 
 pub account : Account

@@ -7,9 +7,7 @@ use mathlib.Core.List.{List, _++_}
 use lib.ListN.{length, getD}
 use Rattle.steps.specs.Links.{has}
 use Rattle.steps.specs.Deciding.{outcomeOf}
-use Rattle.kept.specs.Counting.{delivered, swallowed}
-use Rattle.kept.specs.Keeping.{dropCount}
-use Rattle.kept.specs.Units.{weight, extra, ended}
+use Rattle.kept.specs.Units.{weight, extra, settled}
 use Rattle.links.specs.Line.{idle, isReady}
 use Rattle.mesh.specs.Mesh.{Mesh, fresh, opened}
 use Rattle.buffer.specs.Layout.{meshOf}
@@ -78,10 +76,7 @@ NotBeforeItsTime = Always (λ f s.
 abbrev pub Account : Type 0
 Account = Always (λ f s.
     s .injections + sumOf (λ p. extra (p .outcome)) (s .events)
-    ≡ sumOf (λ p. delivered (p .outcome)) (s .events) + sumOf (λ p. ended (p .outcome) (p .arrival .source)) (s .events)
-    + sumOf (λ p. dropCount (p .outcome)) (s .events)
-    + sumOf (λ p. swallowed (p .outcome)) (s .events)
-    + onMesh (λ x. weight (x .packet)) (s .mesh))
+    ≡ sumOf (λ p. settled (p .outcome) (p .arrival .source)) (s .events) + onMesh (λ x. weight (x .packet)) (s .mesh))
 
 -- 5. The counters of each chip: "the counters equal theirs modulo their width", theirs being the sums over the history of passes.
 abbrev pub Counts : Type 0

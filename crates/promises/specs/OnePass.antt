@@ -5,15 +5,11 @@ use mathlib.Core.List.{List}
 use Rattle.packet.specs.declared.Packet.{Packet}
 use Rattle.steps.specs.declared.Setting.{Setting}
 use Rattle.steps.specs.Deciding.{outcomeOf, Source, Checked}
-use Rattle.kept.specs.Counting.{delivered, swallowed}
-use Rattle.kept.specs.Keeping.{dropCount}
-use Rattle.kept.specs.Units.{weightIn, extra, ended, weightSent}
+use Rattle.kept.specs.Units.{weightIn, extra, settled, weightSent}
 use Rattle.kept.proofs.OnePass as proved
 
 -- The weight of the packet plus its extra branches is what is delivered, ended in error, dropped, swallowed and sent.
 pub account : (p : Packet) (source : ℕ) (rows codes : List ℕ) (t : Setting) → Checked p source codes t → Source source
     → weightIn p source + extra (outcomeOf p source rows codes t)
-    ≡ delivered (outcomeOf p source rows codes t) + ended (outcomeOf p source rows codes t) source + dropCount (outcomeOf p source rows codes t)
-    + swallowed (outcomeOf p source rows codes t)
-    + weightSent (outcomeOf p source rows codes t)
+    ≡ settled (outcomeOf p source rows codes t) source + weightSent (outcomeOf p source rows codes t)
 account = proved.account
