@@ -70,6 +70,11 @@ module _ {A : Type 0} {m : Mesh A} (sound : SoundMesh m) where
       left (firstOf (chipRefusals true (many m) chip)) (setOut (withEmpty m chip)) e (λ z. sound-emptied sound chip (accepts.chip-accepts m chip z))
   sound-left turn tag (look l) e = sound
 
+pub sound-always : Always (λ f s. SoundMesh (s .mesh))
+sound-always =
+    always (λ f s. SoundMesh (s .mesh)) (λ w h f monitor o. sound-opened w h f monitor (o .size) (o .phases) (o .monitored))
+    (λ f s c e sound. sound-left sound turned (tagNow s c) c e)
+
 module _ (P : ℕ → State → Type 0) where
   pub always-sound : ((w h f monitor : ℕ) → Opens w h f monitor → P f (begun w h f monitor))
       → ((f : ℕ) (s : State) (c : Call) → SoundMesh (s .mesh) → answered s c .refusal ≡ 0 → P f s → P f (accepted s (answered s c) c))

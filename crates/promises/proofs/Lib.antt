@@ -6,6 +6,7 @@ pub mod Clock
 pub mod Counted
 pub mod Demand3
 pub mod Dropped
+pub mod Few
 pub mod Flights
 pub mod Forgets
 pub mod Histories

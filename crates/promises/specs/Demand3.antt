@@ -98,3 +98,8 @@ abbrev pub NoStaleBlock : Type 0
 NoStaleBlock = Always (λ f s. EachPass (λ p.
     (p .outcome ≡ outcomeOf (p .arrival .flight .packet) (p .arrival .source) (p .rows) (p .codes) (p .setting))
     × ((i : ℕ) → i < 6 → has (p .setting .ready) i ≡ isReady (getD (p .here .lines) i idle))) (s .events))
+
+-- 9. "Every directed link holds at most 8 packets", after every call.
+abbrev pub NoLinkAbove8 : Type 0
+NoLinkAbove8 = Always (λ f s. (chip link : ℕ) → chip < s .mesh .height * s .mesh .width → link < 6
+    → length (getD (getD (s .mesh .chips) chip fresh .lines) link idle .held) ≤ 8)
