@@ -1,9 +1,9 @@
--- What a pass adds to the counters is what the history counts itself. Assumes nothing.
+-- What a pass adds to the counters is what the history counts itself.
 use mathlib.Core.Path.{_≡_, refl, sym, ap, _∙_}
 use mathlib.Core.Bool.{Bool, true, false, cond, _&&_, not, and-false, false≢true}
 use mathlib.Core.List.{List, [], _∷_}
-use Prim.Native.Nat.{ℕ, _+_, _/_, _%_, _^_, _<_}
-use lib.Count.{ones}
+use Prim.Native.Nat.{ℕ, _+_, _-_, _/_, _%_, _^_, _<_}
+use native.Mathlib.Omega.{arith}
 use lib.Dec.{eqb}
 use lib.ListN.{getD}
 use borrow.Author.Tests.{eqb-true}
@@ -22,15 +22,21 @@ use Rattle.steps.specs.Errors.{flag, tooOld, wrongLength, badLocal, errorsOf}
 use Rattle.steps.specs.Wants.{wantedOf, kindWanted, matchWanted}
 use Rattle.steps.specs.Deciding.{decided, outcomeOf}
 use Rattle.kept.specs.Keeping.{dropCount}
-use Rattle.kept.specs.Counting.{countsOf, delivered, swallowed}
+use Rattle.kept.specs.Counting.{countsOf, sentCount, delivered, swallowed}
 use Rattle.kept.proofs.OnePass as pass
 use Rattle.steps.specs.Links.{has}
 use Rattle.links.specs.Line.{idle, isReady}
-use Rattle.promises.specs.History.{Passage, Event, passed, emptied}
+use Rattle.mesh.specs.Calls.{chipOf}
+use Rattle.mesh.specs.Weights.{onChip}
+use Rattle.mesh.proofs.SoundChanges.{chip-sound}
+use Rattle.mesh.proofs.SoundSteps.{checked}
+use Rattle.promises.specs.History.{Passage, Event, passed, emptied, turned}
 use Rattle.promises.specs.Told.{EachPass, sumOf, noRow, isMiss, ownCounts, countAt}
-use Rattle.promises.specs.Demand3.{Counts}
+use Rattle.promises.specs.Demand3.{Always, Counts}
 use Rattle.promises.proofs.Counted.{countedAt, counts-kept}
 use Rattle.promises.proofs.Records.{no-stale-block}
+use Rattle.promises.proofs.Runs.{left-after, always-each}
+use Rattle.promises.proofs.Weighs.{chip-holds-sent}
 
 -- ---- the errors, one by one
 
@@ -103,11 +109,23 @@ module _ (q : Packet) (s : ℕ) (rows codes : List ℕ) (t : Setting) where
       by-error true e = simp e (by-kind (eqb-true _ _ e) (isMc (q .control)) refl)
       by-error false e = simp (e, and-false)
 
+-- ---- packets sent
+
+-- so many more are on the chip's links
+abbrev Sent : Passage → Type 0
+Sent p = onChip (λ x. 1) (p .left) ≡ onChip (λ x. 1) (p .here) + sentCount (p .outcome)
+
+sent-told : Always (λ f s. EachPass Sent (s .events))
+sent-told =
+    always-each Sent (λ t n m a sound codes h.
+    ap (onChip (λ x. 1)) (left-after t n m a sound h)
+    ∙ chip-holds-sent _ _ _ _ _ (checked t m a sound codes h) (h .from) (turned (a .flight .tag)) (chipOf m (a .chip)) (chip-sound sound (a .chip) (h .there) .six))
+
 -- ---- all ten
 
-own : (p : Passage) → p .outcome ≡ outcomeOf (p .arrival .flight .packet) (p .arrival .source) (p .rows) (p .codes) (p .setting) → countsOf (p .outcome) ≡ ownCounts p
+own : (p : Passage) → p .outcome ≡ outcomeOf (p .arrival .flight .packet) (p .arrival .source) (p .rows) (p .codes) (p .setting) → Sent p → countsOf (p .outcome) ≡ ownCounts p
 unfolding outcomeOf decided
-own p e =
+own p e more =
     let q = p .arrival .flight .packet in
     let s = p .arrival .source in
     let errors-are : p .outcome .errors ≡ errorsOf q s (p .setting .phase) = ap (λ (o : Outcome). o .errors) e in
@@ -115,9 +133,10 @@ own p e =
     let miss : p .outcome .missed ≡ flag (isMiss p) 1 =
     ap (λ (o : Outcome). o .missed) e ∙ missed-own q s (p .rows) (p .codes) (p .setting)
     ∙ ap (λ (n : ℕ). flag (eqb s 7 && isMc (q .control) && eqb n 0 && noRow (firstMatch (q .word) (rowsOf (p .rows)))) 1) (sym errors-are) in
+    let sent : sentCount (p .outcome) ≡ onChip (λ x. 1) (p .left) - onChip (λ x. 1) (p .here) = omega (arith, more) in
     λ i. 1 ∷ (ap (λ (n : ℕ). n % 2) errors-are ∙ b .0) i ∷ (ap (λ (n : ℕ). n / 2 % 2) errors-are ∙ b .1) i ∷ (ap (λ (n : ℕ). n / 4 % 2) errors-are ∙ b .2) i
     ∷ (ap (λ (n : ℕ). n / 8 % 2) errors-are ∙ b .3) i
-    ∷ (ones (p .outcome .sent) + ones (p .outcome .leg))
+    ∷ sent i
     ∷ delivered (p .outcome)
     ∷ dropCount (p .outcome)
     ∷ swallowed (p .outcome)
@@ -126,13 +145,14 @@ own p e =
 
 sum-own : (chip k : ℕ) (es : List Event)
     → EachPass (λ p. (p .outcome ≡ outcomeOf (p .arrival .flight .packet) (p .arrival .source) (p .rows) (p .codes) (p .setting)) × ((i : ℕ) → i < 6 → has (p .setting .ready) i ≡ isReady (getD (p .here .lines) i idle))) es
+    → EachPass Sent es
     → sumOf (countedAt chip k) es ≡ sumOf (countAt chip k) es
 unfolding sumOf EachPass
-sum-own chip k [] h = refl
-sum-own chip k (passed p ∷ es) h =
-    λ i. cond (eqb (p .arrival .chip) chip) (getD (own p (h .0 .0) i) k 0) 0 + sum-own chip k es (h .1) i
-sum-own chip k (emptied c ∷ es) h = sum-own chip k es h
+sum-own chip k [] h more = refl
+sum-own chip k (passed p ∷ es) h more =
+    λ i. cond (eqb (p .arrival .chip) chip) (getD (own p (h .0 .0) (more .0) i) k 0) 0 + sum-own chip k es (h .1) (more .1) i
+sum-own chip k (emptied c ∷ es) h more = sum-own chip k es h more
 
 pub counts-told : Counts
 counts-told w h f monitor opens cs chip k c i =
-    counts-kept w h f monitor opens cs chip k c i ∙ ap (λ (n : ℕ). n % 2 ^ 32) (sum-own chip k _ (no-stale-block w h f monitor opens cs))
+    counts-kept w h f monitor opens cs chip k c i ∙ ap (λ (n : ℕ). n % 2 ^ 32) (sum-own chip k _ (no-stale-block w h f monitor opens cs) (sent-told w h f monitor opens cs))

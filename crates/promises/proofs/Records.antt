@@ -1,5 +1,5 @@
 -- The joined records of a history's log are those of its passes, in order; and every pass is decided by the link states and counts that it
--- found. Assumes nothing.
+-- found.
 use mathlib.Core.Path.{_≡_, refl, sym, _∙_}
 use mathlib.Core.List.{List, [], _∷_, _++_, append-nil}
 use Prim.Native.Nat.{ℕ, _<_}
@@ -10,10 +10,10 @@ use Rattle.links.specs.Line.{idle, isReady}
 use Rattle.mesh.specs.Steps.{logOf}
 use Rattle.steps.proofs.Sets.{has-set}
 use Rattle.promises.specs.History.{Passage, Event, passed, emptied}
-use Rattle.promises.specs.Told.{EachPass, recordsOf}
+use Rattle.promises.specs.Told.{recordsOf}
 use Rattle.promises.specs.Demand3.{Log, NoStaleBlock}
-use Rattle.promises.proofs.Told.{each-append, records-append}
-use Rattle.promises.proofs.Runs.{passage, always-steady}
+use Rattle.promises.proofs.Told.{records-append}
+use Rattle.promises.proofs.Runs.{passage, always-steady, always-each}
 
 one-record : (p : Passage) (es : List Event) (log : List ℕ) → log ≡ recordsOf es → log ++ logOf (p .arrival .chip) (p .outcome) ≡ recordsOf (es ++ passed p ∷ [])
 unfolding recordsOf
@@ -40,16 +40,4 @@ Afresh p =
     × ((i : ℕ) → i < 6 → has (p .setting .ready) i ≡ isReady (getD (p .here .lines) i idle))
 
 pub no-stale-block : NoStaleBlock
-unfolding EachPass
-no-stale-block =
-    always-steady (λ m es log. EachPass Afresh es)
-    (record {
-      opens = λ w h f monitor. tt;
-      aside = λ m es log p. p;
-      passes = λ t n m a es log sound codes h p.
-          each-append Afresh es (passed (passage t n m a) ∷ []) p
-          ((refl, has-set (λ i. isReady (getD (passage t n m a .here .lines) i idle))), tt);
-      over = λ m es log p. p;
-      links = λ m chip link up es log p. p;
-      reads = λ m chip es log sound h p. each-append Afresh es (emptied chip ∷ []) p tt;
-    })
+no-stale-block = always-each Afresh (λ t n m a sound codes h. (refl, has-set (λ i. isReady (getD (passage t n m a .here .lines) i idle))))

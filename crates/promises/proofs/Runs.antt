@@ -5,16 +5,20 @@ use mathlib.Core.Logic.{inr}
 use mathlib.Core.Bool.{Bool}
 use mathlib.Core.List.{List, [], _∷_, _++_, foldl, append-nil, append-assoc}
 use Prim.Native.Nat.{ℕ, zero, suc, _*_, _<_}
+use native.Mathlib.Omega.{arith}
 use lib.ListN.{getD, set}
+use lib.Seq.{getD-set-same}
 use Rattle.mesh.specs.Mesh.{Mesh, fresh, opened}
-use Rattle.mesh.specs.Steps.{Tables, Arrival, Going, setOut, rowsAt, codesAt, settingAt, outcomeAt, logOf, setAside, arrivals, roundOver, passAt}
+use Rattle.mesh.specs.Steps.{Tables, Arrival, Going, setOut, rowsAt, codesAt, settingAt, outcomeAt, logOf, chipAfter, setAside, arrivals, roundOver, passAt}
 use Rattle.mesh.specs.Calls.{withLink, withEmpty}
 use Rattle.lists.specs.Lists.{All}
 use Rattle.mesh.specs.Sound.{Arrives, SoundMesh}
 use Rattle.mesh.proofs.SoundArrivals.{sound-arrivals}
 use Rattle.mesh.proofs.SoundSteps.{CodesFor, sound-aside, sound-pass}
 use Rattle.promises.specs.History.{Tag, Passage, Event, passed, emptied, turned, passages}
+use Rattle.promises.specs.Told.{EachPass}
 use Rattle.promises.specs.Demand3.{Always}
+use Rattle.promises.proofs.Told.{each-append}
 use Rattle.promises.proofs.Accepts.{arrivalNow}
 use Rattle.promises.proofs.Histories.{Kept, always-kept}
 
@@ -25,11 +29,17 @@ passage t n m a =
       arrival = a;
       rounds = n;
       here = getD (m .chips) (a .chip) fresh;
+      left = getD (passAt t turned (setOut m) a .mesh .chips) (a .chip) fresh;
       rows = rowsAt t (a .chip);
       codes = codesAt t (m .height * m .width) (a .chip);
       setting = settingAt m (getD (m .chips) (a .chip) fresh);
       outcome = outcomeAt t m (a .chip) (a .source) (a .flight .packet);
     }
+
+-- The chip as a pass leaves it.
+pub left-after : (t : Tables) (n : ℕ) (m : Mesh Tag) (a : Arrival Tag) → SoundMesh m → Arrives (m .height * m .width) a
+    → passage t n m a .left ≡ chipAfter (passage t n m a .outcome) (turned (a .flight .tag)) (passage t n m a .here)
+left-after t n m a sound h = getD-set-same (m .chips) (a .chip) _ fresh (omega (arith, sound .many, h .there))
 
 -- What is to be shown of each single thing that happens, where P speaks of a mesh, of what happened before, and of the log.
 pub record Steady (P : Mesh Tag → List Event → List ℕ → Type 0) : Type 0 where
@@ -78,6 +88,22 @@ module _ (P : Mesh Tag → List Event → List ℕ → Type 0) (steady : Steady 
 
   pub always-steady : Always (λ f s. P (s .mesh) (s .events) (s .log))
   always-steady = always-kept (λ f s. P (s .mesh) (s .events) (s .log)) kept
+
+-- What the record of every pass shows by itself.
+pub always-each : (R : Passage → Type 0)
+    → ((t : Tables) (n : ℕ) (m : Mesh Tag) (a : Arrival Tag) → SoundMesh m → CodesFor t m → Arrives (m .height * m .width) a → R (passage t n m a))
+    → Always (λ f s. EachPass R (s .events))
+unfolding EachPass
+always-each R shows =
+    always-steady (λ m es log. EachPass R es)
+    (record {
+      opens = λ w h f monitor. tt;
+      aside = λ m es log p. p;
+      passes = λ t n m a es log sound codes h p. each-append R es (passed (passage t n m a) ∷ []) p (shows t n m a sound codes h, tt);
+      over = λ m es log p. p;
+      links = λ m chip link up es log p. p;
+      reads = λ m chip es log sound h p. each-append R es (emptied chip ∷ []) p tt;
+    })
 
 -- ---- one chip
 

@@ -1,4 +1,4 @@
--- What a pass sends weighs, on the links where it lands, what the pass's own account says: a link marked 01 two, any other packet one. Assumes nothing.
+-- What a pass sends weighs, on the links where it lands, what the pass's own account says: a link marked 01 two, any other packet one.
 use mathlib.Core.Path.{_≡_, refl, sym, ap, _∙_, subst}
 use mathlib.Core.Bool.{Bool, true, false, cond, _&&_, and-false}
 use mathlib.Core.List.{List}
@@ -17,6 +17,7 @@ use Rattle.steps.specs.declared.Outcome.{Outcome}
 use Rattle.steps.specs.declared.Setting.{Setting}
 use Rattle.steps.specs.Links.{has}
 use Rattle.steps.specs.Deciding.{decided, outcomeOf, markOn, packetOn, legPacket, Source, Checked}
+use Rattle.kept.specs.Counting.{sentCount}
 use Rattle.kept.specs.Units.{weight, overLinks, weightSent}
 use Rattle.steps.proofs.Bounds.{outcome-sets}
 use Rattle.lists.proofs.Six.{six}
@@ -31,30 +32,31 @@ use Rattle.mesh.proofs.Fitting.{has-none}
 
 -- ---- a chip after a pass
 
--- what link i gets
-abbrev gained : Outcome → ℕ → ℕ
-gained o i = cond (has (o .sent) i) (weight (packetOn o i)) 0 + cond (has (o .leg) i) (weight (legPacket o)) 0
+abbrev pub weighed : {A : Type 0} → Flight A → ℕ
+weighed x = weight (x .packet)
 
-module _ {A : Type 0} where
-  abbrev pub weighed : Flight A → ℕ
-  weighed x = weight (x .packet)
+-- by any measure of the packets in flight
+module _ {A : Type 0} (w : Flight A → ℕ) where
+  -- what link i gets
+  abbrev gained : Outcome → A → ℕ → ℕ
+  gained o tag i = cond (has (o .sent) i) (w (record { packet = packetOn o i; tag = tag })) 0 + cond (has (o .leg) i) (w (record { packet = legPacket o; tag = tag })) 0
 
-  total-sent : (b : Bool) (p : Packet) (tag : A) → total weighed (sent b p tag) ≡ cond b (weight p) 0
+  total-sent : (b : Bool) (p : Packet) (tag : A) → total w (sent b p tag) ≡ cond b (w (record { packet = p; tag = tag })) 0
   unfolding total
   total-sent true p tag = omega arith
   total-sent false p tag = refl
 
-  line-gains : (o : Outcome) (tag : A) (i : ℕ) (l : Line A) → onLine weighed (lineAfter o tag i l) ≡ onLine weighed l + gained o i
+  line-gains : (o : Outcome) (tag : A) (i : ℕ) (l : Line A) → onLine w (lineAfter o tag i l) ≡ onLine w l + gained o tag i
   line-gains o tag i l =
       simp total-append (omega (arith, total-sent (has (o .sent) i) (packetOn o i) tag, total-sent (has (o .leg) i) (legPacket o) tag))
 
-  chip-gains : (o : Outcome) (tag : A) (c : Chip A) → length (c .lines) ≡ 6 → onChip weighed (chipAfter o tag c) ≡ onChip weighed c + overLinks (gained o)
+  chip-gains : (o : Outcome) (tag : A) (c : Chip A) → length (c .lines) ≡ 6 → onChip w (chipAfter o tag c) ≡ onChip w c + overLinks (gained o tag)
   unfolding total linesAfter
   chip-gains o tag c h =
-      subst (λ (ls : List (Line A)). total (onLine weighed) (linesAfter o tag 0 ls) ≡ total (onLine weighed) ls + overLinks (gained o)) (sym (six idle (c .lines) h))
+      subst (λ (ls : List (Line A)). total (onLine w) (linesAfter o tag 0 ls) ≡ total (onLine w) ls + overLinks (gained o tag)) (sym (six idle (c .lines) h))
       (omega (arith, gains 0, gains 1, gains 2, gains 3, gains 4, gains 5))
     where
-      gains : (i : ℕ) → onLine weighed (lineAfter o tag i (getD (c .lines) i idle)) ≡ onLine weighed (getD (c .lines) i idle) + gained o i
+      gains : (i : ℕ) → onLine w (lineAfter o tag i (getD (c .lines) i idle)) ≡ onLine w (getD (c .lines) i idle) + gained o tag i
       gains i = line-gains o tag i (getD (c .lines) i idle)
 
 -- ---- what is sent
@@ -92,8 +94,8 @@ module _ (p : Packet) (s : ℕ) (rows codes : List ℕ) (t : Setting) (h : Check
   leg-weighs : weight (legPacket (outcomeOf p s rows codes t)) ≡ 1
   leg-weighs = weight-of (legPacket (outcomeOf p s rows codes t)) _ 3 refl (pass.sent-leg p s rows codes t h from .new) ∙ simp and-false
 
-  sent-weighs : overLinks (gained (outcomeOf p s rows codes t)) ≡ weightSent (outcomeOf p s rows codes t)
-  sent-weighs =
+  sent-weighs : {A : Type 0} (tag : A) → overLinks (gained weighed (outcomeOf p s rows codes t) tag) ≡ weightSent (outcomeOf p s rows codes t)
+  sent-weighs tag =
       let o = outcomeOf p s rows codes t in
       (λ j. overLinks (λ i. cond (has (o .sent) i) (on-weighs i j) 0 + cond (has (o .leg) i) (leg-weighs j) 0))
       ∙ over-add (λ i. cond (has (o .sent) i) (cond (eqb (markOn o i) 1) 2 1) 0) (λ i. cond (has (o .leg) i) 1 0)
@@ -102,4 +104,18 @@ module _ (p : Packet) (s : ℕ) (rows codes : List ℕ) (t : Setting) (h : Check
   -- so a chip of six links weighs more by what the pass sends
   pub chip-weighs-sent : {A : Type 0} (tag : A) (c : Chip A) → length (c .lines) ≡ 6
       → onChip weighed (chipAfter (outcomeOf p s rows codes t) tag c) ≡ onChip weighed c + weightSent (outcomeOf p s rows codes t)
-  chip-weighs-sent tag c lines = chip-gains (outcomeOf p s rows codes t) tag c lines ∙ ap (λ (n : ℕ). onChip weighed c + n) sent-weighs
+  chip-weighs-sent tag c lines = chip-gains weighed (outcomeOf p s rows codes t) tag c lines ∙ ap (λ (n : ℕ). onChip weighed c + n) (sent-weighs tag)
+
+  -- and holds more by as many as it sends
+  pub chip-holds-sent : {A : Type 0} (tag : A) (c : Chip A) → length (c .lines) ≡ 6
+      → onChip (λ x. 1) (chipAfter (outcomeOf p s rows codes t) tag c) ≡ onChip (λ x. 1) c + sentCount (outcomeOf p s rows codes t)
+  chip-holds-sent tag c lines =
+      let o = outcomeOf p s rows codes t in
+      let sets = outcome-sets p s rows codes t in
+      omega (
+        arith,
+        chip-gains (λ x. 1) o tag c lines,
+        over-add (λ i. cond (has (o .sent) i) 1 0) (λ i. cond (has (o .leg) i) 1 0),
+        links-ones (o .sent) (sets .sent),
+        links-ones (o .leg) (sets .leg),
+      )

@@ -31,12 +31,13 @@ pub record Tag : Type 0 where
 abbrev pub turned : Tag → Tag
 turned t = record { injection = t .injection; packet = t .packet; before = t .before; crossed = t .crossed + 1 }
 
--- What is remembered of a pass: what arrived where, the rounds accepted before, the chip as the pass found it, its tables and setting, and all that
--- the pass did (errors, the wanted set with its branches, what was sent, dropped, delivered, swallowed).
+-- What is remembered of a pass: what arrived where, the rounds accepted before, the chip as the pass found it and as it left it, its tables and setting, and all
+-- that the pass did (errors, the wanted set with its branches, what was sent, dropped, delivered, swallowed).
 pub record Passage : Type 0 where
   pub arrival : Arrival Tag
   pub rounds : ℕ
   pub here : Chip Tag
+  pub left : Chip Tag
   pub rows : List ℕ
   pub codes : List ℕ
   pub setting : Setting
@@ -66,6 +67,7 @@ passages t n g (a ∷ later) =
       arrival = a;
       rounds = n;
       here = getD (g .mesh .chips) (a .chip) fresh;
+      left = getD (passAt t turned g a .mesh .chips) (a .chip) fresh;
       rows = rowsAt t (a .chip);
       codes = codesAt t (g .mesh .height * g .mesh .width) (a .chip);
       setting = settingAt (g .mesh) (getD (g .mesh .chips) (a .chip) fresh);

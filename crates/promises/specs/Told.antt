@@ -1,9 +1,8 @@
 -- What a history tells: sums over its passes, the drops since a chip's registers were last read, the records of its log.
-use Prim.Native.Nat.{ℕ, _+_}
+use Prim.Native.Nat.{ℕ, _+_, _-_}
 use mathlib.Core.Path.{_≡_}
 use mathlib.Core.Bool.{Bool, true, false, cond, _&&_, not}
 use mathlib.Core.List.{List, [], _∷_, _++_, foldl, map}
-use lib.Count.{ones}
 use lib.Dec.{eqb}
 use lib.ListN.{getD}
 use Rattle.packet.specs.declared.Packet.{Packet}
@@ -23,6 +22,7 @@ use Rattle.mesh.specs.Mesh.{Chip, Mesh}
 use Rattle.mesh.specs.Steps.{logOf}
 use Rattle.mesh.specs.Calls.{Left}
 use Rattle.lists.specs.Lists.{All}
+use Rattle.mesh.specs.Weights.{onChip}
 use Rattle.promises.specs.History.{Passage, Event, passed, emptied}
 
 -- ---- copies
@@ -59,13 +59,13 @@ isMiss p =
     && noRow (firstMatch (p .arrival .flight .packet .word) (rowsOf (p .rows)))
 
 -- What one pass adds to the history's own counts: passes, parity, age, length, bad local ("an error counter counts the passes that showed its
--- error"), packets sent, processor deliveries without error, units dropped, units swallowed, local misses.
+-- error"), packets sent (so many more are on the chip's links than before), processor deliveries without error, units dropped, units swallowed, local misses.
 abbrev pub ownCounts : Passage → List ℕ
 ownCounts p =
     let q = p .arrival .flight .packet in
     1 ∷ flag (not (isOdd q)) 1 ∷ flag (tooOld (q .control) (p .arrival .source) (p .setting .phase)) 1 ∷ flag (wrongLength q) 1
     ∷ flag (badLocal (q .control) (p .arrival .source)) 1
-    ∷ (ones (p .outcome .sent) + ones (p .outcome .leg))
+    ∷ (onChip (λ x. 1) (p .left) - onChip (λ x. 1) (p .here))
     ∷ delivered (p .outcome)
     ∷ dropCount (p .outcome)
     ∷ swallowed (p .outcome)
