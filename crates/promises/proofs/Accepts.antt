@@ -18,7 +18,7 @@ use Rattle.mesh.specs.Sound.{Passable}
 use Rattle.mesh.proofs.SoundSteps.{CodesFor}
 use Rattle.mesh.proofs.Accepts.{inject-goes, round-goes}
 use Rattle.mesh.specs.Asked.{Look, Call, inject, round, setLink, readRegisters, change, look, leftBy}
-use Rattle.promises.specs.History.{Tag, State, Event, emptied, turned, tagOf, tagNow, passages, accepted}
+use Rattle.promises.specs.History.{Tag, Given, State, Event, emptied, turned, tagOf, tagNow, passages, accepted}
 
 -- ---- the tests that have passed
 
@@ -68,7 +68,7 @@ module _ (s : State) where
   afterInjection chip bytes t =
       record {
         mesh = injected t turned (s .mesh) chip (arrivalNow chip bytes .flight) .mesh;
-        injections = s .injections + 1;
+        given = s .given ++ record { packet = packetAt bytes; before = s .rounds } ∷ [];
         rounds = s .rounds;
         events = s .events ++ passages t (s .rounds) (setOut (s .mesh)) (arrivalNow chip bytes ∷ []);
         log = s .log ++ injected t turned (s .mesh) chip (arrivalNow chip bytes .flight) .log;
@@ -78,26 +78,26 @@ module _ (s : State) where
   afterRound t =
       record {
         mesh = rounded t turned (s .mesh) .mesh;
-        injections = s .injections;
+        given = s .given;
         rounds = s .rounds + 1;
         events = s .events ++ passages t (s .rounds) (setOut (setAside (s .mesh))) (arrivals (s .mesh));
         log = s .log ++ rounded t turned (s .mesh) .log;
       }
 
   abbrev pub afterLink : ℕ → ℕ → Bool → State
-  afterLink chip link up = record { mesh = withLink (s .mesh) chip link up; injections = s .injections; rounds = s .rounds; events = s .events; log = s .log }
+  afterLink chip link up = record { mesh = withLink (s .mesh) chip link up; given = s .given; rounds = s .rounds; events = s .events; log = s .log }
 
   abbrev pub afterRead : ℕ → State
   afterRead chip =
-      record { mesh = withEmpty (s .mesh) chip; injections = s .injections; rounds = s .rounds; events = s .events ++ emptied chip ∷ []; log = s .log }
+      record { mesh = withEmpty (s .mesh) chip; given = s .given; rounds = s .rounds; events = s .events ++ emptied chip ∷ []; log = s .log }
 
   -- what a call leaves
   abbrev here : Call → Left Tag
   here c = leftBy turned (tagNow s c) (s .mesh) c
 
   -- a state, field by field
-  abbrev plainly : Mesh Tag → List Event → List ℕ → ℕ → ℕ → State
-  plainly m events log i r = record { mesh = m; injections = i; rounds = r; events = events; log = log }
+  abbrev plainly : Mesh Tag → List Event → List ℕ → List Given → ℕ → State
+  plainly m events log given r = record { mesh = m; given = given; rounds = r; events = events; log = log }
 
   pub inject-leaves : (chip : ℕ) (bytes : List ℕ) (t : Tables) (room : ℕ) → here (change (inject chip bytes t room)) .refusal ≡ 0
       → accepted s (here (change (inject chip bytes t room))) (change (inject chip bytes t room)) ≡ afterInjection chip bytes t
@@ -105,24 +105,24 @@ module _ (s : State) where
       let k = afterInjection chip bytes t in
       ap (λ (r : Left Tag). accepted s r (change (inject chip bytes t room)))
       (unless-leaves (firstOf (injectRefusals true (many (s .mesh)) chip t room bytes)) (s .mesh) (injected t turned (s .mesh) chip (arrivalNow chip bytes .flight)) e)
-      ∙ ap (λ (n : ℕ). plainly (k .mesh) (k .events) (k .log) (s .injections + 1) n) (add-zero (s .rounds))
+      ∙ ap (λ (n : ℕ). plainly (k .mesh) (k .events) (k .log) (k .given) n) (add-zero (s .rounds))
 
   pub round-leaves : (t : Tables) (room : ℕ) → here (change (round t room)) .refusal ≡ 0 → accepted s (here (change (round t room))) (change (round t room)) ≡ afterRound t
   round-leaves t room e =
       let k = afterRound t in
       ap (λ (r : Left Tag). accepted s r (change (round t room)))
       (unless-leaves (firstOf (roundRefusals true (many (s .mesh)) (inFlight (s .mesh)) t room)) (s .mesh) (rounded t turned (s .mesh)) e)
-      ∙ ap (λ (n : ℕ). plainly (k .mesh) (k .events) (k .log) n (s .rounds + 1)) (add-zero (s .injections))
+      ∙ ap (λ (given : List Given). plainly (k .mesh) (k .events) (k .log) given (s .rounds + 1)) (append-nil (s .given))
 
   -- nothing but the mesh and the events is another
   still : (m : Mesh Tag) (events : List Event)
-      → plainly m events (s .log ++ []) (s .injections + 0) (s .rounds + 0) ≡ plainly m events (s .log) (s .injections) (s .rounds)
-  still m events = λ i. plainly m events (append-nil (s .log) i) (add-zero (s .injections) i) (add-zero (s .rounds) i)
+      → plainly m events (s .log ++ []) (s .given ++ []) (s .rounds + 0) ≡ plainly m events (s .log) (s .given) (s .rounds)
+  still m events = λ i. plainly m events (append-nil (s .log) i) (append-nil (s .given) i) (add-zero (s .rounds) i)
 
   -- nothing but the mesh is another
   quiet : (m : Mesh Tag)
-      → plainly m (s .events ++ []) (s .log ++ []) (s .injections + 0) (s .rounds + 0) ≡ plainly m (s .events) (s .log) (s .injections) (s .rounds)
-  quiet m = still m (s .events ++ []) ∙ ap (λ (events : List Event). plainly m events (s .log) (s .injections) (s .rounds)) (append-nil (s .events))
+      → plainly m (s .events ++ []) (s .log ++ []) (s .given ++ []) (s .rounds + 0) ≡ plainly m (s .events) (s .log) (s .given) (s .rounds)
+  quiet m = still m (s .events ++ []) ∙ ap (λ (events : List Event). plainly m events (s .log) (s .given) (s .rounds)) (append-nil (s .events))
 
   pub link-leaves : (chip link : ℕ) (up : Bool) → here (change (setLink chip link up)) .refusal ≡ 0 → accepted s (here (change (setLink chip link up))) (change (setLink chip link up)) ≡ afterLink chip link up
   link-leaves chip link up e =

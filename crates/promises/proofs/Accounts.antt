@@ -7,10 +7,11 @@ use mathlib.Core.List.{List, [], _∷_, _++_, foldl}
 use Prim.Native.Nat.{ℕ, _+_, _*_, _<_}
 use native.Mathlib.Nat.{add-zero}
 use native.Mathlib.Omega.{arith}
-use lib.ListN.{replicate}
+use lib.ListN.{length, replicate, length-append}
 use borrow.Author.Tests.{lt-ltb}
 use Rattle.kept.specs.Units.{weightIn, extra, weightSent, settled}
 use Rattle.tables.proofs.Sizes as sizes
+use Rattle.packet.specs.Bytes.{packetAt}
 use Rattle.router.proofs.Inputs as inputs
 use Rattle.kept.proofs.OnePass as pass
 use Rattle.links.specs.Line.{idle}
@@ -117,7 +118,7 @@ passes-account t n g (a ∷ later) sound codes h =
 -- ---- every history
 
 abbrev Closes : ℕ → State → Type 0
-Closes f s = s .injections + extras (s .events) ≡ ends (s .events) + onMesh weighed (s .mesh)
+Closes f s = length (s .given) + extras (s .events) ≡ ends (s .events) + onMesh weighed (s .mesh)
 
 extras-append : (es later : List Event) → extras (es ++ later) ≡ extras es + extras later
 extras-append es later = sum-append _ es later
@@ -136,6 +137,7 @@ account-kept =
           omega (
             arith,
             closes,
+            length-append (s .given) (record { packet = packetAt bytes; before = s .rounds } ∷ []),
             extras-append (s .events) (passages t (s .rounds) g (a ∷ [])),
             ends-append (s .events) (passages t (s .rounds) g (a ∷ [])),
             passes-account t (s .rounds) g (a ∷ []) sound (h .codes) (record { there = h .there; from = inr refl; passable = h .passable }, tt),

@@ -1,5 +1,5 @@
 -- Demand 3, proved: each statement of specs/Demand3.antt, and where its proof stands.
-use Rattle.promises.specs.Demand3.{Forgetting, Program, ReplayIsItsCalls, SequenceIsCalls, WholeRun, LinksCrossed, GoneInTime, NotBeforeItsTime, Account, Counts, Registers, Log, NoStaleBlock, NoLinkAbove8}
+use Rattle.promises.specs.Demand3.{Forgetting, Program, ReplayIsItsCalls, SequenceIsCalls, WholeRun, LinksCrossed, GoneInTime, NotBeforeItsTime, Account, Counts, Registers, Log, NoStaleBlock, NoLinkAbove8, Belonging, CopiesApart}
 use Rattle.promises.proofs.Forgets as forgets
 use Rattle.promises.proofs.Ages as ages
 use Rattle.promises.proofs.Accounts as accounts
@@ -7,6 +7,8 @@ use Rattle.promises.proofs.Owned as owned
 use Rattle.promises.proofs.Registered as registered
 use Rattle.promises.proofs.Records as records
 use Rattle.promises.proofs.Few as few
+use Rattle.promises.proofs.Belongs as belongs
+use Rattle.promises.proofs.Apart as apart
 use Rattle.promises.proofs.Sequences as sequences
 use Rattle.promises.proofs.WholeRuns as whole-runs
 
@@ -51,3 +53,9 @@ no-stale-block = records.no-stale-block
 
 pub no-link-above-8 : NoLinkAbove8
 no-link-above-8 = few.no-link-above-8
+
+pub belonging : Belonging
+belonging = belongs.belonging
+
+pub copies-apart : CopiesApart
+copies-apart = apart.copies-apart

@@ -2,6 +2,8 @@ pub mod Accepts
 pub mod Accounts
 pub mod Aged
 pub mod Ages
+pub mod Apart
+pub mod Belongs
 pub mod Clock
 pub mod Counted
 pub mod Demand3

@@ -8,17 +8,18 @@ use lib.ListN.{length, getD}
 use Rattle.steps.specs.Links.{has}
 use Rattle.steps.specs.Deciding.{outcomeOf}
 use Rattle.kept.specs.Units.{weight, extra, settled}
-use Rattle.links.specs.Line.{idle, isReady}
+use Rattle.links.specs.Line.{Flight, idle, isReady}
 use Rattle.mesh.specs.Mesh.{Mesh, fresh, opened}
 use Rattle.buffer.specs.Layout.{meshOf}
 use Rattle.buffer.specs.Holding.{holdsMesh}
 use Rattle.mesh.specs.Steps.{Tables, same}
 use Rattle.mesh.specs.Weights.{onMesh}
 use Rattle.buffer.specs.Leaving.{Leaves}
+use Rattle.lists.specs.Lists.{All}
 use Rattle.mesh.specs.Asked.{Call, leftBy, answerOf}
 use Rattle.trace.specs.declared.Replayed.{Replayed}
 use Rattle.trace.specs.Replay.{replayOf, Replays}
-use Rattle.promises.specs.History.{State, Opens, after, begun, history}
+use Rattle.promises.specs.History.{Tag, Given, State, Opens, turned, noneGiven, after, begun, history}
 use Rattle.promises.specs.Sequence.{Step, replay, stepped, sequence, madeIn, Run}
 use Rattle.promises.specs.Told.{Stamped, EachFlight, EachPass, sumOf, countAt, dropsSince, firstOfUnits, recordsOf, plain, plainLeft}
 
@@ -75,7 +76,7 @@ NotBeforeItsTime = Always (λ f s.
 -- flight.
 abbrev pub Account : Type 0
 Account = Always (λ f s.
-    s .injections + sumOf (λ p. extra (p .outcome)) (s .events)
+    length (s .given) + sumOf (λ p. extra (p .outcome)) (s .events)
     ≡ sumOf (λ p. settled (p .outcome) (p .arrival .source)) (s .events) + onMesh (λ x. weight (x .packet)) (s .mesh))
 
 -- 5. The counters of each chip: "the counters equal theirs modulo their width", theirs being the sums over the history of passes.
@@ -103,3 +104,21 @@ NoStaleBlock = Always (λ f s. EachPass (λ p.
 abbrev pub NoLinkAbove8 : Type 0
 NoLinkAbove8 = Always (λ f s. (chip link : ℕ) → chip < s .mesh .height * s .mesh .width → link < 6
     → length (getD (getD (s .mesh .chips) chip fresh .lines) link idle .held) ≤ 8)
+
+-- 10. "Each copy there is tied to the injection it came from, so that equal bytes stay apart": it has the number of an accepted injection, the packet as that one handed it in,
+-- and the rounds before. A new injection takes the number of none before it: those in flight are all below `length given`.
+abbrev pub Belongs : List Given → Tag → Type 0
+Belongs given tag = (tag .injection < length given) × (getD given (tag .injection) noneGiven ≡ record { packet = tag .packet; before = tag .before })
+
+abbrev pub Belonging : Type 0
+Belonging = Always (λ f s. EachFlight (λ x. Belongs (s .given) (x .tag)) (s .mesh) × EachPass (λ p. Belongs (s .given) (p .arrival .flight .tag)) (s .events))
+
+-- What a pass adds to a link stands behind what the link held before, and each packet of it has the passing packet's own tag, turned.
+pub record Behind (before after : List (Flight Tag)) (tag : Tag) : Type 0 where
+  pub added : List (Flight Tag)
+  pub joined : after ≡ before ++ added
+  pub tagged : All (λ (x : Flight Tag). x .tag ≡ tag) added
+
+abbrev pub CopiesApart : Type 0
+CopiesApart = Always (λ f s. EachPass (λ p. (i : ℕ) → i < 6
+    → Behind (getD (p .here .lines) i idle .held) (getD (p .left .lines) i idle .held) (turned (p .arrival .flight .tag))) (s .events))

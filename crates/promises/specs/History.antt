@@ -6,9 +6,9 @@ use mathlib.Core.Path.{_≡_}
 use mathlib.Core.Bool.{true, cond}
 use mathlib.Core.List.{List, [], _∷_, _++_, foldl}
 use lib.Dec.{eqb}
-use lib.ListN.{getD}
+use lib.ListN.{length, getD, replicate}
 use Rattle.packet.specs.declared.Packet.{Packet}
-use Rattle.packet.specs.Bytes.{packetAt}
+use Rattle.packet.specs.Bytes.{packetAt, nothing}
 use Rattle.steps.specs.declared.Outcome.{Outcome}
 use Rattle.steps.specs.declared.Setting.{Setting}
 use Rattle.tables.specs.Sizes.{sizeFine}
@@ -48,10 +48,18 @@ pub data Event : Type 0 where
   passed : Passage → Event
   emptied : ℕ → Event
 
+-- What an accepted injection handed in, and how many rounds had been accepted before it.
+pub record Given : Type 0 where
+  pub packet : Packet
+  pub before : ℕ
+
+abbrev pub noneGiven : Given
+noneGiven = record { packet = nothing; before = 0 }
+
 pub record State : Type 0 where
   pub mesh : Mesh Tag
-  -- accepted injections, accepted rounds
-  pub injections : ℕ
+  -- accepted injections, in order; accepted rounds
+  pub given : List Given
   pub rounds : ℕ
   -- what happened, in order, and the records of all accepted calls, joined
   pub events : List Event
@@ -84,9 +92,9 @@ eventsOf s tag (change (readRegisters chip)) = emptied chip ∷ []
 eventsOf s tag (change (setLink chip link up)) = []
 eventsOf s tag (look l) = []
 
--- The tag of a packet that is injected now.
+-- The tag of a packet that is injected now: the number of the injection is how many there were before.
 abbrev pub tagOf : State → Packet → Tag
-tagOf s p = record { injection = s .injections; packet = p; before = s .rounds; crossed = 0 }
+tagOf s p = record { injection = length (s .given); packet = p; before = s .rounds; crossed = 0 }
 
 abbrev pub tagNow : State → Call → Tag
 tagNow s c = tagOf s (handedIn c)
@@ -96,7 +104,7 @@ abbrev pub accepted : State → calls.Left Tag → Call → State
 accepted s r c =
     record {
       mesh = r .mesh;
-      injections = s .injections + isInjection c;
+      given = s .given ++ replicate (isInjection c) (record { packet = handedIn c; before = s .rounds });
       rounds = s .rounds + isRound c;
       events = s .events ++ eventsOf s (tagNow s c) c;
       log = s .log ++ r .log;
@@ -114,7 +122,7 @@ pub record Opens (width height rounds monitor : ℕ) : Type 0 where
   pub monitored : monitor ≤ 19
 
 abbrev pub begun : ℕ → ℕ → ℕ → ℕ → State
-begun width height rounds monitor = record { mesh = opened width height rounds monitor; injections = 0; rounds = 0; events = []; log = [] }
+begun width height rounds monitor = record { mesh = opened width height rounds monitor; given = []; rounds = 0; events = []; log = [] }
 
 unfoldable pub history : ℕ → ℕ → ℕ → ℕ → List Call → State
 history width height rounds monitor cs = foldl after (begun width height rounds monitor) cs
