@@ -33,28 +33,29 @@ pub data Call : Type 0 where
   change : Change → Call
   look : Look → Call
 
-pub data Answer : Type 0 where
-  ofAdded : Added → Answer
-  ofRefusal : ℕ → Answer
-  ofRegisters : RegistersRead → Answer
-  ofCount : CountRead → Answer
-  ofMesh : MeshRead → Answer
-  ofLink : LinkRead → Answer
-  ofFlight : FlightRead → Answer
+-- What a look shows.
+pub data Seen : Type 0 where
+  ofCount : CountRead → Seen
+  ofMesh : MeshRead → Seen
+  ofLink : LinkRead → Seen
+  ofFlight : FlightRead → Seen
 
-abbrev pub refusalOf : Answer → ℕ
-refusalOf (ofAdded a) = a .refusal
-refusalOf (ofRefusal n) = n
-refusalOf (ofRegisters r) = r .refusal
+abbrev pub refusalOf : Seen → ℕ
 refusalOf (ofCount r) = r .refusal
 refusalOf (ofMesh r) = r .refusal
 refusalOf (ofLink r) = r .refusal
 refusalOf (ofFlight r) = r .refusal
 
+pub data Answer : Type 0 where
+  ofAdded : Added → Answer
+  ofRefusal : ℕ → Answer
+  ofRegisters : RegistersRead → Answer
+  ofLook : Seen → Answer
+
 -- ---- what a call answers and leaves, of a buffer that holds a mesh
 
 module _ {A : Type 0} where
-  abbrev pub seenBy : Mesh A → Look → Answer
+  abbrev pub seenBy : Mesh A → Look → Seen
   seenBy m (readCounter chip counter) = ofCount (calls.countRead true m chip counter)
   seenBy m lookMesh = ofMesh (calls.meshRead true m)
   seenBy m (lookLink chip link) = ofLink (calls.linkRead true m chip link)
@@ -72,7 +73,7 @@ module _ {A : Type 0} where
   answerOf turn tag m (change (round t room)) = ofAdded (calls.addedOf (calls.rounding true t turn m room))
   answerOf turn tag m (change (setLink chip link up)) = ofRefusal (calls.linking true m chip link up .refusal)
   answerOf turn tag m (change (readRegisters chip)) = ofRegisters (calls.registersRead true m chip)
-  answerOf turn tag m (look l) = seenBy m l
+  answerOf turn tag m (look l) = ofLook (seenBy m l)
 
 -- ---- what a history asks of a call
 

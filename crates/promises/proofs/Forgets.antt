@@ -21,7 +21,7 @@ use Rattle.buffer.specs.Holding.{holdsMesh}
 use Rattle.mesh.specs.Steps.{Going, withChip, injected, rounded, same, setOut}
 use Rattle.mesh.specs.Calls as calls
 use Rattle.mesh.specs.Weights.{inFlight}
-use Rattle.mesh.specs.Asked.{Look, Answer, Call, inject, round, setLink, readRegisters, readCounter, lookMesh, lookLink, lookFlight, change, look, refusalOf, seenBy, ofAdded, ofRefusal, ofRegisters, ofCount, ofMesh, ofLink, ofFlight, leftBy, answerOf}
+use Rattle.mesh.specs.Asked.{Look, Call, inject, round, setLink, readRegisters, readCounter, lookMesh, lookLink, lookFlight, change, look, refusalOf, seenBy, ofAdded, ofRefusal, ofRegisters, ofCount, ofMesh, ofLink, ofFlight, leftBy, answerOf, Seen, ofLook}
 use Rattle.promises.specs.History.{Tag, turned, tagNow, accepted, after}
 use Rattle.promises.specs.Told.{plainFlight, plainLine, plainChip, plain, plainLeft}
 use Rattle.promises.specs.Demand3.{Forgetting, Program}
@@ -106,7 +106,7 @@ module _ {A : Type 0} where
         let n = firstOf (calls.chipRefusals true (calls.many m) chip) in
         plain-unless n m (setOut (calls.withEmpty m chip))
         ∙ ap (λ (x : Mesh (Unit {0})). calls.unless n (plain m) (setOut x)) (plain-empty m chip)
-    forgets-left (look l) = ap (λ (r : Answer). record { refusal = refusalOf r; mesh = plain m; log = [] }) (forgets-seen m l)
+    forgets-left (look l) = ap (λ (r : Seen). record { refusal = refusalOf r; mesh = plain m; log = [] }) (forgets-seen m l)
 
     forgets-answer : (c : Call) → answerOf turn tag m c ≡ answerOf same tt (plain m) c
     forgets-answer (change (inject chip bytes t room)) = ap (λ (r : calls.Left (Unit {0})). ofAdded (calls.addedOf r)) (forgets-left (change (inject chip bytes t room)))
@@ -115,7 +115,7 @@ module _ {A : Type 0} where
     forgets-answer (change (readRegisters chip)) =
         let n = firstOf (calls.chipRefusals true (calls.many m) chip) in
         ap (λ (x : Chip (Unit {0})). ofRegisters (record { refusal = n; registers = cond (eqb n 0) (x .registers) empty })) (sym (plain-chip m chip))
-    forgets-answer (look l) = forgets-seen m l
+    forgets-answer (look l) = ap ofLook (forgets-seen m l)
 
 pub forgetting : Forgetting
 forgetting A turn tag m c = (forgets-left turn tag m c, forgets-answer turn tag m c)

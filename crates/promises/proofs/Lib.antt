@@ -12,6 +12,7 @@ pub mod Few
 pub mod Flights
 pub mod Forgets
 pub mod Histories
+pub mod Lefts
 pub mod Owned
 pub mod Plains
 pub mod Records

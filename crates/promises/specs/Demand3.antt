@@ -20,7 +20,7 @@ use Rattle.mesh.specs.Asked.{Call, leftBy, answerOf}
 use Rattle.trace.specs.declared.Replayed.{Replayed}
 use Rattle.trace.specs.Replay.{replayOf, Replays}
 use Rattle.promises.specs.History.{Tag, Given, State, Opens, turned, noneGiven, after, begun, history}
-use Rattle.promises.specs.Sequence.{Step, replay, stepped, sequence, madeIn, Run}
+use Rattle.promises.specs.Sequence.{Step, replay, stepped, sequence, madeIn, Reply, answersOf, Run}
 use Rattle.promises.specs.Told.{Stamped, EachFlight, EachPass, sumOf, countAt, dropsSince, firstOfUnits, recordsOf, plain, plainLeft}
 
 -- 2F - (r mod F): the further rounds that a packet injected after r rounds has before it is too old.
@@ -48,10 +48,11 @@ ReplayIsItsCalls = (s : State) (trace : List ℕ) (t : Tables) (before after′ 
 abbrev pub SequenceIsCalls : Type 0
 SequenceIsCalls = (w h f monitor : ℕ) (xs : List Step) → sequence w h f monitor xs ≡ history w h f monitor (madeIn (begun w h f monitor) xs)
 
--- So a buffer that was opened holds, after any run of calls and replays, the mesh of their sequence.
+-- So a buffer that was opened holds, after any run of the program, the mesh of its sequence; the records that were added to the logs, joined, are the sequence's log, and the
+-- answers are those of the history.
 abbrev pub WholeRun : Type 0
-WholeRun = (w h f monitor : ℕ) (before behind : List ℕ) (xs : List Step) → holdsMesh before ≡ true → meshOf before ≡ opened w h f monitor → Run before xs behind
-    → (holdsMesh behind ≡ true) × (meshOf behind ≡ plain (sequence w h f monitor xs .mesh))
+WholeRun = (w h f monitor : ℕ) (before behind log : List ℕ) (xs : List Step) (answers : List Reply) → holdsMesh before ≡ true → meshOf before ≡ opened w h f monitor → Run before xs behind log answers
+    → (holdsMesh behind ≡ true) × (meshOf behind ≡ plain (sequence w h f monitor xs .mesh)) × (log ≡ sequence w h f monitor xs .log) × (answers ≡ answersOf (begun w h f monitor) xs)
 
 -- What a theorem over histories says of one: a sequence of calls and replays, refused ones among them.
 abbrev pub Always : (ℕ → State → Type 0) → Type 0

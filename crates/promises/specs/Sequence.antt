@@ -1,20 +1,22 @@
--- Sequences of calls and replays. A replay is the calls that it makes, so that a sequence is the history of all the calls that are made in it.
-use Prim.Native.Nat.{ℕ, _-_}
+-- Sequences of calls and replays. A replay is the calls that it makes, so that a sequence is the history of all the calls on the mesh that are made in it; and runs of
+-- the program, step by step as the calls' contracts say.
+use Prim.Native.Nat.{ℕ, _-_, _*_}
 use mathlib.Core.Path.{_≡_}
 use mathlib.Core.Bool.{true, cond}
 use mathlib.Core.List.{List, [], _∷_, _++_, foldl}
 use lib.Dec.{eqb}
-use lib.ListN.{length}
+use lib.ListN.{length, take}
 use Rattle.mesh.specs.Mesh.{Mesh}
 use Rattle.buffer.specs.Layout.{meshOf}
 use Rattle.mesh.specs.Steps.{Tables, same}
 use Rattle.buffer.specs.Leaving.{Leaves}
+use Rattle.mesh.specs.Calls.{loggedOn}
 use Rattle.trace.specs.declared.Call.{Call as KeptCall}
 use Rattle.trace.specs.declared.Replayed.{Replayed}
 use Rattle.trace.specs.Records.{byKind, packetOf}
-use Rattle.trace.specs.Replay.{Trace, over, refused, then, traceOf, making, replayOf, Replays}
-use Rattle.mesh.specs.Asked.{Call, inject, round, setLink, readRegisters, change, leftBy}
-use Rattle.promises.specs.History.{State, after, begun}
+use Rattle.trace.specs.Replay.{Trace, over, refused, then, traceOf, making, replaying, replayOf, replayedOf, Replays}
+use Rattle.mesh.specs.Asked.{Call, inject, round, setLink, readRegisters, change, Answer, ofAdded, ofRefusal, ofRegisters, ofLook, leftBy, answerOf}
+use Rattle.promises.specs.History.{State, turned, tagNow, after, begun}
 use Rattle.promises.specs.Told.{plain}
 
 -- A kept call with its tables and a log of so many numbers.
@@ -50,12 +52,44 @@ unfoldable pub madeIn : State → List Step → List Call
 madeIn s [] = []
 madeIn s (x ∷ xs) = callsBy s x ++ madeIn (stepped s x) xs
 
--- A run of the program: a buffer before, some calls and replays, and a buffer that they may leave, each by its contract.
-pub data Run : List ℕ → List Step → List ℕ → Type 0 where
-  ended : {l : List ℕ} → Run l [] l
-  called : {before between behind : List ℕ} {c : Call} {xs : List Step} → Leaves before between (leftBy same tt (meshOf before) c) → Run between xs behind
-      → Run before (call c ∷ xs) behind
-  replayed : {before between behind log written trace : List ℕ} {t : Tables} {room : ℕ} {answer : Replayed} {xs : List Step} → length log ≡ room
-      → Replays before between log written answer (replayOf before t room trace)
-      → Run between xs behind
-      → Run before (replay trace t room ∷ xs) behind
+-- ---- answers
+
+-- What the steps that are lent a mesh answer.
+pub data Reply : Type 0 where
+  toCall : Answer → Reply
+  toReplay : Replayed → Reply
+
+-- In a history: by its own mesh, tags and all. What reading registers hands over is among them.
+abbrev pub answersBy : State → Step → List Reply
+answersBy s (call c) = toCall (answerOf turned (tagNow s c) (s .mesh) c) ∷ []
+answersBy s (replay trace t room) = toReplay (replayedOf (replaying true t (plain (s .mesh)) room (traceOf trace))) ∷ []
+
+unfoldable pub answersOf : State → List Step → List Reply
+answersOf s [] = []
+answersOf s (x ∷ xs) = answersBy s x ++ answersOf (stepped s x) xs
+
+-- ---- runs of the program
+
+-- How many records an answer says were added to the log; only an injection and a round are lent one.
+abbrev pub addedIn : Answer → ℕ
+addedIn (ofAdded a) = a .added
+addedIn (ofRefusal n) = 0
+addedIn (ofRegisters r) = 0
+addedIn (ofLook x) = 0
+
+-- A call on a buffer that holds a mesh, by its contract: the buffer before and after, the log as it was lent and as it came back, and the answer.
+pub record Called (before after lent written : List ℕ) (answer : Answer) (c : Call) : Type 0 where
+  pub buffer : Leaves before after (leftBy same tt (meshOf before) c)
+  pub answered : answer ≡ answerOf same tt (meshOf before) c
+  pub logged : written ≡ loggedOn (leftBy same tt (meshOf before) c .log) lent
+
+-- A buffer before, some steps, and, each by its contract: the buffer that they may leave, the records that they may add to their logs, joined, and what they may answer.
+pub data Run : List ℕ → List Step → List ℕ → List ℕ → List Reply → Type 0 where
+  ended : {l : List ℕ} → Run l [] l [] []
+  called : {before between behind log : List ℕ} {xs : List Step} {answers : List Reply} {c : Call} (lent written : List ℕ) (answer : Answer) → Called before between lent written answer c
+      → Run between xs behind log answers
+      → Run before (call c ∷ xs) behind (take (addedIn answer * 6) written ++ log) (toCall answer ∷ answers)
+  replayed : {before between behind log : List ℕ} {xs : List Step} {answers : List Reply} {trace : List ℕ} {t : Tables} {room : ℕ} (lent written : List ℕ) (answer : Replayed) → length lent ≡ room
+      → Replays before between lent written answer (replayOf before t room trace)
+      → Run between xs behind log answers
+      → Run before (replay trace t room ∷ xs) behind (take (answer .added * 6) written ++ log) (toReplay answer ∷ answers)

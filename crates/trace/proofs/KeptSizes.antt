@@ -1,4 +1,4 @@
--- What every kept call keeps: the mesh's size; records of six numbers; and where one is accepted there is a mesh, where one is refused no record. Assumes nothing.
+-- What every kept call keeps: the mesh's size; records of six numbers; and where one is accepted there is a mesh, where one is refused no record.
 use mathlib.Core.Path.{_≡_, refl}
 use mathlib.Core.Bool.{Bool, true, false, cond, not}
 use mathlib.Core.List.{List, [], _∷_, foldl}
@@ -12,7 +12,7 @@ use Rattle.packet.specs.Bytes.{packetAt}
 use Rattle.steps.specs.declared.Outcome.{Outcome}
 use Rattle.steps.specs.Links.{processorsOf}
 use Rattle.mesh.specs.Mesh.{Mesh}
-use Rattle.mesh.specs.Steps.{Tables, Arrival, Going, outcomeAt, logOf, setAside, arrivals, passAt, injected, rounded}
+use Rattle.mesh.specs.Steps.{Tables, Arrival, Going, setOut, outcomeAt, logOf, setAside, arrivals, passAt, injected, rounded}
 use Rattle.mesh.specs.Weights.{inFlight}
 use Rattle.mesh.specs.Calls.{Left, many, unless, withLink, withEmpty, injectRefusals, roundRefusals, linkRefusals, chipRefusals}
 use Rattle.trace.specs.declared.Call.{Call}
@@ -36,7 +36,7 @@ record-six chip o = go (ltb (o .wanted) 64)
     go false = refl
 
 module _ {A : Type 0} where
-  record Size (m : Mesh A) (g : Going A) : Type 0 where
+  pub record Size (m : Mesh A) (g : Going A) : Type 0 where
     pub width : g .mesh .width ≡ m .width
     pub height : g .mesh .height ≡ m .height
     pub sixes : length (g .log) % 6 ≡ 0
@@ -51,18 +51,18 @@ module _ {A : Type 0} where
     size-passes [] g h = h
     size-passes (a ∷ later) g h = size-passes later (passAt t turn g a) (size-pass g a h)
 
-    size-injected : (chip : ℕ) (a : A) (bytes : List ℕ) → Size m (injected t turn m chip (record { packet = packetAt bytes; tag = a }))
+    pub size-injected : (chip : ℕ) (a : A) (bytes : List ℕ) → Size m (injected t turn m chip (record { packet = packetAt bytes; tag = a }))
     size-injected chip a bytes =
-        size-pass (record { mesh = m; log = [] }) (record { chip = chip; source = 7; flight = record { packet = packetAt bytes; tag = a } }) (record { width = refl; height = refl; sixes = refl })
+        size-pass (setOut m) (record { chip = chip; source = 7; flight = record { packet = packetAt bytes; tag = a } }) (record { width = refl; height = refl; sixes = refl })
 
-    size-rounded : Size m (rounded t turn m)
+    pub size-rounded : Size m (rounded t turn m)
     size-rounded =
-        let h = size-passes (arrivals m) (record { mesh = setAside m; log = [] }) (record { width = refl; height = refl; sixes = refl }) in
+        let h = size-passes (arrivals m) (setOut (setAside m)) (record { width = refl; height = refl; sixes = refl }) in
         record { width = h .width; height = h .height; sixes = h .sixes }
 
   -- where a call is accepted there is a mesh
   module _ (holds : Bool) (n : ℕ) (accepted : n ≡ 0 → holds ≡ true) (m : Mesh A) (g : Going A) (h : Size m g) where
-    keeps-unless : Keeps holds m (unless n m g)
+    pub keeps-unless : Keeps holds m (unless n m g)
     keeps-unless = go (eqb n 0) refl
       where
         go : (b : Bool) → eqb n 0 ≡ b → Keeps holds m (cond b (record { refusal = 0; mesh = g .mesh; log = g .log }) (record { refusal = n; mesh = m; log = [] }))
@@ -77,7 +77,7 @@ module _ {A : Type 0} where
       mesh-there true rest e = refl
       mesh-there false rest e = absurd (omega arith)
 
-      quiet : (n : Mesh A) → n .width ≡ m .width → n .height ≡ m .height → Size m (record { mesh = n; log = [] })
+      quiet : (n : Mesh A) → n .width ≡ m .width → n .height ≡ m .height → Size m (setOut n)
       quiet n w h = record { width = w; height = h; sixes = refl }
 
       one : Keeps holds m (unless (firstOf (injectRefusals holds (many m) (c .chip) t room (packetOf c))) m (injected t turn m (c .chip) (record { packet = packetAt (packetOf c); tag = tag })))
@@ -89,22 +89,22 @@ module _ {A : Type 0} where
       two : Keeps holds m (unless (firstOf (roundRefusals holds (many m) (inFlight m) t room)) m (rounded t turn m))
       two = keeps-unless holds (firstOf (roundRefusals holds (many m) (inFlight m) t room)) (mesh-there holds _) m (rounded t turn m) (size-rounded t turn m)
 
-      three : Keeps holds m (unless (firstOf (linkRefusals holds (many m) (c .chip) (c .link))) m (record { mesh = withLink m (c .chip) (c .link) (eqb (c .up) 1); log = [] }))
+      three : Keeps holds m (unless (firstOf (linkRefusals holds (many m) (c .chip) (c .link))) m (setOut (withLink m (c .chip) (c .link) (eqb (c .up) 1))))
       three =
-          keeps-unless holds (firstOf (linkRefusals holds (many m) (c .chip) (c .link))) (mesh-there holds _) m (record { mesh = withLink m (c .chip) (c .link) (eqb (c .up) 1); log = [] })
+          keeps-unless holds (firstOf (linkRefusals holds (many m) (c .chip) (c .link))) (mesh-there holds _) m (setOut (withLink m (c .chip) (c .link) (eqb (c .up) 1)))
           (quiet (withLink m (c .chip) (c .link) (eqb (c .up) 1)) refl refl)
 
-      four : Keeps holds m (unless (firstOf (chipRefusals holds (many m) (c .chip))) m (record { mesh = withEmpty m (c .chip); log = [] }))
+      four : Keeps holds m (unless (firstOf (chipRefusals holds (many m) (c .chip))) m (setOut (withEmpty m (c .chip))))
       four =
-          keeps-unless holds (firstOf (chipRefusals holds (many m) (c .chip))) (mesh-there holds _) m (record { mesh = withEmpty m (c .chip); log = [] })
+          keeps-unless holds (firstOf (chipRefusals holds (many m) (c .chip))) (mesh-there holds _) m (setOut (withEmpty m (c .chip)))
           (quiet (withEmpty m (c .chip)) refl refl)
 
       go : (x y z : Bool)
           → Keeps holds m
           (cond x (unless (firstOf (injectRefusals holds (many m) (c .chip) t room (packetOf c))) m (injected t turn m (c .chip) (record { packet = packetAt (packetOf c); tag = tag })))
           (cond y (unless (firstOf (roundRefusals holds (many m) (inFlight m) t room)) m (rounded t turn m))
-          (cond z (unless (firstOf (linkRefusals holds (many m) (c .chip) (c .link))) m (record { mesh = withLink m (c .chip) (c .link) (eqb (c .up) 1); log = [] }))
-          (unless (firstOf (chipRefusals holds (many m) (c .chip))) m (record { mesh = withEmpty m (c .chip); log = [] })))))
+          (cond z (unless (firstOf (linkRefusals holds (many m) (c .chip) (c .link))) m (setOut (withLink m (c .chip) (c .link) (eqb (c .up) 1))))
+          (unless (firstOf (chipRefusals holds (many m) (c .chip))) m (setOut (withEmpty m (c .chip)))))))
       go true y z = one
       go false true z = two
       go false false true = three

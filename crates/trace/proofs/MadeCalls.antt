@@ -1,4 +1,4 @@
--- What a call on a mesh gives is what the kept call gives, kind by kind. Assumes nothing.
+-- What a call on a mesh gives is what the kept call gives, kind by kind.
 use mathlib.Core.Path.{_≡_, refl, sym, ap, _∙_, subst}
 use mathlib.Core.Bool.{Bool, true, false, cond}
 use mathlib.Core.List.{List, []}
@@ -12,7 +12,7 @@ use Rattle.packet.specs.Refusal.{firstOf}
 use Rattle.mesh.specs.Mesh.{Mesh}
 use Rattle.buffer.specs.Layout.{meshOf}
 use Rattle.buffer.specs.Holding.{holdsMesh}
-use Rattle.mesh.specs.Steps.{Tables, Going}
+use Rattle.mesh.specs.Steps.{Tables, Going, setOut}
 use Rattle.mesh.specs.Calls.{Left, many, unless, chipRefusals, linkRefusals, withLink, withEmpty, addedOf, loggedOn, registersRead}
 use Rattle.buffer.specs.Leaving.{Leaves, injectLeft, roundLeft, linkLeft, registersLeft}
 use Rattle.trace.specs.declared.Call.{Call}
@@ -22,18 +22,18 @@ use Rattle.trace.proofs.ByKind.{by-1, by-2, by-3, by-else}
 
 -- ---- refused or not, a call that makes no pass adds no record, and answers its number
 
-module _ (n : ℕ) (m : Mesh (Unit {0})) (g : Going (Unit {0})) where
-  unless-quiet : g .log ≡ [] → unless n m g .log ≡ []
+module _ {A : Type 0} (n : ℕ) (m : Mesh A) (g : Going A) where
+  pub unless-quiet : g .log ≡ [] → unless n m g .log ≡ []
   unless-quiet e = go (eqb n 0)
     where
-      go : (b : Bool) → cond {A = Left (Unit {0})} b (record { refusal = 0; mesh = g .mesh; log = g .log }) (record { refusal = n; mesh = m; log = [] }) .log ≡ []
+      go : (b : Bool) → cond {A = Left A} b (record { refusal = 0; mesh = g .mesh; log = g .log }) (record { refusal = n; mesh = m; log = [] }) .log ≡ []
       go true = e
       go false = refl
 
   unless-number : unless n m g .refusal ≡ n
   unless-number = go (eqb n 0) refl
     where
-      go : (b : Bool) → eqb n 0 ≡ b → cond {A = Left (Unit {0})} b (record { refusal = 0; mesh = g .mesh; log = g .log }) (record { refusal = n; mesh = m; log = [] }) .refusal ≡ n
+      go : (b : Bool) → eqb n 0 ≡ b → cond {A = Left A} b (record { refusal = 0; mesh = g .mesh; log = g .log }) (record { refusal = n; mesh = m; log = [] }) .refusal ≡ n
       go true e = sym (eqb-true n 0 e)
       go false e = refl
 
@@ -69,7 +69,7 @@ module _ (t : Tables) (l log : List ℕ) where
         → Gives (record { refusal = n; added = 0 }) l₁ log (madeLeft l t (length log) c)
     made-change k n number h =
         let x = linkLeft l (c .chip) (c .link) (eqb (c .up) 1) in
-        let none = unless-quiet (firstOf (linkRefusals (holdsMesh l) (many (meshOf l)) (c .chip) (c .link))) (meshOf l) (record { mesh = withLink (meshOf l) (c .chip) (c .link) (eqb (c .up) 1); log = [] }) refl in
+        let none = unless-quiet (firstOf (linkRefusals (holdsMesh l) (many (meshOf l)) (c .chip) (c .link))) (meshOf l) (setOut (withLink (meshOf l) (c .chip) (c .link) (eqb (c .up) 1))) refl in
         subst (Gives (record { refusal = n; added = 0 }) l₁ log) (sym (by-3 (a c (record { refusal = n; added = 0 }) l₁ log) (b c (record { refusal = n; added = 0 }) l₁ log) x (registersLeft l (c .chip)) (c .kind) k))
         (quiet (record { refusal = n; added = 0 }) l₁ x none (λ i. record { refusal = number i; added = 0 }) h)
 
@@ -78,7 +78,7 @@ module _ (t : Tables) (l log : List ℕ) where
         → Gives (record { refusal = r .refusal; added = 0 }) l₁ log (madeLeft l t (length log) c)
     made-read x y z r read h =
         let n = firstOf (chipRefusals (holdsMesh l) (many (meshOf l)) (c .chip)) in
-        let g : Going (Unit {0}) = record { mesh = withEmpty (meshOf l) (c .chip); log = [] } in
+        let g = setOut (withEmpty (meshOf l) (c .chip)) in
         let number : r .refusal ≡ registersLeft l (c .chip) .refusal = ap (λ (q : RegistersRead). q .refusal) read ∙ sym (unless-number n (meshOf l) g) in
         let answer : Added = record { refusal = r .refusal; added = 0 } in
         subst (Gives answer l₁ log) (sym (by-else (a c answer l₁ log) (b c answer l₁ log) (linkLeft l (c .chip) (c .link) (eqb (c .up) 1)) (registersLeft l (c .chip)) (c .kind) x y z))

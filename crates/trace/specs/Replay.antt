@@ -76,9 +76,13 @@ replaying holds t m room (then c n rest) =
 abbrev pub replayOf : List ℕ → Tables → ℕ → List ℕ → Replay
 replayOf l t room s = replaying (holdsMesh l) t (meshOf l) room (traceOf s)
 
+-- "... giving its number, the record's first byte and the log records added".
+abbrev pub replayedOf : Replay → Replayed
+replayedOf r = record { refusal = r .refusal; at = r .at; added = length (r .log) / 6 }
+
 -- A replay's buffer, log and answer. A replay that stopped at its first record has changed no word; words past the needed length are never touched.
 pub record Replays (before after log written : List ℕ) (answer : Replayed) (r : Replay) : Type 0 where
-  pub answered : answer ≡ record { refusal = r .refusal; at = r .at; added = length (r .log) / 6 }
+  pub answered : answer ≡ replayedOf r
   pub logged : written ≡ loggedOn (r .log) log
   pub mesh : meshOf after ≡ r .mesh
   pub holds : holdsMesh after ≡ holdsMesh before
