@@ -1,6 +1,6 @@
 -- A buffer that was opened holds, after any run of the program, the mesh of its sequence; the records added to its logs are the sequence's, and the answers those of the history.
 use mathlib.Core.Path.{_≡_, refl, sym, ap, _∙_, subst}
-use mathlib.Core.Bool.{true}
+use mathlib.Core.Bool.{Bool, true, cond}
 use mathlib.Core.List.{List, [], _∷_, _++_, map, foldl, append-nil, append-assoc}
 use Prim.Native.Nat.{ℕ, zero, suc, _*_}
 use lib.ListN.{replicate, length, take, drop}
@@ -12,10 +12,12 @@ use Rattle.promises.specs.History.{Tag, State, begun, turned, tagNow, af
 use native.Mathlib.Omega.{arith}
 use lib.Seq.{take-at}
 use Rattle.mesh.specs.Steps.{Tables, same}
+use borrow.Author.Tests.{ne-eqb}
+use Rattle.buffer.specs.Opening.{openedWords, opening}
 use Rattle.mesh.specs.Asked.{Call, Answer, leftBy, answerOf}
 use Rattle.trace.specs.declared.Replayed.{Replayed}
 use Rattle.promises.specs.Told.{plainChip, plain}
-use Rattle.promises.specs.Sequence.{Step, call, replay, stepped, sequence, Reply, toCall, toReplay, answersBy, answersOf, addedIn, Called, Run, ended, called, replayed}
+use Rattle.promises.specs.Sequence.{Step, call, replay, apart, lentNone, openRefused, stepped, sequence, Reply, toCall, toReplay, answersBy, answersOf, addedIn, Called, Run, ended, called, replayed, aside, notOpened}
 use Rattle.promises.specs.Demand3.{WholeRun}
 use Rattle.promises.proofs.Forgets.{forgetting, program}
 use Rattle.promises.proofs.Lefts.{records-added, log-after, replay-sixes}
@@ -77,6 +79,10 @@ module _ (s : State) (before : List ℕ) (holds : holdsMesh before ≡ true) (me
             answered = ap (λ (a : Replayed). toReplay a ∷ []) (k .answered ∙ ap replayedOf same-replay);
           }
 
+-- an opening that is refused leaves the buffer as it came
+refused-opens-nothing : (refusal : ℕ) (l : List ℕ) (w h f monitor : ℕ) → (refusal ≡ 0 → ⊥) → opening refusal l w h f monitor ≡ l
+refused-opens-nothing refusal l w h f monitor some = ap (λ (b : Bool). cond b (openedWords l w h f monitor) l) (ne-eqb refusal 0 some)
+
 -- ---- all of them
 
 pub record RunTold (s : State) (xs : List Step) (behind log : List ℕ) (answers : List Reply) : Type 0 where
@@ -107,6 +113,12 @@ run-told s l (call c ∷ later) behind log answers held m (called {between} lent
 run-told s l (replay trace t room ∷ later) behind log answers held m (replayed {between} lent written answer long contract rest) =
     let one = replay-told s l held m trace t room between lent written answer long contract in
     then-told one (run-told (stepped s (replay trace t room)) between later behind _ _ (one .holds) (one .mesh) rest)
+run-told s l (apart (lentNone a) ∷ later) behind log answers held m (aside rest) =
+    let r = run-told s l later behind log answers held m rest in record { holds = r .holds; mesh = r .mesh; logged = r .logged; answered = r .answered }
+run-told s l (apart (openRefused w h f monitor) ∷ later) behind log answers held m (notOpened {between} refusal first some e rest) =
+    let stays : between ≡ l = e ∙ refused-opens-nothing refusal l w h f monitor some in
+    let r = run-told s between later behind log answers (ap holdsMesh stays ∙ held) (ap meshOf stays ∙ m) rest in
+    record { holds = r .holds; mesh = r .mesh; logged = r .logged; answered = r .answered }
 
 pub whole-run : WholeRun
 unfolding sequence

@@ -54,7 +54,7 @@ abbrev pub WholeRun : Type 0
 WholeRun = (w h f monitor : ℕ) (before behind log : List ℕ) (xs : List Step) (answers : List Reply) → holdsMesh before ≡ true → meshOf before ≡ opened w h f monitor → Run before xs behind log answers
     → (holdsMesh behind ≡ true) × (meshOf behind ≡ plain (sequence w h f monitor xs .mesh)) × (log ≡ sequence w h f monitor xs .log) × (answers ≡ answersOf (begun w h f monitor) xs)
 
--- What a theorem over histories says of one: a sequence of calls and replays, refused ones among them.
+-- What a theorem over histories says of one: a sequence of any calls, refused ones among them.
 abbrev pub Always : (ℕ → State → Type 0) → Type 0
 Always P = (w h f monitor : ℕ) → Opens w h f monitor → (xs : List Step) → P f (sequence w h f monitor xs)
 

@@ -1,4 +1,4 @@
--- Sequences of calls and replays. A replay is the calls that it makes, so that a sequence is the history of all the calls on the mesh that are made in it; and runs of
+-- Sequences of calls of any kind. A replay is the calls that it makes, so that a sequence is the history of all the calls on the mesh that are made in it; and runs of
 -- the program, step by step as the calls' contracts say.
 use Prim.Native.Nat.{ℕ, _-_, _*_}
 use mathlib.Core.Path.{_≡_}
@@ -6,11 +6,13 @@ use mathlib.Core.Bool.{true, cond}
 use mathlib.Core.List.{List, [], _∷_, _++_, foldl}
 use lib.Dec.{eqb}
 use lib.ListN.{length, take}
+use Rattle.packet.specs.Refusal.{firstOf}
 use Rattle.mesh.specs.Mesh.{Mesh}
 use Rattle.buffer.specs.Layout.{meshOf}
 use Rattle.mesh.specs.Steps.{Tables, same}
 use Rattle.buffer.specs.Leaving.{Leaves}
 use Rattle.mesh.specs.Calls.{loggedOn}
+use Rattle.buffer.specs.Opening.{openRefusals, opening}
 use Rattle.trace.specs.declared.Call.{Call as KeptCall}
 use Rattle.trace.specs.declared.Replayed.{Replayed}
 use Rattle.trace.specs.Records.{byKind, packetOf}
@@ -33,13 +35,30 @@ callsIn t m room (then c n rest) =
     let r = making true t same tt m room c in
     askedOf t room c ∷ cond (eqb (r .refusal) 0) (callsIn t (r .mesh) (room - length (r .log)) rest) []
 
+-- The calls that are lent no mesh: the needed length, reading, packing, one pass alone, a search, a record of a trace written or read.
+pub data NoMesh : Type 0 where
+  size : NoMesh
+  read : NoMesh
+  pack : NoMesh
+  pass : NoMesh
+  find : NoMesh
+  writeRecord : NoMesh
+  readRecord : NoMesh
+
+-- What stands anywhere in a sequence and does nothing to the mesh: these, and an opening that is refused. One that is accepted begins another history.
+pub data Apart : Type 0 where
+  lentNone : NoMesh → Apart
+  openRefused : (width height rounds monitor : ℕ) → Apart
+
 pub data Step : Type 0 where
   call : Call → Step
   replay : (trace : List ℕ) (t : Tables) (room : ℕ) → Step
+  apart : Apart → Step
 
 abbrev pub callsBy : State → Step → List Call
 callsBy s (call c) = c ∷ []
 callsBy s (replay trace t room) = callsIn t (plain (s .mesh)) room (traceOf trace)
+callsBy s (apart a) = []
 
 abbrev pub stepped : State → Step → State
 stepped s x = foldl after s (callsBy s x)
@@ -63,6 +82,7 @@ pub data Reply : Type 0 where
 abbrev pub answersBy : State → Step → List Reply
 answersBy s (call c) = toCall (answerOf turned (tagNow s c) (s .mesh) c) ∷ []
 answersBy s (replay trace t room) = toReplay (replayedOf (replaying true t (plain (s .mesh)) room (traceOf trace))) ∷ []
+answersBy s (apart a) = []
 
 unfoldable pub answersOf : State → List Step → List Reply
 answersOf s [] = []
@@ -93,3 +113,10 @@ pub data Run : List ℕ → List Step → List ℕ → List ℕ → List Reply �
       → Replays before between lent written answer (replayOf before t room trace)
       → Run between xs behind log answers
       → Run before (replay trace t room ∷ xs) behind (take (answer .added * 6) written ++ log) (toReplay answer ∷ answers)
+  aside : {before behind log : List ℕ} {xs : List Step} {answers : List Reply} {a : NoMesh} → Run before xs behind log answers
+      → Run before (apart (lentNone a) ∷ xs) behind log answers
+  notOpened : {before between behind log : List ℕ} {xs : List Step} {answers : List Reply} {w h f monitor : ℕ} (refusal : ℕ) → refusal ≡ firstOf (openRefusals (length before) w h f monitor)
+      → (refusal ≡ 0 → ⊥)
+      → between ≡ opening refusal before w h f monitor
+      → Run between xs behind log answers
+      → Run before (apart (openRefused w h f monitor) ∷ xs) behind log answers
