@@ -1,4 +1,3 @@
-pub mod Aside
 pub mod Asked
 pub mod Calls
 pub mod Mesh

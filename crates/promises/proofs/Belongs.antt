@@ -3,7 +3,7 @@
 use mathlib.Core.Path.{refl, _∙_}
 use mathlib.Core.Logic.{inr}
 use mathlib.Core.List.{List, [], _∷_, _++_}
-use Prim.Native.Nat.{ℕ, _+_, _<_}
+use Prim.Native.Nat.{ℕ, _<_}
 use native.Mathlib.Omega.{arith}
 use lib.ListN.{length, length-append, List·getD-append}
 use lib.Seq.{getD-at}
@@ -14,10 +14,10 @@ use Rattle.mesh.specs.Steps.{Tables, Arrival, setOut, setAside, arrivals}
 use Rattle.mesh.specs.Sound.{SoundMesh}
 use Rattle.mesh.proofs.SoundArrivals.{sound-arrivals}
 use Rattle.mesh.proofs.SoundSteps.{CodesFor, sound-aside}
-use Rattle.promises.specs.History.{Tag, Passage, Event, passed, emptied, Given, State, turned, noneGiven, passages}
+use Rattle.promises.specs.History.{Tag, Passage, Given, State, turned, noneGiven, passages}
 use Rattle.promises.specs.Told.{EachFlight, EachPass}
 use Rattle.promises.specs.Demand3.{Belongs, Belonging}
-use Rattle.promises.proofs.Told.{each-append}
+use Rattle.promises.proofs.Told.{each-append, each-pass-weaken}
 use Rattle.promises.proofs.Accepts as accepts
 use Rattle.promises.proofs.Histories.{always-kept}
 use Rattle.promises.proofs.Flights.{Sends, each-weaken, each-opened, each-aside, each-arrival, each-linked, each-emptied, each-after-pass, each-after-passes, each-passage}
@@ -43,12 +43,6 @@ Came s p = Belongs (s .given) (p .arrival .flight .tag)
 sends-belong : (given : List Given) (o : Outcome) (tag : Tag) → Belongs given tag → Sends (λ x. Belongs given (x .tag)) o (turned tag)
 sends-belong given o tag b = record { links = λ i hi sent. b; leg = λ i hi sent. b }
 
-each-still : (P Q : Passage → Type 0) → ((p : Passage) → P p → Q p) → (es : List Event) → EachPass P es → EachPass Q es
-unfolding EachPass
-each-still P Q f [] h = tt
-each-still P Q f (passed p ∷ es) h = (f p (h .0), each-still P Q f es (h .1))
-each-still P Q f (emptied c ∷ es) h = each-still P Q f es h
-
 abbrev Tied : ℕ → State → Type 0
 Tied f s = EachFlight (Copy s) (s .mesh) × EachPass (Came s) (s .events)
 
@@ -62,7 +56,7 @@ module _ (f : ℕ) (s : State) (t : Tables) (sound : SoundMesh (s .mesh)) (codes
       let new = belongs-new (s .given) g 0 in (
         each-after-pass t turned (Copy later) (setOut (s .mesh)) a sound (record { there = h .there; from = inr refl; passable = h .passable }) (sends-belong (later .given) _ (a .flight .tag) new)
             (each-weaken (Copy s) (Copy later) (λ x. belongs-still (s .given) (g ∷ []) (x .tag)) (s .mesh) (tied .0)),
-        each-append (Came later) (s .events) _ (each-still (Came s) (Came later) (λ p. belongs-still (s .given) (g ∷ []) (p .arrival .flight .tag)) (s .events) (tied .1)) (new, tt),
+        each-append (Came later) (s .events) _ (each-pass-weaken (Came s) (Came later) (λ p. belongs-still (s .given) (g ∷ []) (p .arrival .flight .tag)) (s .events) (tied .1)) (new, tt),
       )
 
   round-ties : Tied f (accepts.afterRound s t)

@@ -1,4 +1,4 @@
--- Laws of what a history tells: events one after the other. Assumes nothing.
+-- Laws of what a history tells: events one after the other.
 use mathlib.Core.Path.{_≡_, refl, sym, ap, _∙_}
 use mathlib.Core.List.{List, [], _∷_, _++_, append-assoc}
 use Prim.Native.Nat.{ℕ, _+_}
@@ -18,6 +18,12 @@ unfolding EachPass
 each-append P [] later a b = b
 each-append P (passed p ∷ es) later a b = (a .0, each-append P es later (a .1) b)
 each-append P (emptied c ∷ es) later a b = each-append P es later a b
+
+pub each-pass-weaken : (P Q : Passage → Type 0) → ((p : Passage) → P p → Q p) → (es : List Event) → EachPass P es → EachPass Q es
+unfolding EachPass
+each-pass-weaken P Q f [] h = tt
+each-pass-weaken P Q f (passed p ∷ es) h = (f p (h .0), each-pass-weaken P Q f es (h .1))
+each-pass-weaken P Q f (emptied c ∷ es) h = each-pass-weaken P Q f es h
 
 pub records-append : (es later : List Event) → recordsOf (es ++ later) ≡ recordsOf es ++ recordsOf later
 unfolding recordsOf
