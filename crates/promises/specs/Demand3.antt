@@ -51,8 +51,11 @@ SequenceIsCalls = (w h f monitor : ℕ) (xs : List Step) → sequence w h f moni
 -- So a buffer that was opened holds, after any run of the program, the mesh of its sequence; the records that were added to the logs, joined, are the sequence's log, and the
 -- answers are those of the history.
 abbrev pub WholeRun : Type 0
-WholeRun = (w h f monitor : ℕ) (before behind log : List ℕ) (xs : List Step) (answers : List Reply) → holdsMesh before ≡ true → meshOf before ≡ opened w h f monitor → Run before xs behind log answers
-    → (holdsMesh behind ≡ true) × (meshOf behind ≡ plain (sequence w h f monitor xs .mesh)) × (log ≡ sequence w h f monitor xs .log) × (answers ≡ answersOf (begun w h f monitor) xs)
+WholeRun = (w h f monitor : ℕ) (before behind log : List ℕ) (xs : List Step) (answers : List Reply) → holdsMesh before ≡ true → meshOf before ≡ opened w h f monitor
+    → Run before xs behind log answers
+    → (holdsMesh behind ≡ true) × (meshOf behind ≡ plain (sequence w h f monitor xs .mesh))
+    × (log ≡ sequence w h f monitor xs .log)
+    × (answers ≡ answersOf (begun w h f monitor) xs)
 
 -- What a theorem over histories says of one: a sequence of any calls, refused ones among them.
 abbrev pub Always : (ℕ → State → Type 0) → Type 0
@@ -106,8 +109,8 @@ abbrev pub NoLinkAbove8 : Type 0
 NoLinkAbove8 = Always (λ f s. (chip link : ℕ) → chip < s .mesh .height * s .mesh .width → link < 6
     → length (getD (getD (s .mesh .chips) chip fresh .lines) link idle .held) ≤ 8)
 
--- 10. "Each copy there is tied to the injection it came from, so that equal bytes stay apart": it has the number of an accepted injection, the packet as that one handed it in,
--- and the rounds before. A new injection takes the number of none before it: those in flight are all below `length given`.
+-- 10. "Each copy there is tied to the injection it came from, so that equal bytes stay apart": it has the number of an accepted injection, with the packet that
+-- was handed in and the rounds accepted before. A new injection takes the number of none before it: all before are below `length given`.
 abbrev pub Belongs : List Given → Tag → Type 0
 Belongs given tag = (tag .injection < length given) × (getD given (tag .injection) noneGiven ≡ record { packet = tag .packet; before = tag .before })
 
