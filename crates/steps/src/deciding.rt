@@ -134,7 +134,12 @@ fn mark_on(o: Outcome, i: u32) -> u32
 fn has_leg(errors: u32, p: Packet) -> bool
     ensures { λ r. ⌜ r ≡ hasLeg errors p ⌝ }
 {
-    (errors == 0) & is_marked(p.control) & ((mark_of(p.control) == 1) | (mark_of(p.control) == 2))
+    if is_marked(p.control) {
+        let mark = mark_of(p.control);
+        (errors == 0) & (1 <= mark) & (mark <= 2)
+    } else {
+        false
+    }
 }
 
 fn leg_set(errors: u32, p: Packet, source: u32) -> u32
