@@ -86,9 +86,9 @@ pub record Consistent (e : ℕ) (q : Packet) (s : ℕ) (w : Wanted) : Type 0 whe
   pub emergency : e ≡ 0 → isMarked (q .control) ≡ true → markOf (q .control) ≡ 2 → w .set ≡ 0
   pub arrived : e ≡ 0 → isMarked (q .control) ≡ true → markOf (q .control) ≡ 1 → s < 6
 
-module _ (e : ℕ) (q : Packet) (s : ℕ) (w : Wanted) (ready : ℕ) (hr : ready < 64) where
+module _ (e : ℕ) (q : Packet) (s phase : ℕ) (w : Wanted) (ready : ℕ) (hr : ready < 64) where
   -- every branch to a link is sent, carried or dropped
-  links-close : linkWeight (linksOf (w .set)) (decided e q s w ready .sent) (decided e q s w ready .carried) + ones (decided e q s w ready .dropped) ≡ ones (linksOf (w .set))
+  links-close : linkWeight (linksOf (w .set)) (decided e q s phase w ready .sent) (decided e q s phase w ready .carried) + ones (decided e q s phase w ready .dropped) ≡ ones (linksOf (w .set))
   unfolding decided
   links-close = go (isMarked (q .control)) refl
     where
@@ -106,7 +106,7 @@ module _ (e : ℕ) (q : Packet) (s : ℕ) (w : Wanted) (ready : ℕ) (hr : ready
       go false f = plain-weight (linksOf (w .set)) ready hl hr
 
   -- the second leg is sent or dropped
-  leg-close : ones (decided e q s w ready .leg) + ones (decided e q s w ready .lost) ≡ cond (hasLeg e q) 1 0
+  leg-close : ones (decided e q s phase w ready .leg) + ones (decided e q s phase w ready .lost) ≡ cond (hasLeg e q) 1 0
   unfolding decided legBitTest
   leg-close = go (hasLeg e q)
     where
@@ -125,14 +125,14 @@ module _ (e : ℕ) (q : Packet) (s : ℕ) (w : Wanted) (ready : ℕ) (hr : ready
       go false f = let some : 1 ≤ ones (w .set) = some-bit (w .set) (eqb-false _ _ f) in omega arith
 
   -- the branches of a packet without error: its weight and what it adds are its wanted bits, its leg, and one if it is swallowed
-  parts : Consistent e q s w → e ≡ 0 → weightIn q s + (ones (w .set) - 1) ≡ ones (w .set) + cond (hasLeg e q) 1 0 + swallowed (decided e q s w ready)
+  parts : Consistent e q s w → e ≡ 0 → weightIn q s + (ones (w .set) - 1) ≡ ones (w .set) + cond (hasLeg e q) 1 0 + swallowed (decided e q s phase w ready)
   unfolding decided
   parts h z = go (isMarked (q .control)) refl (eqb (markOf (q .control)) 1) refl (eqb (markOf (q .control)) 2) refl (ltb s 6) refl
     where
       Parts : Type 0
-      Parts = weightIn q s + (ones (w .set) - 1) ≡ ones (w .set) + cond (hasLeg e q) 1 0 + swallowed (decided e q s w ready)
+      Parts = weightIn q s + (ones (w .set) - 1) ≡ ones (w .set) + cond (hasLeg e q) 1 0 + swallowed (decided e q s phase w ready)
 
-      close : (n l x : ℕ) → weightIn q s ≡ n → cond (hasLeg e q) 1 0 ≡ l → swallowed (decided e q s w ready) ≡ x → n + (ones (w .set) - 1) ≡ ones (w .set) + l + x → Parts
+      close : (n l x : ℕ) → weightIn q s ≡ n → cond (hasLeg e q) 1 0 ≡ l → swallowed (decided e q s phase w ready) ≡ x → n + (ones (w .set) - 1) ≡ ones (w .set) + l + x → Parts
       close n l x en el ex f = simp (en, el, ex) f
 
       go : (b : Bool) → isMarked (q .control) ≡ b → (c : Bool) → eqb (markOf (q .control)) 1 ≡ c → (d : Bool) → eqb (markOf (q .control)) 2 ≡ d → (g : Bool) → ltb s 6 ≡ g → Parts
@@ -148,16 +148,16 @@ module _ (e : ℕ) (q : Packet) (s : ℕ) (w : Wanted) (ready : ℕ) (hr : ready
       go false fb c fc d fd g fg = close 1 0 (cond (eqb (w .set) 0) 1 0) (simp (fg, fb) (pick g)) (simp (z, fb)) (simp (z, fb, and-true)) (omega (arith, spare))
 
   pub account-decided : Consistent e q s w
-      → weightIn q s + extra (decided e q s w ready)
-      ≡ settled (decided e q s w ready) s + weightSent (decided e q s w ready)
+      → weightIn q s + extra (decided e q s phase w ready)
+      ≡ settled (decided e q s phase w ready) s + weightSent (decided e q s phase w ready)
   unfolding decided linkWeight sumList
   account-decided h = go (eqb e 0) refl
     where
       o : Outcome
-      o = decided e q s w ready
+      o = decided e q s phase w ready
 
       go : (b : Bool) → eqb e 0 ≡ b
-          → weightIn q s + extra (decided e q s w ready) ≡ settled (decided e q s w ready) s + weightSent (decided e q s w ready)
+          → weightIn q s + extra (decided e q s phase w ready) ≡ settled (decided e q s phase w ready) s + weightSent (decided e q s phase w ready)
       go true f =
           let branches : extra o ≡ ones (w .set) - 1 = simp f in
           let reached : delivered o ≡ ones (processorsOf (w .set)) = simp f in

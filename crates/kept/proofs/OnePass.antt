@@ -108,7 +108,7 @@ module _ (p : Packet) (s : ℕ) (rows codes : List ℕ) (t : Setting) (h : Check
       let same : weightIn p s ≡ weightIn (stampedOf p s e (t .phase)) s =
       λ i. cond (ltb s 6) (cond (same-marked _ _ (sym (q .kind)) i && eqb (sym (q .mark) i) 1) 2 1) 1 in
       ap (λ (n : ℕ). n + extra (outcomeOf p s rows codes t)) same
-      ∙ account-decided e (stampedOf p s e (t .phase)) s (wantedOf e p s rows codes t) (t .ready) (h .ready) consistent
+      ∙ account-decided e (stampedOf p s e (t .phase)) s (t .phase) (wantedOf e p s rows codes t) (t .ready) (h .ready) consistent
 
   -- ---- what is sent
 

@@ -84,8 +84,8 @@ module _ (p : Packet) (s : ℕ) (rows codes : List ℕ) (t : Setting) (h : Check
   -- it sends only by ready links
   pub sends-ready : (i : ℕ) → i < 6 → has (outcomeOf p s rows codes t .sent) i ≡ true → has (t .ready) i ≡ true
   unfolding outcomeOf
-  sends-ready i hi f = sent-ready (errorsOf p s (t .phase)) (stampedOf p s (errorsOf p s (t .phase)) (t .phase)) s (wantedOf (errorsOf p s (t .phase)) p s rows codes t) (t .ready) i hi f
+  sends-ready i hi f = sent-ready (errorsOf p s (t .phase)) (stampedOf p s (errorsOf p s (t .phase)) (t .phase)) s (t .phase) (wantedOf (errorsOf p s (t .phase)) p s rows codes t) (t .ready) i hi f
 
   pub legs-ready : (i : ℕ) → i < 6 → has (outcomeOf p s rows codes t .leg) i ≡ true → has (t .ready) i ≡ true
   unfolding outcomeOf
-  legs-ready i hi f = leg-ready (errorsOf p s (t .phase)) (stampedOf p s (errorsOf p s (t .phase)) (t .phase)) s (wantedOf (errorsOf p s (t .phase)) p s rows codes t) (t .ready) i hi f
+  legs-ready i hi f = leg-ready (errorsOf p s (t .phase)) (stampedOf p s (errorsOf p s (t .phase)) (t .phase)) s (t .phase) (wantedOf (errorsOf p s (t .phase)) p s rows codes t) (t .ready) i hi f

@@ -56,7 +56,7 @@ fn outcome_unless(
         let goes = by_rows(errors, p.control);
         let found = looked_up(goes, p.word, rows);
         let wanted = wanted_given(errors, p, source, found, codes, t);
-        decide(errors, stamped, source, wanted, t.ready)
+        decide(errors, stamped, source, t.phase, wanted, t.ready)
     } else {
         no_outcome()
     }

@@ -38,9 +38,9 @@ pub record Sets (o : Outcome) : Type 0 where
   pub leg : o .leg < 64
   pub lost : o .lost < 64
 
-pub decided-sets : (errors : ℕ) (p : Packet) (source : ℕ) (w : Wanted) (ready : ℕ) → Sets (decided errors p source w ready)
+pub decided-sets : (errors : ℕ) (p : Packet) (source phase : ℕ) (w : Wanted) (ready : ℕ) → Sets (decided errors p source phase w ready)
 unfolding decided
-decided-sets errors p source w ready =
+decided-sets errors p source phase w ready =
     let l = linksOf (w .set) in
     let g = legSet errors p source in
     record {
@@ -55,4 +55,4 @@ pub outcome-sets : (p : Packet) (source : ℕ) (rows codes : List ℕ) (t : Sett
 unfolding outcomeOf
 outcome-sets p source rows codes t =
     let e = errorsOf p source (t .phase) in
-    decided-sets e (stampedOf p source e (t .phase)) source (wantedOf e p source rows codes t) (t .ready)
+    decided-sets e (stampedOf p source e (t .phase)) source (t .phase) (wantedOf e p source rows codes t) (t .ready)

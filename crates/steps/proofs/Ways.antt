@@ -50,8 +50,8 @@ one-way w r sent carried dropped i test wanted =
     let t : _ = and-eq-true-iff (eqb (waysOf sent carried dropped i) 1) (not (has r i) || has sent i) .0 (simp wanted at test) in
     record { one = eqb-true _ _ (t .0); straight = λ ready. simp ready at (t .1) }
 
-module _ (e : ℕ) (p : Packet) (s : ℕ) (w : Wanted) (ready i : ℕ) (hr : ready < 64) (hi : i < 6) (wanted : has (linksOf (w .set)) i ≡ true) where
-  decided-way : OneWay (decided e p s w ready .sent) (decided e p s w ready .carried) (decided e p s w ready .dropped) ready i
+module _ (e : ℕ) (p : Packet) (s phase : ℕ) (w : Wanted) (ready i : ℕ) (hr : ready < 64) (hi : i < 6) (wanted : has (linksOf (w .set)) i ≡ true) where
+  decided-way : OneWay (decided e p s phase w ready .sent) (decided e p s phase w ready .carried) (decided e p s phase w ready .dropped) ready i
   unfolding decided detourTest plainTest
   decided-way = go (isMarked (p .control))
     where
@@ -75,4 +75,4 @@ pub pass-way : (p : Packet) (s : ℕ) (rows codes : List ℕ) (t : Setting) (i :
 unfolding outcomeOf decided
 pass-way p s rows codes t i hr hi wanted =
     let e = errorsOf p s (t .phase) in
-    decided-way e (stampedOf p s e (t .phase)) s (wantedOf e p s rows codes t) (t .ready) i hr hi wanted
+    decided-way e (stampedOf p s e (t .phase)) s (t .phase) (wantedOf e p s rows codes t) (t .ready) i hr hi wanted

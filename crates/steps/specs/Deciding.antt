@@ -28,8 +28,8 @@ legSet errors p source = cond (hasLeg errors p) (2 ^ link (source + 5)) 0
 
 -- Steps 4 to 7, from the packet after stamping and its wanted set: MC with detours, P2P and NN without. Step 6: "The second leg is sent with
 -- mark 11 if its link is ready, else dropped."
-unfoldable pub decided : ℕ → Packet → ℕ → Wanted → ℕ → Outcome
-decided errors p source w ready =
+unfoldable pub decided : ℕ → Packet → ℕ → ℕ → Wanted → ℕ → Outcome
+decided errors p source phase w ready =
     record {
       errors = errors;
       packet = p;
@@ -40,17 +40,19 @@ decided errors p source w ready =
       dropped = cond (isMarked (p .control)) (dropSet (linksOf (w .set)) ready) (plainDropSet (linksOf (w .set)) ready);
       leg = plainSendSet (legSet errors p source) ready;
       lost = plainDropSet (legSet errors p source) ready;
+      source = source;
+      phase = phase;
     }
 
 unfoldable pub outcomeOf : Packet → ℕ → List ℕ → List ℕ → Setting → Outcome
 outcomeOf p source rows codes t =
-    decided (errorsOf p source (t .phase)) (stampedOf p source (errorsOf p source (t .phase)) (t .phase)) source
+    decided (errorsOf p source (t .phase)) (stampedOf p source (errorsOf p source (t .phase)) (t .phase)) source (t .phase)
     (wantedOf (errorsOf p source (t .phase)) p source rows codes t)
     (t .ready)
 
 -- Nothing at all, as where a pass is refused.
 abbrev pub noOutcome : Outcome
-noOutcome = record { errors = 0; packet = nothing; wanted = 0; missed = 0; sent = 0; carried = 0; dropped = 0; leg = 0; lost = 0 }
+noOutcome = record { errors = 0; packet = nothing; wanted = 0; missed = 0; sent = 0; carried = 0; dropped = 0; leg = 0; lost = 0; source = 0; phase = 0 }
 
 -- "Mark 00 if wanted and not carrying a detour, 01 if wanted and carrying one, 10 if only carrying."
 abbrev pub markOn : Outcome → ℕ → ℕ

@@ -32,7 +32,7 @@ pub fn outcome_of(p: Packet, source: u32, rows: &[u32], codes: &[u8], t: Setting
     let goes = by_rows(errors, p.control);
     let found = looked_up(goes, p.word, rows);
     let wanted = wanted_given(errors, p, source, found, codes, t);
-    decide(errors, stamped, source, wanted, t.ready)
+    decide(errors, stamped, source, t.phase, wanted, t.ready)
 }
 
 // What a pass that does not take place does.
@@ -55,6 +55,8 @@ pub fn no_outcome() -> Outcome
         dropped: 0,
         leg: 0,
         lost: 0,
+        source: 0,
+        phase: 0,
     }
 }
 
@@ -87,9 +89,9 @@ pub fn has_link(set: u32, i: u32) -> bool
 }
 
 // Steps 4 to 7.
-pub fn decide(errors: u32, p: Packet, source: u32, w: Wanted, ready: u32) -> Outcome
+pub fn decide(errors: u32, p: Packet, source: u32, phase: u32, w: Wanted, ready: u32) -> Outcome
     requires { ⌜ (source < 8) × (ready < 64) ⌝ }
-    ensures { λ r. ⌜ r ≡ decided errors p source w ready ⌝ }
+    ensures { λ r. ⌜ r ≡ decided errors p source phase w ready ⌝ }
 {
     let leg = leg_set(errors, p, source);
     let links = w.set % 64;
@@ -104,6 +106,8 @@ pub fn decide(errors: u32, p: Packet, source: u32, w: Wanted, ready: u32) -> Out
             dropped: drop_set(links, ready),
             leg: plain_send_set(leg, ready),
             lost: plain_drop_set(leg, ready),
+            source,
+            phase,
         }
     } else {
         Outcome {
@@ -116,6 +120,8 @@ pub fn decide(errors: u32, p: Packet, source: u32, w: Wanted, ready: u32) -> Out
             dropped: plain_drop_set(links, ready),
             leg: plain_send_set(leg, ready),
             lost: plain_drop_set(leg, ready),
+            source,
+            phase,
         }
     }
 }
