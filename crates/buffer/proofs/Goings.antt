@@ -13,12 +13,14 @@ use Rattle.steps.specs.declared.Outcome.{Outcome}
 use Rattle.steps.specs.Deciding.{outcomeOf}
 use Rattle.tables.specs.Accept.{climbs}
 use Rattle.tables.proofs.Starts.{start-below, start-end}
+use Rattle.tables.specs.Tables.{chipTables}
 use Rattle.mesh.specs.Mesh.{Chip, fresh}
-use Rattle.links.specs.Offsets.{widthAt, heightAt, headerLong, chipLong, chipPlace}
+use Rattle.links.specs.Offsets.{widthAt, heightAt, headerLong, chipLong, chipPlace, monitorAt, phaseAt}
 use Rattle.links.specs.Lines.{still}
+use Rattle.links.specs.Line.{readyLinks}
 use Rattle.buffer.specs.Layout.{chipIn, meshOf, wordsFor, chipsOf, wordsOf}
-use Rattle.mesh.specs.Steps.{Tables, Arrival, Going, rowsAt, codesAt, logOf, outcomeAt, settingAt, chipAfter, withChip, passAt, same}
-use Rattle.buffer.specs.Passing.{chipWords, settingIn, Ready, MeshStep}
+use Rattle.mesh.specs.Steps.{Tables, Arrival, Going, rowsAt, codesAt, logOf, outcomeAt, settingAt, chipAfter, withChip, passAt, same, tablesAt}
+use Rattle.buffer.specs.Passing.{chipWords, settingIn, CheckedAt, MeshStep}
 use Rattle.buffer.specs.Holding.{headFine}
 use Rattle.buffer.specs.Logs.{Logged}
 use Rattle.buffer.specs.Going.{goingIn, Due, Passed}
@@ -81,8 +83,8 @@ module _ (t : Tables) (a : Arrival (Unit {0})) (l log : List ℕ) (n : ℕ) (d :
   within : chipPlace (a .chip) + chipLong ≤ length l
   within = omega (arith, arrives .there, d .long)
 
-  pub ready-one : Ready l (a .chip) (a .source) (a .flight .packet) (codesAt t (chipsOf l) (a .chip))
-  ready-one =
+  pub checked-one : CheckedAt l (a .chip) (a .source) (a .flight .packet) (codesAt t (chipsOf l) (a .chip))
+  checked-one =
       record {
         fits = within;
         there = arrives .there;
@@ -99,19 +101,26 @@ module _ (t : Tables) (a : Arrival (Unit {0})) (l log : List ℕ) (n : ℕ) (d :
   chip-here = mesh-chip l (a .chip) (arrives .there)
 
   -- the pass of the mesh's definition is the one that the router makes with the chip's tables and setting
-  outcome-here : outcomeOf (a .flight .packet) (a .source) (rowsAt t (a .chip)) (codesAt t (chipsOf l) (a .chip)) (settingIn l (a .chip)) ≡ outcomeAt t (meshOf l) (a .chip) (a .source) (a .flight .packet)
+  outcome-here : outcomeOf (a .flight .packet) (a .source) (tablesAt t (chipsOf l) (a .chip)) (settingIn l (a .chip)) ≡ outcomeAt t (meshOf l) (a .chip) (a .source) (a .flight .packet)
   unfolding meshOf
-  outcome-here = ap (λ (c : Chip (Unit {0})). outcomeOf (a .flight .packet) (a .source) (rowsAt t (a .chip)) (codesAt t (chipsOf l) (a .chip)) (settingAt (meshOf l) c)) (sym chip-here)
+  outcome-here =
+      ap (λ (c : Chip (Unit {0})). outcomeOf (a .flight .packet) (a .source) (tablesAt t (chipsOf l) (a .chip)) (record {
+        width = getD l widthAt 0;
+        height = getD l heightAt 0;
+        monitor = getD l monitorAt 0;
+        phase = getD l phaseAt 0;
+        ready = readyLinks (c .lines);
+      })) (sym chip-here)
 
   -- with the places that the code works out
   pub outcome-places : (first next all : ℕ) (o : Outcome) → first ≡ getD (t .starts) (a .chip) 0 * 3 → next ≡ getD (t .starts) (a .chip + 1) 0 * 3 → all ≡ chipsOf l
-      → o ≡ outcomeOf (a .flight .packet) (a .source) (take (next - first) (drop first (t .rows))) (take (a .chip * all + all - a .chip * all) (drop (a .chip * all) (t .codes))) (settingIn l (a .chip))
+      → o ≡ outcomeOf (a .flight .packet) (a .source) (chipTables (take (next - first) (drop first (t .rows))) (take (a .chip * all + all - a .chip * all) (drop (a .chip * all) (t .codes)))) (settingIn l (a .chip))
       → o ≡ outcomeAt t (meshOf l) (a .chip) (a .source) (a .flight .packet)
   outcome-places first next all o e₁ e₂ e₃ e =
       let long : next - first ≡ (getD (t .starts) (a .chip + 1) 0 - getD (t .starts) (a .chip) 0) * 3 = omega (arith, e₁, e₂) in
       let many : a .chip * all + all - a .chip * all ≡ chipsOf l = add-sub-cancel-left (a .chip * all) all ∙ e₃ in
       e
-      ∙ (λ i. outcomeOf (a .flight .packet) (a .source) (take (long i) (drop (e₁ i) (t .rows))) (take (many i) (drop (a .chip * e₃ i) (t .codes))) (settingIn l (a .chip)))
+      ∙ (λ i. outcomeOf (a .flight .packet) (a .source) (chipTables (take (long i) (drop (e₁ i) (t .rows))) (take (many i) (drop (a .chip * e₃ i) (t .codes)))) (settingIn l (a .chip)))
       ∙ outcome-here
 
   pub passed-one : (l′ log′ : List ℕ) (n′ : ℕ) (o : Outcome) → o ≡ outcomeAt t (meshOf l) (a .chip) (a .source) (a .flight .packet)

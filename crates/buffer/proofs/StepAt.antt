@@ -18,13 +18,14 @@ use Rattle.buffer.specs.Layout.{chipIn, meshOf, chipsOf, wordsOf}
 use Rattle.mesh.specs.Steps.{withChip}
 use Rattle.lists.specs.Lists.{putBack}
 use Rattle.buffer.specs.Chips.{lineWords, ChipStep}
-use Rattle.buffer.specs.Passing.{chipWords, settingIn, Ready, MeshStep}
+use Rattle.buffer.specs.Passing.{chipWords, settingIn, CheckedAt, MeshStep}
 use Rattle.lists.proofs.Parts.{length-back, part-same, part-before, part-behind, take-before, drop-behind}
 use Rattle.buffer.proofs.ChipParts.{order}
 use Rattle.buffer.proofs.MeshParts.{mesh-put}
+use Rattle.tables.specs.Tables.{ChipTables}
 
-pub checked-at : (l : List ℕ) (chip source : ℕ) (p : Packet) (codes : List ℕ) → Ready l chip source p codes → source < 8 → Checked p source codes (settingIn l chip)
-checked-at l chip source p codes r near =
+pub checked-at : (l : List ℕ) (chip source : ℕ) (p : Packet) (tables : ChipTables) → CheckedAt l chip source p (tables .codes) → source < 8 → Checked p source tables (settingIn l chip)
+checked-at l chip source p tables r near =
     record {
       control = r .control;
       from = near;

@@ -13,7 +13,7 @@ use Rattle.steps.specs.Deciding.{outcomeOf, Source, Checked}
 use Rattle.steps.proofs.Bounds.{outcome-sets}
 use Rattle.steps.proofs.Sets.{has-set}
 use Rattle.links.specs.Offsets.{heldAt, chipLong}
-use Rattle.links.specs.Line.{isReady, idle}
+use Rattle.links.specs.Line.{isReady, idle, readyLinks}
 use Rattle.links.specs.Words.{lineIn}
 use Rattle.links.proofs.Places.{length-places}
 use Rattle.mesh.specs.Mesh.{readyOf}
@@ -21,9 +21,10 @@ use Rattle.mesh.proofs.Fitting.{sends-ready, legs-ready, sent-right, leg-right,
 use Rattle.buffer.specs.Layout.{chipIn}
 use Rattle.buffer.specs.Chips.{lineWords, Takes}
 use Rattle.buffer.proofs.ChipParts.{line-at}
+use Rattle.tables.specs.Tables.{ChipTables}
 
 -- a ready link holds at most 6
-pub ready-room : (l : List ℕ) (i : ℕ) → i < 6 → has (readyOf (chipIn l)) i ≡ true → getD (lineWords i l) heldAt 0 ≤ 6
+pub ready-room : (l : List ℕ) (i : ℕ) → i < 6 → has (readyLinks (chipIn l .lines)) i ≡ true → getD (lineWords i l) heldAt 0 ≤ 6
 ready-room l i hi h =
     let t : isReady (getD (chipIn l .lines) i idle) ≡ true = sym (has-set (λ j. isReady (getD (chipIn l .lines) j idle)) i hi) ∙ h in
     let u : isReady (lineIn (lineWords i l)) ≡ true = sym (ap isReady (line-at i hi l)) ∙ t in
@@ -31,19 +32,19 @@ ready-room l i hi h =
     and-eq-true-iff (lineIn (lineWords i l) .up) (leb (length (lineIn (lineWords i l) .held)) 6) .0 u .1 in
     leb-true _ _ (rw length-places at k)
 
-module _ (p : Packet) (s : ℕ) (rows codes : List ℕ) (t : Setting) (h : Checked p s codes t) (from : Source s) where
+module _ (p : Packet) (s : ℕ) (tables : ChipTables) (t : Setting) (h : Checked p s tables t) (from : Source s) where
   -- so the pass fits the chip
-  pub takes : (l : List ℕ) → length l ≡ chipLong → t .ready ≡ readyOf (chipIn l) → Takes l (outcomeOf p s rows codes t)
+  pub takes : (l : List ℕ) → length l ≡ chipLong → t .ready ≡ readyLinks (chipIn l .lines) → Takes l (outcomeOf p s tables t)
   takes l long ready =
-      let o = outcome-sets p s rows codes t in
+      let o = outcome-sets p s tables t in
       record {
         long = long;
         dropped = o .dropped;
         lost = o .lost;
-        room = λ i hi. (λ sent. ready-room l i hi (by-ready i (sends-ready p s rows codes t h from i hi sent)), λ leg. ready-room l i hi (by-ready i (legs-ready p s rows codes t h from i hi leg)));
-        right = λ i hi sent. sent-right p s rows codes t h from (sent-no-error p s rows codes t h from i hi sent) i;
-        leg = λ i hi leg. leg-right p s rows codes t h from (leg-no-error p s rows codes t h from i hi leg);
+        room = λ i hi. (λ sent. ready-room l i hi (by-ready i (sends-ready p s tables t h from i hi sent)), λ leg. ready-room l i hi (by-ready i (legs-ready p s tables t h from i hi leg)));
+        right = λ i hi sent. sent-right p s tables t h from (sent-no-error p s tables t h from i hi sent) i;
+        leg = λ i hi leg. leg-right p s tables t h from (leg-no-error p s tables t h from i hi leg);
       }
     where
-      by-ready : (i : ℕ) → has (t .ready) i ≡ true → has (readyOf (chipIn l)) i ≡ true
+      by-ready : (i : ℕ) → has (t .ready) i ≡ true → has (readyLinks (chipIn l .lines)) i ≡ true
       by-ready i f = ap (λ (r : ℕ). has r i) (sym ready) ∙ f

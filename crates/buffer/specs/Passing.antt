@@ -11,6 +11,7 @@ use Rattle.mesh.specs.Mesh.{readyOf}
 use Rattle.lists.specs.Lists.{part}
 use Rattle.links.specs.Offsets.{widthAt, heightAt, monitorAt, phaseAt, headerLong, chipLong, chipPlace}
 use Rattle.links.specs.Lines.{still}
+use Rattle.links.specs.Line.{readyLinks}
 use Rattle.buffer.specs.Layout.{chipIn, meshOf, chipsOf, wordsOf}
 use Rattle.mesh.specs.Steps.{chipAfter, withChip}
 use Rattle.buffer.specs.Chips.{lineWords}
@@ -22,10 +23,10 @@ chipWords k l = part (chipPlace k) chipLong l
 -- The chip's setting: the mesh's size, monitor and phase, and the chip's own ready set.
 abbrev pub settingIn : List ℕ → ℕ → Setting
 settingIn l chip =
-    record { width = getD l widthAt 0; height = getD l heightAt 0; monitor = getD l monitorAt 0; phase = getD l phaseAt 0; ready = readyOf (chipIn (chipWords chip l)) }
+    record { width = getD l widthAt 0; height = getD l heightAt 0; monitor = getD l monitorAt 0; phase = getD l phaseAt 0; ready = readyLinks (chipIn (chipWords chip l) .lines) }
 
--- What is known before a pass.
-pub record Ready (l : List ℕ) (chip source : ℕ) (p : Packet) (codes : List ℕ) : Type 0 where
+-- What is checked before a pass at a chip.
+pub record CheckedAt (l : List ℕ) (chip source : ℕ) (p : Packet) (codes : List ℕ) : Type 0 where
   pub fits : chipPlace chip + chipLong ≤ length l
   pub there : chip < chipsOf l
   pub from : (source < 6) ⊎ (source ≡ 7)

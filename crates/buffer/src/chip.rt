@@ -27,13 +27,14 @@ ghost use Rattle.mesh.specs.Mesh.{readyOf};
 ghost use Rattle.lists.specs.Lists.{part};
 ghost use Rattle.links.specs.Offsets.{lineLong, chipLong, linePlace};
 ghost use Rattle.links.specs.Lines.{Room};
+ghost use Rattle.links.specs.Line.{readyLinks};
 ghost use Rattle.buffer.specs.Layout.{registersIn, chipIn};
 ghost use Rattle.buffer.specs.Chips.{registerWords, changedOn, sending, Takes, ChipStep, Upto};
 
 // The links that are ready now.
 pub fn ready_of(chip: &[u32]) -> u32
     requires { ⌜ length (now chip) ≡ chipLong ⌝ }
-    ensures { λ r. ⌜ r ≡ readyOf (chipIn (now (chip .entry))) ⌝ }
+    ensures { λ r. ⌜ r ≡ readyLinks (chipIn (now (chip .entry)) .lines) ⌝ }
 {
     flag_of(is_ready(&chip[LINE_0..LINE_1]), 1)
         + flag_of(is_ready(&chip[LINE_1..LINE_2]), 2)

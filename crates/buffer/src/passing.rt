@@ -13,7 +13,8 @@ use steps::Setting;
 use steps::deciding::outcome_of;
 ghost use mathlib.Core.Path.{_≡_};
 ghost use Rattle.steps.specs.Deciding.{outcomeOf};
-ghost use Rattle.buffer.specs.Passing.{settingIn, Ready, MeshStep};
+ghost use Rattle.buffer.specs.Passing.{settingIn, CheckedAt, MeshStep};
+ghost use Rattle.tables.specs.Tables.{chipTables};
 
 pub fn pass_at(
     mesh: &mut [u32],
@@ -23,8 +24,8 @@ pub fn pass_at(
     rows: &[u32],
     codes: &[u8],
 ) -> Outcome
-    requires { ⌜ Ready (now mesh) chip source p (now codes) ⌝ }
-    ensures { λ o. ⌜ o ≡ outcomeOf p source (now (rows .entry)) (now (codes .entry)) (settingIn (now (mesh .entry)) chip) ⌝ }
+    requires { ⌜ CheckedAt (now mesh) chip source p (now codes) ⌝ }
+    ensures { λ o. ⌜ o ≡ outcomeOf p source (chipTables (now (rows .entry)) (now (codes .entry))) (settingIn (now (mesh .entry)) chip) ⌝ }
     ensures { λ o. ⌜ MeshStep (now (mesh .entry)) (now (mesh .exit)) chip o ⌝ }
 {
     let at = HEADER + chip * CHIP;

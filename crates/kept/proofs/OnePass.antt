@@ -23,6 +23,7 @@ use Rattle.steps.specs.Wants.{wantedOf}
 use Rattle.steps.specs.Deciding.{decided, outcomeOf, markOn, packetOn, legPacket, Source, Checked}
 use Rattle.kept.specs.Units.{weightIn, extra, weightSent, settled}
 use Rattle.kept.proofs.Account.{Consistent, account-decided}
+use Rattle.tables.specs.Tables.{ChipTables}
 
 -- ---- stamping
 
@@ -74,8 +75,8 @@ right p s phase e =
     unset true f = refl
     unset false f = sym f
 
-module _ (p : Packet) (s : ℕ) (rows codes : List ℕ) (t : Setting) (h : Checked p s codes t) (from : Source s) where
-  consistent : Consistent (errorsOf p s (t .phase)) (stampedOf p s (errorsOf p s (t .phase)) (t .phase)) s (wantedOf (errorsOf p s (t .phase)) p s rows codes t)
+module _ (p : Packet) (s : ℕ) (tables : ChipTables) (t : Setting) (h : Checked p s tables t) (from : Source s) where
+  consistent : Consistent (errorsOf p s (t .phase)) (stampedOf p s (errorsOf p s (t .phase)) (t .phase)) s (wantedOf (errorsOf p s (t .phase)) p s tables t)
   unfolding wantedOf
   consistent =
       record {
@@ -90,7 +91,7 @@ module _ (p : Packet) (s : ℕ) (rows codes : List ℕ) (t : Setting) (h : Check
       before : isMarked (stampedOf p s (errorsOf p s (t .phase)) (t .phase) .control) ≡ true → isMarked (p .control) ≡ true
       before marked = same-marked _ _ (sym (q .kind)) ∙ marked
 
-      nothing-wanted : (e : ℕ) → e ≡ 0 → isMarked (p .control) ≡ true → markOf (p .control) ≡ 2 → wantedOf e p s rows codes t .set ≡ 0
+      nothing-wanted : (e : ℕ) → e ≡ 0 → isMarked (p .control) ≡ true → markOf (p .control) ≡ 2 → wantedOf e p s tables t .set ≡ 0
       nothing-wanted e none marked m = simp (eq-eqb _ _ none, marked-mc (p .control) marked, eq-eqb _ _ m)
 
       bad : s ≡ 7 → isMarked (p .control) ≡ true → markOf (p .control) ≡ 1 → badLocal (p .control) s ≡ false → ⊥
@@ -99,21 +100,21 @@ module _ (p : Packet) (s : ℕ) (rows codes : List ℕ) (t : Setting) (h : Check
           true≢false wrong
 
   -- "weight in plus extra branches equals delivered plus ended in error plus dropped plus swallowed plus weight sent"
-  pub account : weightIn p s + extra (outcomeOf p s rows codes t)
-      ≡ settled (outcomeOf p s rows codes t) s + weightSent (outcomeOf p s rows codes t)
+  pub account : weightIn p s + extra (outcomeOf p s tables t)
+      ≡ settled (outcomeOf p s tables t) s + weightSent (outcomeOf p s tables t)
   unfolding outcomeOf
   account =
       let e = errorsOf p s (t .phase) in
       let q = stamped p s e (t .phase) (h .control) (h .phase) in
       let same : weightIn p s ≡ weightIn (stampedOf p s e (t .phase)) s =
       λ i. cond (ltb s 6) (cond (same-marked _ _ (sym (q .kind)) i && eqb (sym (q .mark) i) 1) 2 1) 1 in
-      ap (λ (n : ℕ). n + extra (outcomeOf p s rows codes t)) same
-      ∙ account-decided e (stampedOf p s e (t .phase)) s (t .phase) (wantedOf e p s rows codes t) (t .ready) (h .ready) consistent
+      ap (λ (n : ℕ). n + extra (outcomeOf p s tables t)) same
+      ∙ account-decided e (stampedOf p s e (t .phase)) s (t .phase) (wantedOf e p s tables t) (t .ready) (h .ready) consistent
 
   -- ---- what is sent
 
   -- the packet after stamping has odd parity where there is no error
-  pub stamped-odd : errorsOf p s (t .phase) ≡ 0 → isOdd (outcomeOf p s rows codes t .packet) ≡ true
+  pub stamped-odd : errorsOf p s (t .phase) ≡ 0 → isOdd (outcomeOf p s tables t .packet) ≡ true
   unfolding outcomeOf decided
   stamped-odd none = go (eqb (errorsOf p s (t .phase)) 0 && eqb s 7 && isStamped (p .control))
     where
@@ -121,17 +122,17 @@ module _ (p : Packet) (s : ℕ) (rows codes : List ℕ) (t : Setting) (h : Check
       go true = let f : FieldSet stampOf markOf p (withStamp p (t .phase)) (t .phase) = stamp-set p (t .phase) (h .control) (omega arith) in f .odd
       go false = right p s (t .phase) none .odd
 
-  outcome-byte : outcomeOf p s rows codes t .packet .control < 256
+  outcome-byte : outcomeOf p s tables t .packet .control < 256
   unfolding outcomeOf decided
   outcome-byte = stamped p s (errorsOf p s (t .phase)) (t .phase) (h .control) (h .phase) .byte
 
   -- with a mark: odd parity, the mark of step 5, and all else as in the packet after stamping
-  pub sent-marked : (i : ℕ) → isMarked (outcomeOf p s rows codes t .packet .control) ≡ true
-      → FieldSet markOf stampOf (outcomeOf p s rows codes t .packet) (packetOn (outcomeOf p s rows codes t) i) (markOn (outcomeOf p s rows codes t) i)
-  sent-marked i marked = simp marked (mark-set (outcomeOf p s rows codes t .packet) (markOn (outcomeOf p s rows codes t) i) outcome-byte (small (has (o .carried) i) (has (linksOf (o .wanted)) i)))
+  pub sent-marked : (i : ℕ) → isMarked (outcomeOf p s tables t .packet .control) ≡ true
+      → FieldSet markOf stampOf (outcomeOf p s tables t .packet) (packetOn (outcomeOf p s tables t) i) (markOn (outcomeOf p s tables t) i)
+  sent-marked i marked = simp marked (mark-set (outcomeOf p s tables t .packet) (markOn (outcomeOf p s tables t) i) outcome-byte (small (has (o .carried) i) (has (linksOf (o .wanted)) i)))
     where
       o : Outcome
-      o = outcomeOf p s rows codes t
+      o = outcomeOf p s tables t
 
       small : (a b : Bool) → cond a (cond b 1 2) 0 < 4
       small true true = lit< tt
@@ -139,9 +140,9 @@ module _ (p : Packet) (s : ℕ) (rows codes : List ℕ) (t : Setting) (h : Check
       small false b = lit< tt
 
   -- without a mark: the packet after stamping itself
-  pub sent-plain : (i : ℕ) → isMarked (outcomeOf p s rows codes t .packet .control) ≡ false → packetOn (outcomeOf p s rows codes t) i ≡ outcomeOf p s rows codes t .packet
+  pub sent-plain : (i : ℕ) → isMarked (outcomeOf p s tables t .packet .control) ≡ false → packetOn (outcomeOf p s tables t) i ≡ outcomeOf p s tables t .packet
   sent-plain i other = simp other
 
   -- the second leg: odd parity, mark 11, and all else as in the packet after stamping
-  pub sent-leg : FieldSet markOf stampOf (outcomeOf p s rows codes t .packet) (legPacket (outcomeOf p s rows codes t)) 3
-  sent-leg = mark-set (outcomeOf p s rows codes t .packet) 3 outcome-byte (lit< tt)
+  pub sent-leg : FieldSet markOf stampOf (outcomeOf p s tables t .packet) (legPacket (outcomeOf p s tables t)) 3
+  sent-leg = mark-set (outcomeOf p s tables t .packet) 3 outcome-byte (lit< tt)

@@ -4,10 +4,10 @@ use Prim.Native.Nat.{ℕ}
 use mathlib.Core.Bool.{Bool, true, cond, _&&_}
 use mathlib.Core.List.{List, [], _∷_, _++_}
 use lib.Dec.{leb}
-use lib.ListN.{length}
+use lib.ListN.{length, getD}
 use Rattle.packet.specs.declared.Packet.{Packet}
 use Rattle.steps.specs.declared.Outcome.{Outcome}
-use Rattle.steps.specs.Links.{has}
+use Rattle.steps.specs.Links.{has, setOf}
 use Rattle.steps.specs.Deciding.{packetOn, legPacket}
 
 pub record Flight (A : Type 0) : Type 0 where
@@ -26,6 +26,10 @@ module _ {A : Type 0} where
   -- "A link is ready when it is up and holds at most 6 outgoing, not counting those that the running round has set aside".
   abbrev pub isReady : Line A → Bool
   isReady l = l .up && leb (length (l .held)) 6
+
+  -- The ready ones of a chip's six links, as a set.
+  abbrev pub readyLinks : List (Line A) → ℕ
+  readyLinks ls = setOf (λ i. isReady (getD ls i idle))
 
   -- What a link holds after a pass: "the one from step 5 goes first", then the second leg. A sending turns the tag.
   abbrev pub sent : Bool → Packet → A → List (Flight A)

@@ -20,39 +20,40 @@ use Rattle.kept.proofs.OnePass as pass
 use Rattle.links.specs.Lines.{Right}
 use Rattle.steps.proofs.Sets.{has-set}
 use Rattle.steps.proofs.SentReady.{sent-ready, leg-ready}
+use Rattle.tables.specs.Tables.{ChipTables}
 
 pub has-none : (i : ℕ) → has 0 i ≡ false
 has-none i = ap (λ (n : ℕ). eqb n 1) (ap (λ (n : ℕ). n % 2) (zero-div (2 ^ i)) ∙ zero-mod 2)
 
-module _ (p : Packet) (s : ℕ) (rows codes : List ℕ) (t : Setting) (h : Checked p s codes t) (from : Source s) where
+module _ (p : Packet) (s : ℕ) (tables : ChipTables) (t : Setting) (h : Checked p s tables t) (from : Source s) where
   -- the packet after stamping is right in length where there is no error
-  pub stamped-right : errorsOf p s (t .phase) ≡ 0 → Right (outcomeOf p s rows codes t .packet)
+  pub stamped-right : errorsOf p s (t .phase) ≡ 0 → Right (outcomeOf p s tables t .packet)
   unfolding outcomeOf decided
   stamped-right none =
       let q = pass.stamped p s (errorsOf p s (t .phase)) (t .phase) (h .control) (h .phase) in
       let fits : carriesOf (p .control) ≡ p .nine = eqb-true _ _ (not-false _ (pass.right p s (t .phase) none .long)) in
       q .nine ∙ sym fits ∙ sym (q .carries)
 
-  pub sent-right : errorsOf p s (t .phase) ≡ 0 → (i : ℕ) → Right (packetOn (outcomeOf p s rows codes t) i)
-  sent-right none i = go (isMarked (outcomeOf p s rows codes t .packet .control)) refl
+  pub sent-right : errorsOf p s (t .phase) ≡ 0 → (i : ℕ) → Right (packetOn (outcomeOf p s tables t) i)
+  sent-right none i = go (isMarked (outcomeOf p s tables t .packet .control)) refl
     where
-      go : (b : Bool) → isMarked (outcomeOf p s rows codes t .packet .control) ≡ b → Right (packetOn (outcomeOf p s rows codes t) i)
+      go : (b : Bool) → isMarked (outcomeOf p s tables t .packet .control) ≡ b → Right (packetOn (outcomeOf p s tables t) i)
       go true marked =
-          let f = pass.sent-marked p s rows codes t h from i marked in
+          let f = pass.sent-marked p s tables t h from i marked in
           f .nine ∙ stamped-right none ∙ sym (f .carries)
-      go false other = subst Right (sym (pass.sent-plain p s rows codes t h from i other)) (stamped-right none)
+      go false other = subst Right (sym (pass.sent-plain p s tables t h from i other)) (stamped-right none)
 
-  pub leg-right : errorsOf p s (t .phase) ≡ 0 → Right (legPacket (outcomeOf p s rows codes t))
+  pub leg-right : errorsOf p s (t .phase) ≡ 0 → Right (legPacket (outcomeOf p s tables t))
   leg-right none =
-      let f = pass.sent-leg p s rows codes t h from in
+      let f = pass.sent-leg p s tables t h from in
       f .nine ∙ stamped-right none ∙ sym (f .carries)
 
   -- a packet in error wants the monitor alone, so that no link sends
-  pub no-link-wanted : (errorsOf p s (t .phase) ≡ 0 → ⊥) → linksOf (wantedOf (errorsOf p s (t .phase)) p s rows codes t .set) ≡ 0
+  pub no-link-wanted : (errorsOf p s (t .phase) ≡ 0 → ⊥) → linksOf (wantedOf (errorsOf p s (t .phase)) p s tables t .set) ≡ 0
   unfolding wantedOf
   no-link-wanted some = simp (ne-eqb _ _ some) (ap linksOf (pow-add 2 6 (t .monitor)) ∙ mul-mod-right 64 (2 ^ t .monitor))
 
-  pub sent-no-error : (i : ℕ) → i < 6 → has (outcomeOf p s rows codes t .sent) i ≡ true → errorsOf p s (t .phase) ≡ 0
+  pub sent-no-error : (i : ℕ) → i < 6 → has (outcomeOf p s tables t .sent) i ≡ true → errorsOf p s (t .phase) ≡ 0
   unfolding outcomeOf decided
   sent-no-error i hi sent = go (eqb (errorsOf p s (t .phase)) 0) refl
     where
@@ -68,7 +69,7 @@ module _ (p : Packet) (s : ℕ) (rows codes : List ℕ) (t : Setting) (h : Check
       go false z =
           absurd (false≢true (sym (none-sent (isMarked (stampedOf p s (errorsOf p s (t .phase)) (t .phase) .control)) _ (no-link-wanted (eqb-false _ _ z))) ∙ sent))
 
-  pub leg-no-error : (i : ℕ) → i < 6 → has (outcomeOf p s rows codes t .leg) i ≡ true → errorsOf p s (t .phase) ≡ 0
+  pub leg-no-error : (i : ℕ) → i < 6 → has (outcomeOf p s tables t .leg) i ≡ true → errorsOf p s (t .phase) ≡ 0
   unfolding outcomeOf decided
   leg-no-error i hi leg = go (eqb (errorsOf p s (t .phase)) 0) refl
     where
@@ -82,10 +83,10 @@ module _ (p : Packet) (s : ℕ) (rows codes : List ℕ) (t : Setting) (h : Check
           ∙ simp has-none) ∙ leg))
 
   -- it sends only by ready links
-  pub sends-ready : (i : ℕ) → i < 6 → has (outcomeOf p s rows codes t .sent) i ≡ true → has (t .ready) i ≡ true
+  pub sends-ready : (i : ℕ) → i < 6 → has (outcomeOf p s tables t .sent) i ≡ true → has (t .ready) i ≡ true
   unfolding outcomeOf
-  sends-ready i hi f = sent-ready (errorsOf p s (t .phase)) (stampedOf p s (errorsOf p s (t .phase)) (t .phase)) s (t .phase) (wantedOf (errorsOf p s (t .phase)) p s rows codes t) (t .ready) i hi f
+  sends-ready i hi f = sent-ready (errorsOf p s (t .phase)) (stampedOf p s (errorsOf p s (t .phase)) (t .phase)) s (t .phase) (wantedOf (errorsOf p s (t .phase)) p s tables t) (t .ready) i hi f
 
-  pub legs-ready : (i : ℕ) → i < 6 → has (outcomeOf p s rows codes t .leg) i ≡ true → has (t .ready) i ≡ true
+  pub legs-ready : (i : ℕ) → i < 6 → has (outcomeOf p s tables t .leg) i ≡ true → has (t .ready) i ≡ true
   unfolding outcomeOf
-  legs-ready i hi f = leg-ready (errorsOf p s (t .phase)) (stampedOf p s (errorsOf p s (t .phase)) (t .phase)) s (t .phase) (wantedOf (errorsOf p s (t .phase)) p s rows codes t) (t .ready) i hi f
+  legs-ready i hi f = leg-ready (errorsOf p s (t .phase)) (stampedOf p s (errorsOf p s (t .phase)) (t .phase)) s (t .phase) (wantedOf (errorsOf p s (t .phase)) p s tables t) (t .ready) i hi f

@@ -13,8 +13,8 @@ use Rattle.steps.specs.declared.Setting.{Setting}
 use Rattle.steps.specs.Links.{has}
 use Rattle.steps.specs.Deciding.{outcomeOf, packetOn, legPacket, Source, Checked}
 use Rattle.lists.proofs.Six.{six}
-use Rattle.links.specs.Line.{Flight, Line, idle, isReady, sent, lineAfter}
-use Rattle.mesh.specs.Mesh.{Chip, readyOf}
+use Rattle.links.specs.Line.{Flight, Line, idle, isReady, sent, lineAfter, readyLinks}
+use Rattle.mesh.specs.Mesh.{Chip}
 use Rattle.mesh.specs.Steps.{linesAfter, chipAfter}
 use Rattle.lists.specs.Lists.{All}
 use Rattle.mesh.specs.Sound.{Passable, SoundPacket, SoundLine, SoundChip}
@@ -23,6 +23,7 @@ use Rattle.steps.proofs.Sets.{has-set}
 use Rattle.mesh.proofs.Fitting.{sends-ready, legs-ready}
 use Rattle.mesh.proofs.SoundSends.{sends-sound, legs-sound}
 use Rattle.mesh.proofs.SoundRegisters.{registers-kept}
+use Rattle.tables.specs.Tables.{ChipTables}
 
 module _ {A : Type 0} where
   sent-all : (b : Bool) (p : Packet) (tag : A) → (b ≡ true → SoundPacket p) → All (λ (f : Flight A). SoundPacket (f .packet)) (sent b p tag)
@@ -58,28 +59,28 @@ module _ {A : Type 0} where
       (line 0 (lit< tt), (line 1 (lit< tt), (line 2 (lit< tt), (line 3 (lit< tt), (line 4 (lit< tt), (line 5 (lit< tt), tt))))))
 
   -- a ready link holds at most 6
-  ready-few : (c : Chip A) (i : ℕ) → i < 6 → has (readyOf c) i ≡ true → length (getD (c .lines) i idle .held) ≤ 6
+  ready-few : (c : Chip A) (i : ℕ) → i < 6 → has (readyLinks (c .lines)) i ≡ true → length (getD (c .lines) i idle .held) ≤ 6
   ready-few c i hi h =
       let t : isReady (getD (c .lines) i idle) ≡ true = sym (has-set (λ j. isReady (getD (c .lines) j idle)) i hi) ∙ h in
       leb-true _ _ (and-eq-true-iff (getD (c .lines) i idle .up) (leb (length (getD (c .lines) i idle .held)) 6) .0 t .1)
 
-  pub sound-after : (c : Chip A) (tag : A) → SoundChip c → (p : Packet) (s : ℕ) (rows codes : List ℕ) (t : Setting) → t .ready ≡ readyOf c → Checked p s codes t
-      → Source s → Passable p → SoundChip (chipAfter (outcomeOf p s rows codes t) tag c)
-  sound-after c tag sound p s rows codes t ready h from passable =
+  pub sound-after : (c : Chip A) (tag : A) → SoundChip c → (p : Packet) (s : ℕ) (tables : ChipTables) (t : Setting) → t .ready ≡ readyLinks (c .lines) → Checked p s tables t
+      → Source s → Passable p → SoundChip (chipAfter (outcomeOf p s tables t) tag c)
+  sound-after c tag sound p s tables t ready h from passable =
       record {
         six = length-lines-after o tag 0 (c .lines) ∙ sound .six;
-        registers = registers-kept p s rows codes t h from passable (c .registers) (sound .registers);
+        registers = registers-kept p s tables t h from passable (c .registers) (sound .registers);
         lines = lines-after-sound o tag (c .lines) (sound .six) line;
       }
     where
       o : Outcome
-      o = outcomeOf p s rows codes t
+      o = outcomeOf p s tables t
 
       by-ready : (i : ℕ) → i < 6 → has (t .ready) i ≡ true → length (getD (c .lines) i idle .held) ≤ 6
       by-ready i hi f = ready-few c i hi (ap (λ (r : ℕ). has r i) (sym ready) ∙ f)
 
-      line : (i : ℕ) → i < 6 → SoundLine (lineAfter (outcomeOf p s rows codes t) tag i (getD (c .lines) i idle))
+      line : (i : ℕ) → i < 6 → SoundLine (lineAfter (outcomeOf p s tables t) tag i (getD (c .lines) i idle))
       line i hi =
           line-after-sound o tag i (getD (c .lines) i idle) (all-getD SoundLine (c .lines) i idle (sound .lines) (omega (arith, sound .six)))
-          (λ f. by-ready i hi (sends-ready p s rows codes t h from i hi f)) (λ f. by-ready i hi (legs-ready p s rows codes t h from i hi f))
-          (sends-sound p s rows codes t h from passable i hi) (legs-sound p s rows codes t h from passable i hi)
+          (λ f. by-ready i hi (sends-ready p s tables t h from i hi f)) (λ f. by-ready i hi (legs-ready p s tables t h from i hi f))
+          (sends-sound p s tables t h from passable i hi) (legs-sound p s tables t h from passable i hi)

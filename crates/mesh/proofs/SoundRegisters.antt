@@ -23,6 +23,7 @@ use Rattle.kept.proofs.OnePass as pass
 use Rattle.mesh.specs.Sound.{registersFine, Passable}
 use Rattle.mesh.proofs.Fitting.{no-link-wanted}
 use Rattle.mesh.proofs.SoundSends.{stamped-passable}
+use Rattle.tables.specs.Tables.{ChipTables}
 
 -- a packet of odd parity is not all zeros
 pub odd-some : (q : Packet) → isOdd q ≡ true → (eqb (q .control) 0 && eqb (q .word) 0 && eqb (q .payload) 0) ≡ false
@@ -74,14 +75,14 @@ more-fine r fine some =
     let t : _ = simp and-eq-true-iff at fine in
     simp (t .0 .0 .0 .0, t .0 .0 .0 .1, t .0 .0 .1, some)
 
-module _ (p : Packet) (s : ℕ) (rows codes : List ℕ) (t : Setting) (h : Checked p s codes t) (from : Source s) where
+module _ (p : Packet) (s : ℕ) (tables : ChipTables) (t : Setting) (h : Checked p s tables t) (from : Source s) where
   -- a packet in error is dropped nowhere
-  pub error-drops-none : (errorsOf p s (t .phase) ≡ 0 → ⊥) → dropCount (outcomeOf p s rows codes t) ≡ 0
+  pub error-drops-none : (errorsOf p s (t .phase) ≡ 0 → ⊥) → dropCount (outcomeOf p s tables t) ≡ 0
   unfolding outcomeOf decided ones
   error-drops-none some =
       let e = errorsOf p s (t .phase) in
       let q = stampedOf p s e (t .phase) in
-      let w = no-link-wanted p s rows codes t h from some in
+      let w = no-link-wanted p s tables t h from some in
       let g : legSet e q s ≡ 0 = simp (ne-eqb _ _ some) in
       (λ i. ones (cond (isMarked (q .control)) (setOf (drops (w i) (t .ready))) (setOf (λ j. has (w i) j && not (has (t .ready) j)))) + ones (setOf (λ j. has (g i) j && not (has (t .ready) j))))
       ∙ none (isMarked (q .control))
@@ -90,20 +91,20 @@ module _ (p : Packet) (s : ℕ) (rows codes : List ℕ) (t : Setting) (h : Check
       none true = refl
       none false = refl
 
-  pub registers-kept : Passable p → (r : Registers) → registersFine r ≡ true → registersFine (keptOf r (outcomeOf p s rows codes t)) ≡ true
+  pub registers-kept : Passable p → (r : Registers) → registersFine r ≡ true → registersFine (keptOf r (outcomeOf p s tables t)) ≡ true
   registers-kept passable r fine = go (eqb (dropCount o) 0) refl (isEmpty r) refl
     where
       o : Outcome
-      o = outcomeOf p s rows codes t
+      o = outcomeOf p s tables t
 
-      quiet : (b : Bool) → eqb (errorsOf p s (t .phase)) 0 ≡ b → eqb (dropCount (outcomeOf p s rows codes t)) 0 ≡ false → errorsOf p s (t .phase) ≡ 0
+      quiet : (b : Bool) → eqb (errorsOf p s (t .phase)) 0 ≡ b → eqb (dropCount (outcomeOf p s tables t)) 0 ≡ false → errorsOf p s (t .phase) ≡ 0
       quiet true z d = eqb-true _ _ z
       quiet false z d = absurd (eqb-false _ _ d (error-drops-none (eqb-false _ _ z)))
 
-      go : (b : Bool) → eqb (dropCount (outcomeOf p s rows codes t)) 0 ≡ b → (c : Bool) → isEmpty r ≡ c
-          → registersFine (cond b r (cond c (firstDrop (outcomeOf p s rows codes t)) (withMore r))) ≡ true
+      go : (b : Bool) → eqb (dropCount (outcomeOf p s tables t)) 0 ≡ b → (c : Bool) → isEmpty r ≡ c
+          → registersFine (cond b r (cond c (firstDrop (outcomeOf p s tables t)) (withMore r))) ≡ true
       go true d c e = fine
       go false d true e =
-          first-fine o (stamped-passable p s rows codes t h from passable .control)
-          (pass.stamped-odd p s rows codes t h from (quiet (eqb (errorsOf p s (t .phase)) 0) refl d))
+          first-fine o (stamped-passable p s tables t h from passable .control)
+          (pass.stamped-odd p s tables t h from (quiet (eqb (errorsOf p s (t .phase)) 0) refl d))
       go false d false e = more-fine r fine e

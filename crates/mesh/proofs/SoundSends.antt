@@ -21,6 +21,7 @@ use Rattle.links.specs.Lines.{Right}
 use Rattle.mesh.specs.Sound.{Passable, SoundPacket}
 use Rattle.steps.proofs.Sets.{has-set}
 use Rattle.mesh.proofs.Fitting.{has-none, stamped-right, sent-right, leg-right, sent-no-error, leg-no-error}
+use Rattle.tables.specs.Tables.{ChipTables}
 
 -- a packet that may pass, right in length and parity, is sound
 pub passable-sound : (p : Packet) → Passable p → isOdd p ≡ true → Right p → SoundPacket p
@@ -45,9 +46,9 @@ field-passable {p = p} {q = q} f stamp h =
       absent = λ e. f .payload ∙ h .absent (sym (f .nine) ∙ e);
     }
 
-module _ (p : Packet) (s : ℕ) (rows codes : List ℕ) (t : Setting) (h : Checked p s codes t) (from : Source s) (passable : Passable p) where
+module _ (p : Packet) (s : ℕ) (tables : ChipTables) (t : Setting) (h : Checked p s tables t) (from : Source s) (passable : Passable p) where
   -- the packet after stamping
-  pub stamped-passable : Passable (outcomeOf p s rows codes t .packet)
+  pub stamped-passable : Passable (outcomeOf p s tables t .packet)
   unfolding outcomeOf decided
   stamped-passable = go (eqb (errorsOf p s (t .phase)) 0 && eqb s 7 && isStamped (p .control)) refl
     where
@@ -58,22 +59,22 @@ module _ (p : Packet) (s : ℕ) (rows codes : List ℕ) (t : Setting) (h : Check
       go false e = passable
 
   -- what has a mark gets a new one, any other packet goes as it is
-  sent-sound : errorsOf p s (t .phase) ≡ 0 → (i : ℕ) → SoundPacket (packetOn (outcomeOf p s rows codes t) i)
-  sent-sound none i = go (isMarked (outcomeOf p s rows codes t .packet .control)) refl
+  sent-sound : errorsOf p s (t .phase) ≡ 0 → (i : ℕ) → SoundPacket (packetOn (outcomeOf p s tables t) i)
+  sent-sound none i = go (isMarked (outcomeOf p s tables t .packet .control)) refl
     where
-      go : (b : Bool) → isMarked (outcomeOf p s rows codes t .packet .control) ≡ b → SoundPacket (packetOn (outcomeOf p s rows codes t) i)
+      go : (b : Bool) → isMarked (outcomeOf p s tables t .packet .control) ≡ b → SoundPacket (packetOn (outcomeOf p s tables t) i)
       go true marked =
-          let f = pass.sent-marked p s rows codes t h from i marked in
-          passable-sound _ (field-passable f (marked-stamped _ marked) stamped-passable) (f .odd) (sent-right p s rows codes t h from none i)
+          let f = pass.sent-marked p s tables t h from i marked in
+          passable-sound _ (field-passable f (marked-stamped _ marked) stamped-passable) (f .odd) (sent-right p s tables t h from none i)
       go false other =
-          subst SoundPacket (sym (pass.sent-plain p s rows codes t h from i other))
-          (passable-sound _ stamped-passable (pass.stamped-odd p s rows codes t h from none) (stamped-right p s rows codes t h from none))
+          subst SoundPacket (sym (pass.sent-plain p s tables t h from i other))
+          (passable-sound _ stamped-passable (pass.stamped-odd p s tables t h from none) (stamped-right p s tables t h from none))
 
-  pub sends-sound : (i : ℕ) → i < 6 → has (outcomeOf p s rows codes t .sent) i ≡ true → SoundPacket (packetOn (outcomeOf p s rows codes t) i)
-  sends-sound i hi sent = sent-sound (sent-no-error p s rows codes t h from i hi sent) i
+  pub sends-sound : (i : ℕ) → i < 6 → has (outcomeOf p s tables t .sent) i ≡ true → SoundPacket (packetOn (outcomeOf p s tables t) i)
+  sends-sound i hi sent = sent-sound (sent-no-error p s tables t h from i hi sent) i
 
   -- only a packet with a mark has a second leg
-  leg-marked : (i : ℕ) → i < 6 → has (outcomeOf p s rows codes t .leg) i ≡ true → isMarked (outcomeOf p s rows codes t .packet .control) ≡ true
+  leg-marked : (i : ℕ) → i < 6 → has (outcomeOf p s tables t .leg) i ≡ true → isMarked (outcomeOf p s tables t .packet .control) ≡ true
   unfolding outcomeOf decided
   leg-marked i hi leg = go (hasLeg e q) refl
     where
@@ -89,8 +90,8 @@ module _ (p : Packet) (s : ℕ) (rows codes : List ℕ) (t : Setting) (h : Check
           let none : legSet e q s ≡ 0 = ap (λ (b : Bool). cond b (2 ^ link (s + 5)) 0) z in
           absurd (false≢true (sym (has-set (λ j. has (legSet e q s) j && has (t .ready) j) i hi ∙ ap (λ (k : ℕ). has k i && has (t .ready) i) none ∙ simp has-none) ∙ leg))
 
-  pub legs-sound : (i : ℕ) → i < 6 → has (outcomeOf p s rows codes t .leg) i ≡ true → SoundPacket (legPacket (outcomeOf p s rows codes t))
+  pub legs-sound : (i : ℕ) → i < 6 → has (outcomeOf p s tables t .leg) i ≡ true → SoundPacket (legPacket (outcomeOf p s tables t))
   legs-sound i hi leg =
-      let f = pass.sent-leg p s rows codes t h from in
-      let none = leg-no-error p s rows codes t h from i hi leg in
-      passable-sound _ (field-passable f (marked-stamped _ (leg-marked i hi leg)) stamped-passable) (f .odd) (leg-right p s rows codes t h from none)
+      let f = pass.sent-leg p s tables t h from in
+      let none = leg-no-error p s tables t h from i hi leg in
+      passable-sound _ (field-passable f (marked-stamped _ (leg-marked i hi leg)) stamped-passable) (f .odd) (leg-right p s tables t h from none)

@@ -16,7 +16,7 @@ use Rattle.steps.proofs.Bounds.{set-small}
 use Rattle.links.specs.Line.{Flight, Line, idle, isReady}
 use Rattle.links.specs.Phase.{nextPhase}
 use Rattle.mesh.specs.Mesh.{Chip, Mesh, fresh, opened, roundsFine}
-use Rattle.mesh.specs.Steps.{Tables, Arrival, Going, rowsAt, codesAt, settingAt, emptied, emptiedChip, setAside, arrivals, roundOver, passAt, injected, passed, rounded}
+use Rattle.mesh.specs.Steps.{Tables, Arrival, Going, rowsAt, codesAt, settingAt, emptied, emptiedChip, setAside, arrivals, roundOver, passAt, injected, passed, rounded, tablesAt}
 use Rattle.lists.specs.Lists.{All}
 use Rattle.mesh.specs.Sound.{Passable, Arrives, SoundLine, SoundChip, SoundMesh}
 use Rattle.lists.proofs.Alls.{all-nil, all-getD, all-set, all-map, all-weaken, all-replicate}
@@ -120,7 +120,7 @@ module _ {A : Type 0} where
   -- ---- passes
 
   pub checked : (t : Tables) (m : Mesh A) (a : Arrival A) → SoundMesh m → CodesFor t m → Arrives (m .height * m .width) a
-      → Checked (a .flight .packet) (a .source) (codesAt t (m .height * m .width) (a .chip)) (settingAt m (getD (m .chips) (a .chip) fresh))
+      → Checked (a .flight .packet) (a .source) (tablesAt t (m .height * m .width) (a .chip)) (settingAt m (a .chip))
   checked t m a sound codes h =
       let size = sizes.size (m .width) (m .height) (sound .size) in
       record {
@@ -147,8 +147,8 @@ module _ {A : Type 0} where
           elapsed = sound .elapsed;
           many = length-set (m .chips) (a .chip) _ ∙ sound .many;
           chips = all-set SoundChip (m .chips) (a .chip) _ (sound .chips)
-              (sound-after (getD (m .chips) (a .chip) fresh) (turn (a .flight .tag)) here (a .flight .packet) (a .source) (rowsAt t (a .chip)) (codesAt t (m .height * m .width) (a .chip))
-              (settingAt m (getD (m .chips) (a .chip) fresh)) refl (checked t m a sound codes h) (h .from) (h .passable));
+              (sound-after (getD (m .chips) (a .chip) fresh) (turn (a .flight .tag)) here (a .flight .packet) (a .source) (tablesAt t (m .height * m .width) (a .chip))
+              (settingAt m (a .chip)) refl (checked t m a sound codes h) (h .from) (h .passable));
         }
 
     pub pass-head : (g : Going A) (a : Arrival A) → SameHead (g .mesh) (passAt t turn g a .mesh)

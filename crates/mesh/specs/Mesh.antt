@@ -6,10 +6,9 @@ use lib.ListN.{getD, replicate}
 use lib.Dec.{leb}
 use Rattle.kept.specs.declared.Registers.{Registers}
 use Rattle.kept.specs.declared.Counters.{Counters}
-use Rattle.steps.specs.Links.{setOf}
 use Rattle.kept.specs.Keeping.{empty}
 use Rattle.kept.specs.Counting.{zeros}
-use Rattle.links.specs.Line.{Line, idle, isReady}
+use Rattle.links.specs.Line.{Line, idle, readyLinks}
 
 pub record Chip (A : Type 0) : Type 0 where
   pub registers : Registers
@@ -48,6 +47,6 @@ module _ {A : Type 0} where
         chips = replicate (height * width) fresh;
       }
 
-  -- The links that are ready: "this is worked out afresh at each pass".
-  abbrev pub readyOf : Chip A → ℕ
-  readyOf c = setOf (λ i. isReady (getD (c .lines) i idle))
+  -- The links of a chip that are ready: "this is worked out afresh at each pass".
+  abbrev pub readyOf : Mesh A → ℕ → ℕ
+  readyOf m chip = readyLinks (getD (m .chips) chip fresh .lines)

@@ -15,6 +15,7 @@ use Rattle.links.specs.Line.{Flight, Line, idle, lineAfter}
 use Rattle.links.specs.Across.{across, opposite}
 use Rattle.links.specs.Phase.{nextPhase}
 use Rattle.mesh.specs.Mesh.{Chip, Mesh, fresh, readyOf}
+use Rattle.tables.specs.Tables.{ChipTables, chipTables}
 
 -- ---- tables
 
@@ -32,6 +33,9 @@ rowsAt t c = take ((getD (t .starts) (c + 1) 0 - getD (t .starts) c 0) * 3) (dro
 
 abbrev pub codesAt : Tables → ℕ → ℕ → List ℕ
 codesAt t chips c = take chips (drop (c * chips) (t .codes))
+
+abbrev pub tablesAt : Tables → ℕ → ℕ → ChipTables
+tablesAt t chips c = chipTables (rowsAt t c) (codesAt t chips c)
 
 -- "A pass that hands a packet to at least one processor adds one log record of six 32-bit numbers: chip, processor set (bit k for processor k), error
 -- flags (1 parity, 2 age, 4 length, 8 bad local, added), control byte, word, payload or 0."
@@ -62,12 +66,11 @@ module _ {A : Type 0} where
 
   -- ---- one pass
 
-  abbrev pub settingAt : Mesh A → Chip A → Setting
-  settingAt m c = record { width = m .width; height = m .height; monitor = m .monitor; phase = m .phase; ready = readyOf c }
+  abbrev pub settingAt : Mesh A → ℕ → Setting
+  settingAt m chip = record { width = m .width; height = m .height; monitor = m .monitor; phase = m .phase; ready = readyOf m chip }
 
   abbrev pub outcomeAt : Tables → Mesh A → ℕ → ℕ → Packet → Outcome
-  outcomeAt t m chip source p =
-      outcomeOf p source (rowsAt t chip) (codesAt t (m .height * m .width) chip) (settingAt m (getD (m .chips) chip fresh))
+  outcomeAt t m chip source p = outcomeOf p source (tablesAt t (m .height * m .width) chip) (settingAt m chip)
 
   unfoldable pub linesAfter : Outcome → A → ℕ → List (Line A) → List (Line A)
   linesAfter o tag i [] = []

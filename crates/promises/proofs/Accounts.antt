@@ -16,7 +16,7 @@ use Rattle.router.proofs.Inputs as inputs
 use Rattle.kept.proofs.OnePass as pass
 use Rattle.links.specs.Line.{idle}
 use Rattle.mesh.specs.Mesh.{Chip, Mesh, fresh, opened}
-use Rattle.mesh.specs.Steps.{Tables, Arrival, Going, setOut, rowsAt, codesAt, settingAt, outcomeAt, withChip, emptied, emptiedChip, setAside, arrivals, passAt}
+use Rattle.mesh.specs.Steps.{Tables, Arrival, Going, setOut, rowsAt, codesAt, settingAt, outcomeAt, withChip, emptied, emptiedChip, setAside, arrivals, passAt, tablesAt}
 use Rattle.mesh.specs.Calls.{chipOf, lineOf, withUp, withLink, withEmpty}
 use Rattle.lists.specs.Lists.{total, All}
 use Rattle.mesh.specs.Weights.{onLine, onChip, onMesh}
@@ -101,7 +101,7 @@ pass-weighs : {A : Type 0} (t : Tables) (turn : A → A) (g : Going A) (a : Arri
     → onMesh weighed (passAt t turn g a .mesh) ≡ onMesh weighed (g .mesh) + weightSent (outcomeAt t (g .mesh) (a .chip) (a .source) (a .flight .packet))
 pass-weighs t turn g a sound codes h =
     more-weighs (g .mesh) sound (a .chip) (h .there) _ _
-    (chip-weighs-sent _ _ _ _ _ (checked t (g .mesh) a sound codes h) (h .from) (turn (a .flight .tag)) (chipOf (g .mesh) (a .chip)) (chip-sound sound (a .chip) (h .there) .six))
+    (chip-weighs-sent _ _ _ _ (checked t (g .mesh) a sound codes h) (h .from) (turn (a .flight .tag)) (chipOf (g .mesh) (a .chip)) (chip-sound sound (a .chip) (h .there) .six))
 
 passes-account : (t : Tables) (n : ℕ) (g : Going Tag) (later : List (Arrival Tag)) → SoundMesh (g .mesh) → CodesFor t (g .mesh) → All (Arrives (g .mesh .height * g .mesh .width)) later
     → total weightOf later + extras (passages t n g later) + onMesh weighed (g .mesh) ≡ ends (passages t n g later) + onMesh weighed (foldl (passAt t turned) g later .mesh)
@@ -112,7 +112,7 @@ passes-account t n g (a ∷ later) sound codes h =
       arith,
       passes-account t n (passAt t turned g a) later (sound-pass t turned g a sound codes (h .0)) codes (h .1),
       pass-weighs t turned g a sound codes (h .0),
-      pass.account (a .flight .packet) (a .source) (rowsAt t (a .chip)) (codesAt t (g .mesh .height * g .mesh .width) (a .chip)) (settingAt (g .mesh) (chipOf (g .mesh) (a .chip))) (checked t (g .mesh) a sound codes (h .0)) (h .0 .from),
+      pass.account (a .flight .packet) (a .source) (tablesAt t (g .mesh .height * g .mesh .width) (a .chip)) (settingAt (g .mesh) (a .chip)) (checked t (g .mesh) a sound codes (h .0)) (h .0 .from),
     )
 
 -- ---- every history

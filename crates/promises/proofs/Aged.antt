@@ -18,6 +18,7 @@ use Rattle.promises.specs.Demand3.{span}
 use Rattle.promises.proofs.Flights.{Sends}
 use Rattle.promises.proofs.Clock.{code, old-at-end, young-before}
 use Rattle.promises.proofs.Stamps.{SameStamp, sends-same, kind-kept, stamp-from-link, stamp-local, young, old}
+use Rattle.tables.specs.Tables.{ChipTables}
 
 -- a copy in flight after n rounds, with F rounds to a phase
 pub record Aged (f n : ℕ) (x : Flight Tag) : Type 0 where
@@ -39,52 +40,52 @@ aged-copy ages low = ages .aged (same-stamped _ _ (ages .kind) ∙ low)
 pub aged-crossing : (f n : ℕ) (x : Flight Tag) → Ages f n x → Stamped (x .tag .packet) → x .tag .crossed ≤ span f (x .tag .before) + 1
 aged-crossing f n x ages low = let h = aged-copy ages low in omega (arith, h .crossed, h .due)
 
-module _ (f n : ℕ) (some : 0 < f) (p : Packet) (s : ℕ) (rows codes : List ℕ) (t : Setting) (h : Checked p s codes t) (from : Source s) (phase : t .phase ≡ code (n / f)) (tag : Tag) where
+module _ (f n : ℕ) (some : 0 < f) (p : Packet) (s : ℕ) (tables : ChipTables) (t : Setting) (h : Checked p s tables t) (from : Source s) (phase : t .phase ≡ code (n / f)) (tag : Tag) where
   -- what is sent has the type of what arrived
-  low-before : (q : Packet) → SameStamp (outcomeOf p s rows codes t .packet) q → Stamped q → Stamped p
-  low-before q same low = same-stamped _ _ (sym (kind-kept p s rows codes t h from) ∙ sym (same .kind)) ∙ low
+  low-before : (q : Packet) → SameStamp (outcomeOf p s tables t .packet) q → Stamped q → Stamped p
+  low-before q same low = same-stamped _ _ (sym (kind-kept p s tables t h from) ∙ sym (same .kind)) ∙ low
 
   -- in a round
-  pub aged-sent : s < 6 → Ages f n (record { packet = p; tag = tag }) → Sends (Ages f (n + 1)) (outcomeOf p s rows codes t) (turned tag)
-  aged-sent near ages = sends-same p s rows codes t h from (Ages f (n + 1)) (turned tag) each
+  pub aged-sent : s < 6 → Ages f n (record { packet = p; tag = tag }) → Sends (Ages f (n + 1)) (outcomeOf p s tables t) (turned tag)
+  aged-sent near ages = sends-same p s tables t h from (Ages f (n + 1)) (turned tag) each
     where
-      older : (q : Packet) → errorsOf p s (t .phase) ≡ 0 → SameStamp (outcomeOf p s rows codes t .packet) q → Stamped q → Aged f (n + 1) (record { packet = q; tag = turned tag })
+      older : (q : Packet) → errorsOf p s (t .phase) ≡ 0 → SameStamp (outcomeOf p s tables t .packet) q → Stamped q → Aged f (n + 1) (record { packet = q; tag = turned tag })
       older q none same low =
           let before : Stamped p = low-before q same low in
           let x = ages .aged before in
           let fresh : ¬ (n ≡ tag .before + span f (tag .before)) = λ e.
-          young p s rows codes t h from near none before (x .stamp ∙ old-at-end f some (tag .before) n e ∙ ap (λ (k : ℕ). 3 - k) (sym phase)) in
+          young p s tables t h from near none before (x .stamp ∙ old-at-end f some (tag .before) n e ∙ ap (λ (k : ℕ). 3 - k) (sym phase)) in
           record {
             begun = omega (arith, x .begun);
             crossed = omega (arith, x .crossed);
-            stamp = same .stamp ∙ ap (λ (q : Packet). stampOf (q .control)) (stamp-from-link p s rows codes t h from near) ∙ x .stamp;
+            stamp = same .stamp ∙ ap (λ (q : Packet). stampOf (q .control)) (stamp-from-link p s tables t h from near) ∙ x .stamp;
             due = omega (arith, x .due, fresh);
           }
 
-      each : (q : Packet) → errorsOf p s (t .phase) ≡ 0 → SameStamp (outcomeOf p s rows codes t .packet) q → Ages f (n + 1) (record { packet = q; tag = turned tag })
-      each q none same = record { kind = same .kind ∙ kind-kept p s rows codes t h from ∙ ages .kind; aged = older q none same }
+      each : (q : Packet) → errorsOf p s (t .phase) ≡ 0 → SameStamp (outcomeOf p s tables t .packet) q → Ages f (n + 1) (record { packet = q; tag = turned tag })
+      each q none same = record { kind = same .kind ∙ kind-kept p s tables t h from ∙ ages .kind; aged = older q none same }
 
   -- where it is injected
-  pub aged-injected : s ≡ 7 → kindOf (p .control) ≡ kindOf (tag .packet .control) → tag .before ≡ n → tag .crossed ≡ 0 → Sends (Ages f n) (outcomeOf p s rows codes t) (turned tag)
-  aged-injected local type now none-yet = sends-same p s rows codes t h from (Ages f n) (turned tag) each
+  pub aged-injected : s ≡ 7 → kindOf (p .control) ≡ kindOf (tag .packet .control) → tag .before ≡ n → tag .crossed ≡ 0 → Sends (Ages f n) (outcomeOf p s tables t) (turned tag)
+  aged-injected local type now none-yet = sends-same p s tables t h from (Ages f n) (turned tag) each
     where
-      each : (q : Packet) → errorsOf p s (t .phase) ≡ 0 → SameStamp (outcomeOf p s rows codes t .packet) q → Ages f n (record { packet = q; tag = turned tag })
+      each : (q : Packet) → errorsOf p s (t .phase) ≡ 0 → SameStamp (outcomeOf p s tables t .packet) q → Ages f n (record { packet = q; tag = turned tag })
       each q none same =
           record {
-            kind = same .kind ∙ kind-kept p s rows codes t h from ∙ type;
+            kind = same .kind ∙ kind-kept p s tables t h from ∙ type;
             aged = λ low.
                 record {
                   begun = le-of-eq now;
                   crossed = omega arith;
-                  stamp = same .stamp ∙ stamp-local p s rows codes t h from local none (low-before q same low) ∙ phase ∙ ap (λ (b : ℕ). code (b / f)) (sym now);
+                  stamp = same .stamp ∙ stamp-local p s tables t h from local none (low-before q same low) ∙ phase ∙ ap (λ (b : ℕ). code (b / f)) (sym now);
                   due = omega arith;
                 };
           }
 
   -- age is found at the end of the span
-  pub old-late : (s < 6 → Ages f n (record { packet = p; tag = tag })) → outcomeOf p s rows codes t .errors / 2 % 2 ≡ 1 → tag .before + span f (tag .before) ≤ n
+  pub old-late : (s < 6 → Ages f n (record { packet = p; tag = tag })) → outcomeOf p s tables t .errors / 2 % 2 ≡ 1 → tag .before + span f (tag .before) ≤ n
   old-late ages e =
-      let found = old p s rows codes t h from e in
+      let found = old p s tables t h from e in
       let x = ages (found .0) .aged (found .1) in
       let late : ¬ (n < tag .before + span f (tag .before)) = λ l.
       young-before f some (tag .before) n (x .begun) l (sym (x .stamp) ∙ found .2 ∙ ap (λ (k : ℕ). 3 - k) phase) in

@@ -9,7 +9,7 @@ use lib.ListN.{getD}
 use Rattle.packet.specs.Bytes.{packetAt}
 use Rattle.steps.specs.Deciding.{Checked}
 use Rattle.mesh.specs.Mesh.{Mesh, fresh}
-use Rattle.mesh.specs.Steps.{Tables, Arrival, Going, codesAt, settingAt, setAside, arrivals, setOut}
+use Rattle.mesh.specs.Steps.{Tables, Arrival, Going, codesAt, settingAt, setAside, arrivals, setOut, tablesAt}
 use Rattle.lists.specs.Lists.{All}
 use Rattle.mesh.specs.Sound.{Arrives, SoundMesh}
 use Rattle.mesh.proofs.SoundArrivals.{sound-arrivals}
@@ -52,9 +52,9 @@ module _ (f : ℕ) (s : State) (t : Tables) (sound : SoundMesh (s .mesh)) (codes
   injected-keeps chip bytes h =
       record {
         clock = clock-same (pass-head t turned g a) (ageing .clock);
-        flights = each-after-pass t turned (Ages f (s .rounds)) g a sound arrives (aged-injected f (s .rounds) some _ _ _ _ _ able (inr refl) (ageing .clock .phase) (tagOf s (packetAt bytes)) refl refl refl refl) (ageing .flights);
+        flights = each-after-pass t turned (Ages f (s .rounds)) g a sound arrives (aged-injected f (s .rounds) some _ _ _ _ able (inr refl) (ageing .clock .phase) (tagOf s (packetAt bytes)) refl refl refl refl) (ageing .flights);
         crossings = each-append (Crossing f) (s .events) _ (ageing .crossings) ((λ low. omega arith), tt);
-        times = each-append (Timely f) (s .events) _ (ageing .times) (old-late f (s .rounds) some _ _ _ _ _ able (inr refl) (ageing .clock .phase) (tagOf s (packetAt bytes)) (λ near. absurd (omega arith)), tt);
+        times = each-append (Timely f) (s .events) _ (ageing .times) (old-late f (s .rounds) some _ _ _ _ able (inr refl) (ageing .clock .phase) (tagOf s (packetAt bytes)) (λ near. absurd (omega arith)), tt);
       }
     where
       g : Going Tag
@@ -66,7 +66,7 @@ module _ (f : ℕ) (s : State) (t : Tables) (sound : SoundMesh (s .mesh)) (codes
       arrives : Arrives (s .mesh .height * s .mesh .width) (accepts.arrivalNow s chip bytes)
       arrives = record { there = h .there; from = inr refl; passable = h .passable }
 
-      able : Checked (packetAt bytes) 7 (codesAt t (s .mesh .height * s .mesh .width) chip) (settingAt (s .mesh) (getD (s .mesh .chips) chip fresh))
+      able : Checked (packetAt bytes) 7 (tablesAt t (s .mesh .height * s .mesh .width) chip) (settingAt (s .mesh) chip)
       able = checked t (s .mesh) (accepts.arrivalNow s chip bytes) sound codes arrives
 
   round-keeps : Ageing f (accepts.afterRound s t)
@@ -91,14 +91,14 @@ module _ (f : ℕ) (s : State) (t : Tables) (sound : SoundMesh (s .mesh)) (codes
 
       sends : InPhase t (s .mesh .phase) (Arriving (Ages f (s .rounds))) (HandsOn t turned (Ages f (s .rounds + 1)))
       sends m now sound′ codes′ a arrives come =
-          aged-sent f (s .rounds) some _ _ _ _ _ (checked t m a sound′ codes′ arrives) (arrives .from) (now ∙ ageing .clock .phase) (a .flight .tag) (come .0) (come .1)
+          aged-sent f (s .rounds) some _ _ _ _ (checked t m a sound′ codes′ arrives) (arrives .from) (now ∙ ageing .clock .phase) (a .flight .tag) (come .0) (come .1)
 
       crosses : InPhase t (s .mesh .phase) (Arriving (Ages f (s .rounds))) (λ m a. Crossing f (passage t (s .rounds) m a))
       crosses m now sound′ codes′ a arrives come = aged-crossing f (s .rounds) (a .flight) (come .1)
 
       stops : InPhase t (s .mesh .phase) (Arriving (Ages f (s .rounds))) (λ m a. Timely f (passage t (s .rounds) m a))
       stops m now sound′ codes′ a arrives come =
-          old-late f (s .rounds) some _ _ _ _ _ (checked t m a sound′ codes′ arrives) (arrives .from) (now ∙ ageing .clock .phase) (a .flight .tag) (λ near. come .1)
+          old-late f (s .rounds) some _ _ _ _ (checked t m a sound′ codes′ arrives) (arrives .from) (now ∙ ageing .clock .phase) (a .flight .tag) (λ near. come .1)
 
 ageing-kept : Kept Ageing
 unfolding EachPass

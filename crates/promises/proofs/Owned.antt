@@ -15,6 +15,7 @@ use Rattle.packet.proofs.Types.{mc-marked}
 use Rattle.tables.specs.declared.Found.{Found}
 use Rattle.tables.specs.declared.Found.the-variants.{At, Nothing}
 use Rattle.tables.specs.Rows.{rowsOf, firstMatch, routeOf, routeFor}
+use Rattle.tables.specs.Tables.{ChipTables}
 use Rattle.steps.specs.declared.Outcome.{Outcome}
 use Rattle.steps.specs.declared.Setting.{Setting}
 use Rattle.steps.specs.declared.Wanted.{Wanted}
@@ -64,11 +65,11 @@ bits true true true true = (refl, refl, refl, refl)
 
 -- ---- the local miss
 
-module _ (q : Packet) (s : ℕ) (rows codes : List ℕ) (t : Setting) where
+module _ (q : Packet) (s : ℕ) (tables : ChipTables) (t : Setting) where
   abbrev errors : ℕ
   errors = errorsOf q s (t .phase)
 
-  missed-row : (f : Found) (mark : ℕ) → matchWanted (routeOf (rowsOf rows) f) mark s (t .monitor) .missed ≡ flag (eqb s 7 && true && true && noRow f) 1
+  missed-row : (f : Found) (mark : ℕ) → matchWanted (routeOf (rowsOf (tables .rows)) f) mark s (t .monitor) .missed ≡ flag (eqb s 7 && true && true && noRow f) 1
   missed-row (At n) mark = simp and-false
   missed-row Nothing mark = go (eqb s 7)
     where
@@ -88,24 +89,24 @@ module _ (q : Packet) (s : ℕ) (rows codes : List ℕ) (t : Setting) where
           let bad : badLocal (q .control) s ≡ true = simp (e, mc-marked (q .control) mc, two) in
           absurd (false≢true (sym (pass.right q s (t .phase) none .local) ∙ bad))
 
-  pub missed-own : wantedOf errors q s rows codes t .missed ≡ flag (eqb s 7 && isMc (q .control) && eqb errors 0 && noRow (firstMatch (q .word) (rowsOf rows))) 1
+  pub missed-own : wantedOf errors q s tables t .missed ≡ flag (eqb s 7 && isMc (q .control) && eqb errors 0 && noRow (firstMatch (q .word) (rowsOf (tables .rows)))) 1
   unfolding wantedOf
   missed-own = by-error (eqb errors 0) refl
     where
       row : Bool
-      row = noRow (firstMatch (q .word) (rowsOf rows))
+      row = noRow (firstMatch (q .word) (rowsOf (tables .rows)))
 
       by-mark : errors ≡ 0 → isMc (q .control) ≡ true → (b : Bool) → eqb (markOf (q .control)) 2 ≡ b
-          → (cond {A = Wanted} b (record { set = 0; missed = 0 }) (matchWanted (routeOf (rowsOf rows) (firstMatch (q .word) (rowsOf rows))) (markOf (q .control)) s (t .monitor))) .missed
-          ≡ flag (eqb s 7 && true && true && noRow (firstMatch (q .word) (rowsOf rows))) 1
+          → (cond {A = Wanted} b (record { set = 0; missed = 0 }) (matchWanted (routeOf (rowsOf (tables .rows)) (firstMatch (q .word) (rowsOf (tables .rows)))) (markOf (q .control)) s (t .monitor))) .missed
+          ≡ flag (eqb s 7 && true && true && noRow (firstMatch (q .word) (rowsOf (tables .rows)))) 1
       by-mark none mc true mark = simp (not-local none mc mark)
-      by-mark none mc false mark = missed-row (firstMatch (q .word) (rowsOf rows)) (markOf (q .control))
+      by-mark none mc false mark = missed-row (firstMatch (q .word) (rowsOf (tables .rows))) (markOf (q .control))
 
-      by-kind : errors ≡ 0 → (b : Bool) → isMc (q .control) ≡ b → kindWanted (kindOf (q .control)) q s (routeFor (q .word) (rowsOf rows)) codes t .missed ≡ flag (eqb s 7 && isMc (q .control) && true && noRow (firstMatch (q .word) (rowsOf rows))) 1
+      by-kind : errors ≡ 0 → (b : Bool) → isMc (q .control) ≡ b → kindWanted (kindOf (q .control)) q s (routeFor (q .word) (rowsOf (tables .rows))) (tables .codes) t .missed ≡ flag (eqb s 7 && isMc (q .control) && true && noRow (firstMatch (q .word) (rowsOf (tables .rows)))) 1
       by-kind none true mc = simp mc (by-mark none mc (eqb (markOf (q .control)) 2) refl)
       by-kind none false other = simp (other, and-false)
 
-      by-error : (b : Bool) → eqb errors 0 ≡ b → wantedOf errors q s rows codes t .missed ≡ flag (eqb s 7 && isMc (q .control) && eqb errors 0 && noRow (firstMatch (q .word) (rowsOf rows))) 1
+      by-error : (b : Bool) → eqb errors 0 ≡ b → wantedOf errors q s tables t .missed ≡ flag (eqb s 7 && isMc (q .control) && eqb errors 0 && noRow (firstMatch (q .word) (rowsOf (tables .rows)))) 1
       by-error true e = simp e (by-kind (eqb-true _ _ e) (isMc (q .control)) refl)
       by-error false e = simp (e, and-false)
 
@@ -119,11 +120,11 @@ sent-told : Always (λ f s. EachPass Sent (s .events))
 sent-told =
     always-each Sent (λ t n m a sound codes h.
     ap (onChip (λ x. 1)) (left-after t n m a sound h)
-    ∙ chip-holds-sent _ _ _ _ _ (checked t m a sound codes h) (h .from) (turned (a .flight .tag)) (chipOf m (a .chip)) (chip-sound sound (a .chip) (h .there) .six))
+    ∙ chip-holds-sent _ _ _ _ (checked t m a sound codes h) (h .from) (turned (a .flight .tag)) (chipOf m (a .chip)) (chip-sound sound (a .chip) (h .there) .six))
 
 -- ---- all ten
 
-own : (p : Passage) → p .outcome ≡ outcomeOf (p .arrival .flight .packet) (p .arrival .source) (p .rows) (p .codes) (p .setting) → Sent p → countsOf (p .outcome) ≡ ownCounts p
+own : (p : Passage) → p .outcome ≡ outcomeOf (p .arrival .flight .packet) (p .arrival .source) (p .tables) (p .setting) → Sent p → countsOf (p .outcome) ≡ ownCounts p
 unfolding outcomeOf decided
 own p e more =
     let q = p .arrival .flight .packet in
@@ -131,8 +132,8 @@ own p e more =
     let errors-are : p .outcome .errors ≡ errorsOf q s (p .setting .phase) = ap (λ (o : Outcome). o .errors) e in
     let b = bits (not (isOdd q)) (tooOld (q .control) s (p .setting .phase)) (wrongLength q) (badLocal (q .control) s) in
     let miss : p .outcome .missed ≡ flag (isMiss p) 1 =
-    ap (λ (o : Outcome). o .missed) e ∙ missed-own q s (p .rows) (p .codes) (p .setting)
-    ∙ ap (λ (n : ℕ). flag (eqb s 7 && isMc (q .control) && eqb n 0 && noRow (firstMatch (q .word) (rowsOf (p .rows)))) 1) (sym errors-are) in
+    ap (λ (o : Outcome). o .missed) e ∙ missed-own q s (p .tables) (p .setting)
+    ∙ ap (λ (n : ℕ). flag (eqb s 7 && isMc (q .control) && eqb n 0 && noRow (firstMatch (q .word) (rowsOf (p .tables .rows)))) 1) (sym errors-are) in
     let sent : sentCount (p .outcome) ≡ onChip (λ x. 1) (p .left) - onChip (λ x. 1) (p .here) = omega (arith, more) in
     λ i. 1 ∷ (ap (λ (n : ℕ). n % 2) errors-are ∙ b .0) i ∷ (ap (λ (n : ℕ). n / 2 % 2) errors-are ∙ b .1) i ∷ (ap (λ (n : ℕ). n / 4 % 2) errors-are ∙ b .2) i
     ∷ (ap (λ (n : ℕ). n / 8 % 2) errors-are ∙ b .3) i
@@ -144,7 +145,7 @@ own p e more =
     ∷ []
 
 sum-own : (chip k : ℕ) (es : List Event)
-    → EachPass (λ p. (p .outcome ≡ outcomeOf (p .arrival .flight .packet) (p .arrival .source) (p .rows) (p .codes) (p .setting)) × ((i : ℕ) → i < 6 → has (p .setting .ready) i ≡ isReady (getD (p .here .lines) i idle))) es
+    → EachPass (λ p. (p .outcome ≡ outcomeOf (p .arrival .flight .packet) (p .arrival .source) (p .tables) (p .setting)) × ((i : ℕ) → i < 6 → has (p .setting .ready) i ≡ isReady (getD (p .here .lines) i idle))) es
     → EachPass Sent es
     → sumOf (countedAt chip k) es ≡ sumOf (countAt chip k) es
 unfolding sumOf EachPass

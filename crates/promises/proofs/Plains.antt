@@ -12,10 +12,10 @@ use Rattle.steps.specs.Links.{has, setOf}
 use Rattle.steps.specs.Deciding.{outcomeOf, packetOn, legPacket}
 use Rattle.kept.specs.Keeping.{keptOf}
 use Rattle.kept.specs.Counting.{countedOf}
-use Rattle.links.specs.Line.{Flight, Line, idle, isReady, sent, lineAfter}
+use Rattle.links.specs.Line.{Flight, Line, idle, isReady, sent, lineAfter, readyLinks}
 use Rattle.links.specs.Across.{across, opposite}
 use Rattle.mesh.specs.Mesh.{Chip, Mesh, fresh, readyOf}
-use Rattle.mesh.specs.Steps.{Tables, Arrival, Going, rowsAt, codesAt, outcomeAt, logOf, linesAfter, chipAfter, withChips, withChip, emptied, emptiedChip, setAside, arrivingBy, arrivingAt, arrivingFrom, arrivals, roundOver, passAt, passed, rounded, same, setOut}
+use Rattle.mesh.specs.Steps.{Tables, Arrival, Going, rowsAt, codesAt, outcomeAt, logOf, linesAfter, chipAfter, withChips, withChip, emptied, emptiedChip, setAside, arrivingBy, arrivingAt, arrivingFrom, arrivals, roundOver, passAt, passed, rounded, same, setOut, tablesAt}
 use Rattle.lists.specs.Lists.{total}
 use Rattle.mesh.specs.Weights.{onLine, onChip, inFlight}
 use Rattle.lists.proofs.Totals.{total-map, total-ones}
@@ -45,16 +45,16 @@ module _ {A : Type 0} where
   pub plain-ready : (l : Line A) → isReady (plainLine l) ≡ isReady l
   plain-ready l = ap (λ (n : ℕ). l .up && leb n 6) (length-map (l .held) plainFlight)
 
-  ready-of : (c : Chip A) → readyOf (plainChip c) ≡ readyOf c
-  ready-of c = ap setOf (fun-ext (λ i. ap isReady (plain-line c i) ∙ plain-ready (getD (c .lines) i idle)))
+  ready-links : (c : Chip A) → readyLinks (plainChip c .lines) ≡ readyLinks (c .lines)
+  ready-links c = ap setOf (fun-ext (λ i. ap isReady (plain-line c i) ∙ plain-ready (getD (c .lines) i idle)))
 
   pub plain-outcome : (t : Tables) (m : Mesh A) (chip source : ℕ) (p : Packet) → outcomeAt t (plain m) chip source p ≡ outcomeAt t m chip source p
   plain-outcome t m chip source p =
       ap
       (λ (ready : ℕ).
-      outcomeOf p source (rowsAt t chip) (codesAt t (m .height * m .width) chip)
+      outcomeOf p source (tablesAt t (m .height * m .width) chip)
       (record { width = m .width; height = m .height; monitor = m .monitor; phase = m .phase; ready = ready }))
-      (ap readyOf (plain-chip m chip) ∙ ready-of (getD (m .chips) chip fresh))
+      (ap (λ (c : Chip (Unit {0})). readyLinks (c .lines)) (plain-chip m chip) ∙ ready-links (getD (m .chips) chip fresh))
 
   on-line : (l : Line A) → onLine (λ f. 1) (plainLine l) ≡ onLine (λ f. 1) l
   on-line l = total-ones (map plainFlight (l .held)) ∙ length-map (l .held) plainFlight ∙ sym (total-ones (l .held))

@@ -36,7 +36,7 @@ log-told =
 -- What is said of a pass: what decides it, and that the ready set has just the links that are up and hold at most 6.
 abbrev Afresh : Passage → Type 0
 Afresh p =
-    (p .outcome ≡ outcomeOf (p .arrival .flight .packet) (p .arrival .source) (p .rows) (p .codes) (p .setting))
+    (p .outcome ≡ outcomeOf (p .arrival .flight .packet) (p .arrival .source) (p .tables) (p .setting))
     × ((i : ℕ) → i < 6 → has (p .setting .ready) i ≡ isReady (getD (p .here .lines) i idle))
 
 pub no-stale-block : NoStaleBlock

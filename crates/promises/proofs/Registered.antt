@@ -17,7 +17,7 @@ use Rattle.kept.specs.Keeping.{empty, dropCount, keptOf}
 use Rattle.steps.proofs.Bounds.{outcome-sets}
 use Rattle.kept.proofs.OnePass as pass
 use Rattle.mesh.specs.Mesh.{Chip, Mesh, fresh}
-use Rattle.mesh.specs.Steps.{Tables, Arrival, setOut, rowsAt, codesAt, settingAt, emptiedChip, passAt}
+use Rattle.mesh.specs.Steps.{Tables, Arrival, setOut, rowsAt, codesAt, settingAt, emptiedChip, passAt, tablesAt}
 use Rattle.mesh.specs.Calls.{withEmpty}
 use Rattle.lists.specs.Lists.{All}
 use Rattle.mesh.specs.Sound.{Arrives, SoundMesh}
@@ -29,6 +29,7 @@ use Rattle.promises.specs.Told.{droppedUnits, noted, dropsSince, firstOf
 use Rattle.promises.specs.Demand3 as demand
 use Rattle.promises.proofs.Dropped.{length-dropped, first-dropped, Some, keeps-first, all-some}
 use Rattle.promises.proofs.Runs.{passage, always-steady, set-keeps}
+use Rattle.tables.specs.Tables.{ChipTables}
 
 none-some : (us : List Registers) → length us ≡ 0 → All Some us
 unfolding All
@@ -36,14 +37,14 @@ none-some [] e = tt
 none-some (u ∷ us) e = absurd (omega arith)
 
 -- what a pass drops holds something: a packet in error is dropped nowhere, and any other has odd parity
-drops-some : (p : Packet) (s : ℕ) (rows codes : List ℕ) (t : Setting) → Checked p s codes t → Source s → All Some (droppedUnits (outcomeOf p s rows codes t))
-drops-some p s rows codes t h from = go (eqb (dropCount (outcomeOf p s rows codes t)) 0) refl (eqb (errorsOf p s (t .phase)) 0) refl
+drops-some : (p : Packet) (s : ℕ) (tables : ChipTables) (t : Setting) → Checked p s tables t → Source s → All Some (droppedUnits (outcomeOf p s tables t))
+drops-some p s tables t h from = go (eqb (dropCount (outcomeOf p s tables t)) 0) refl (eqb (errorsOf p s (t .phase)) 0) refl
   where
-    go : (b : Bool) → eqb (dropCount (outcomeOf p s rows codes t)) 0 ≡ b → (c : Bool) → eqb (errorsOf p s (t .phase)) 0 ≡ c → All Some (droppedUnits (outcomeOf p s rows codes t))
+    go : (b : Bool) → eqb (dropCount (outcomeOf p s tables t)) 0 ≡ b → (c : Bool) → eqb (errorsOf p s (t .phase)) 0 ≡ c → All Some (droppedUnits (outcomeOf p s tables t))
     go true d c e =
-        none-some (droppedUnits (outcomeOf p s rows codes t)) (length-dropped (outcomeOf p s rows codes t) (outcome-sets p s rows codes t) ∙ eqb-true _ _ d)
-    go false d true e = all-some (outcomeOf p s rows codes t) (odd-some (outcomeOf p s rows codes t .packet) (pass.stamped-odd p s rows codes t h from (eqb-true _ _ e)))
-    go false d false e = absurd (eqb-false _ _ d (error-drops-none p s rows codes t h from (eqb-false _ _ e)))
+        none-some (droppedUnits (outcomeOf p s tables t)) (length-dropped (outcomeOf p s tables t) (outcome-sets p s tables t) ∙ eqb-true _ _ d)
+    go false d true e = all-some (outcomeOf p s tables t) (odd-some (outcomeOf p s tables t .packet) (pass.stamped-odd p s tables t h from (eqb-true _ _ e)))
+    go false d false e = absurd (eqb-false _ _ d (error-drops-none p s tables t h from (eqb-false _ _ e)))
 
 -- ---- one chip
 
@@ -74,15 +75,14 @@ module _ (t : Tables) (n : ℕ) (m : Mesh Tag) (a : Arrival Tag) (es : List Even
       let c = getD (m .chips) (a .chip) fresh in
       let o = passage t n m a .outcome in
       let p = a .flight .packet in
-      let rows = rowsAt t (a .chip) in
-      let own = codesAt t (m .height * m .width) (a .chip) in
-      let sets = outcome-sets p (a .source) rows own (settingAt m c) in
+      let own = tablesAt t (m .height * m .width) (a .chip) in
+      let sets = outcome-sets p (a .source) own (settingAt m (a .chip)) in
       let was = before (a .chip) (h .there) in (
         ap (λ (x : Chip Tag). x .registers) (getD-set-same (m .chips) (a .chip) _ fresh (omega (arith, sound .many, h .there)))
             ∙ ap (λ (r : Registers). keptOf r o) (was .0)
             ∙ keeps-first o (dropsSince (a .chip) es) (droppedUnits o) (length-dropped o sets) (first-dropped o sets) (was .1),
         all-append Some (dropsSince (a .chip) es) (droppedUnits o) (was .1)
-            (drops-some p (a .source) rows own (settingAt m c) (checked t m a sound codes h) (h .from)),
+            (drops-some p (a .source) own (settingAt m (a .chip)) (checked t m a sound codes h) (h .from)),
       )
 
   registered-pass : Registered (passAt t turned (setOut m) a .mesh) later

@@ -9,7 +9,7 @@ use native.Mathlib.Omega.{arith}
 use lib.ListN.{getD, set}
 use lib.Seq.{getD-set-same}
 use Rattle.mesh.specs.Mesh.{Mesh, fresh, opened}
-use Rattle.mesh.specs.Steps.{Tables, Arrival, Going, setOut, rowsAt, codesAt, settingAt, outcomeAt, logOf, chipAfter, setAside, arrivals, roundOver, passAt}
+use Rattle.mesh.specs.Steps.{Tables, Arrival, Going, setOut, rowsAt, codesAt, settingAt, outcomeAt, logOf, chipAfter, setAside, arrivals, roundOver, passAt, tablesAt}
 use Rattle.mesh.specs.Calls.{withLink, withEmpty}
 use Rattle.lists.specs.Lists.{All}
 use Rattle.mesh.specs.Sound.{Arrives, SoundMesh}
@@ -30,9 +30,8 @@ passage t n m a =
       rounds = n;
       here = getD (m .chips) (a .chip) fresh;
       left = getD (passAt t turned (setOut m) a .mesh .chips) (a .chip) fresh;
-      rows = rowsAt t (a .chip);
-      codes = codesAt t (m .height * m .width) (a .chip);
-      setting = settingAt m (getD (m .chips) (a .chip) fresh);
+      tables = tablesAt t (m .height * m .width) (a .chip);
+      setting = settingAt m (a .chip);
       outcome = outcomeAt t m (a .chip) (a .source) (a .flight .packet);
     }
 

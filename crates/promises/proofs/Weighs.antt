@@ -29,6 +29,7 @@ use Rattle.lists.specs.Lists.{total}
 use Rattle.mesh.specs.Weights.{onLine, onChip}
 use Rattle.lists.proofs.Totals.{total-append}
 use Rattle.mesh.proofs.Fitting.{has-none}
+use Rattle.tables.specs.Tables.{ChipTables}
 
 -- ---- a chip after a pass
 
@@ -76,42 +77,42 @@ over-add f g = omega arith
 weight-of : (q : Packet) (b : Bool) (m : ℕ) → isMarked (q .control) ≡ b → markOf (q .control) ≡ m → weight q ≡ cond (b && eqb m 1) 2 1
 weight-of q b m eb em = λ i. cond (eb i && eqb (em i) 1) 2 1
 
-module _ (p : Packet) (s : ℕ) (rows codes : List ℕ) (t : Setting) (h : Checked p s codes t) (from : Source s) where
+module _ (p : Packet) (s : ℕ) (tables : ChipTables) (t : Setting) (h : Checked p s tables t) (from : Source s) where
   -- only a packet with a mark takes detours
-  no-detour : isMarked (outcomeOf p s rows codes t .packet .control) ≡ false → outcomeOf p s rows codes t .carried ≡ 0
+  no-detour : isMarked (outcomeOf p s tables t .packet .control) ≡ false → outcomeOf p s tables t .carried ≡ 0
   unfolding outcomeOf decided
   no-detour other = simp other
 
-  on-weighs : (i : ℕ) → weight (packetOn (outcomeOf p s rows codes t) i) ≡ cond (eqb (markOn (outcomeOf p s rows codes t) i) 1) 2 1
-  on-weighs i = go (isMarked (outcomeOf p s rows codes t .packet .control)) refl
+  on-weighs : (i : ℕ) → weight (packetOn (outcomeOf p s tables t) i) ≡ cond (eqb (markOn (outcomeOf p s tables t) i) 1) 2 1
+  on-weighs i = go (isMarked (outcomeOf p s tables t .packet .control)) refl
     where
-      go : (b : Bool) → isMarked (outcomeOf p s rows codes t .packet .control) ≡ b → weight (packetOn (outcomeOf p s rows codes t) i) ≡ cond (eqb (markOn (outcomeOf p s rows codes t) i) 1) 2 1
-      go true marked = let f = pass.sent-marked p s rows codes t h from i marked in weight-of (packetOn (outcomeOf p s rows codes t) i) true (markOn (outcomeOf p s rows codes t) i) (same-marked _ _ (f .kind) ∙ marked) (f .new)
+      go : (b : Bool) → isMarked (outcomeOf p s tables t .packet .control) ≡ b → weight (packetOn (outcomeOf p s tables t) i) ≡ cond (eqb (markOn (outcomeOf p s tables t) i) 1) 2 1
+      go true marked = let f = pass.sent-marked p s tables t h from i marked in weight-of (packetOn (outcomeOf p s tables t) i) true (markOn (outcomeOf p s tables t) i) (same-marked _ _ (f .kind) ∙ marked) (f .new)
       go false other =
-          let plain : markOn (outcomeOf p s rows codes t) i ≡ 0 = simp (no-detour other, has-none) in
-          ap weight (pass.sent-plain p s rows codes t h from i other) ∙ simp (other, plain)
+          let plain : markOn (outcomeOf p s tables t) i ≡ 0 = simp (no-detour other, has-none) in
+          ap weight (pass.sent-plain p s tables t h from i other) ∙ simp (other, plain)
 
-  leg-weighs : weight (legPacket (outcomeOf p s rows codes t)) ≡ 1
-  leg-weighs = weight-of (legPacket (outcomeOf p s rows codes t)) _ 3 refl (pass.sent-leg p s rows codes t h from .new) ∙ simp and-false
+  leg-weighs : weight (legPacket (outcomeOf p s tables t)) ≡ 1
+  leg-weighs = weight-of (legPacket (outcomeOf p s tables t)) _ 3 refl (pass.sent-leg p s tables t h from .new) ∙ simp and-false
 
-  sent-weighs : {A : Type 0} (tag : A) → overLinks (gained weighed (outcomeOf p s rows codes t) tag) ≡ weightSent (outcomeOf p s rows codes t)
+  sent-weighs : {A : Type 0} (tag : A) → overLinks (gained weighed (outcomeOf p s tables t) tag) ≡ weightSent (outcomeOf p s tables t)
   sent-weighs tag =
-      let o = outcomeOf p s rows codes t in
+      let o = outcomeOf p s tables t in
       (λ j. overLinks (λ i. cond (has (o .sent) i) (on-weighs i j) 0 + cond (has (o .leg) i) (leg-weighs j) 0))
       ∙ over-add (λ i. cond (has (o .sent) i) (cond (eqb (markOn o i) 1) 2 1) 0) (λ i. cond (has (o .leg) i) 1 0)
-      ∙ ap (λ (n : ℕ). overLinks (λ i. cond (has (o .sent) i) (cond (eqb (markOn o i) 1) 2 1) 0) + n) (links-ones (o .leg) (outcome-sets p s rows codes t .leg))
+      ∙ ap (λ (n : ℕ). overLinks (λ i. cond (has (o .sent) i) (cond (eqb (markOn o i) 1) 2 1) 0) + n) (links-ones (o .leg) (outcome-sets p s tables t .leg))
 
   -- so a chip of six links weighs more by what the pass sends
   pub chip-weighs-sent : {A : Type 0} (tag : A) (c : Chip A) → length (c .lines) ≡ 6
-      → onChip weighed (chipAfter (outcomeOf p s rows codes t) tag c) ≡ onChip weighed c + weightSent (outcomeOf p s rows codes t)
-  chip-weighs-sent tag c lines = chip-gains weighed (outcomeOf p s rows codes t) tag c lines ∙ ap (λ (n : ℕ). onChip weighed c + n) (sent-weighs tag)
+      → onChip weighed (chipAfter (outcomeOf p s tables t) tag c) ≡ onChip weighed c + weightSent (outcomeOf p s tables t)
+  chip-weighs-sent tag c lines = chip-gains weighed (outcomeOf p s tables t) tag c lines ∙ ap (λ (n : ℕ). onChip weighed c + n) (sent-weighs tag)
 
   -- and holds more by as many as it sends
   pub chip-holds-sent : {A : Type 0} (tag : A) (c : Chip A) → length (c .lines) ≡ 6
-      → onChip (λ x. 1) (chipAfter (outcomeOf p s rows codes t) tag c) ≡ onChip (λ x. 1) c + sentCount (outcomeOf p s rows codes t)
+      → onChip (λ x. 1) (chipAfter (outcomeOf p s tables t) tag c) ≡ onChip (λ x. 1) c + sentCount (outcomeOf p s tables t)
   chip-holds-sent tag c lines =
-      let o = outcomeOf p s rows codes t in
-      let sets = outcome-sets p s rows codes t in
+      let o = outcomeOf p s tables t in
+      let sets = outcome-sets p s tables t in
       omega (
         arith,
         chip-gains (λ x. 1) o tag c lines,

@@ -101,7 +101,7 @@ Log = Always (λ f s. s .log ≡ recordsOf (s .events))
 -- and no longer is, is ready.
 abbrev pub NoStaleBlock : Type 0
 NoStaleBlock = Always (λ f s. EachPass (λ p.
-    (p .outcome ≡ outcomeOf (p .arrival .flight .packet) (p .arrival .source) (p .rows) (p .codes) (p .setting))
+    (p .outcome ≡ outcomeOf (p .arrival .flight .packet) (p .arrival .source) (p .tables) (p .setting))
     × ((i : ℕ) → i < 6 → has (p .setting .ready) i ≡ isReady (getD (p .here .lines) i idle))) (s .events))
 
 -- 9. "Every directed link holds at most 8 packets", after every call.

@@ -10,6 +10,7 @@ use Rattle.packet.proofs.Determined.{determined}
 use Rattle.tables.specs.declared.Row.{Row}
 use Rattle.tables.specs.declared.RowFound.{RowFound}
 use Rattle.tables.specs.Rows.{foundIn}
+use Rattle.tables.specs.Tables.{ChipTables}
 use Rattle.router.specs.declared.Pass.{Pass}
 use Rattle.steps.specs.declared.Setting.{Setting}
 use Rattle.router.specs.Call.{passOf}
@@ -37,9 +38,9 @@ use Rattle.lists.proofs.Alls.{all-getD}
 use Rattle.mesh.proofs.SoundChanges.{chip-sound}
 use Rattle.buffer.proofs.SoundWords.{holds-sound}
 
-pub pass-determined : (bytes : List ℕ) (source : ℕ) (rows codes : List ℕ) (t : Setting) (a b : Pass)
-    → a ≡ passOf bytes source rows codes t → b ≡ passOf bytes source rows codes t → a ≡ b
-pass-determined bytes source rows codes t = determined
+pub pass-determined : (bytes : List ℕ) (source : ℕ) (tables : ChipTables) (t : Setting) (a b : Pass)
+    → a ≡ passOf bytes source tables t → b ≡ passOf bytes source tables t → a ≡ b
+pass-determined bytes source tables t = determined
 
 pub find-determined : (key : ℕ) (rows : List Row) (a b : RowFound) → a ≡ foundIn key rows → b ≡ foundIn key rows → a ≡ b
 find-determined key rows = determined

@@ -12,8 +12,9 @@ use Rattle.packet.specs.Bytes.{packetAt, nothing}
 use Rattle.steps.specs.declared.Outcome.{Outcome}
 use Rattle.steps.specs.declared.Setting.{Setting}
 use Rattle.tables.specs.Sizes.{sizeFine}
+use Rattle.tables.specs.Tables.{ChipTables}
 use Rattle.mesh.specs.Mesh.{Chip, Mesh, fresh, opened, roundsFine}
-use Rattle.mesh.specs.Steps.{Tables, Arrival, Going, rowsAt, codesAt, settingAt, outcomeAt, setAside, arrivals, passAt, setOut}
+use Rattle.mesh.specs.Steps.{Tables, Arrival, Going, rowsAt, codesAt, settingAt, outcomeAt, setAside, arrivals, passAt, setOut, tablesAt}
 use Rattle.mesh.specs.Calls as calls
 use Rattle.mesh.specs.Asked.{Call, inject, round, setLink, readRegisters, change, look, leftBy, isInjection, isRound, handedIn}
 
@@ -38,8 +39,7 @@ pub record Passage : Type 0 where
   pub rounds : ℕ
   pub here : Chip Tag
   pub left : Chip Tag
-  pub rows : List ℕ
-  pub codes : List ℕ
+  pub tables : ChipTables
   pub setting : Setting
   pub outcome : Outcome
 
@@ -76,9 +76,8 @@ passages t n g (a ∷ later) =
       rounds = n;
       here = getD (g .mesh .chips) (a .chip) fresh;
       left = getD (passAt t turned g a .mesh .chips) (a .chip) fresh;
-      rows = rowsAt t (a .chip);
-      codes = codesAt t (g .mesh .height * g .mesh .width) (a .chip);
-      setting = settingAt (g .mesh) (getD (g .mesh .chips) (a .chip) fresh);
+      tables = tablesAt t (g .mesh .height * g .mesh .width) (a .chip);
+      setting = settingAt (g .mesh) (a .chip);
       outcome = outcomeAt t (g .mesh) (a .chip) (a .source) (a .flight .packet);
     })
     ∷ passages t n (passAt t turned g a) later

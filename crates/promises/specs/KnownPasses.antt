@@ -10,6 +10,7 @@ use Rattle.packet.specs.Bytes.{packedBytes, bytesIn}
 use Rattle.packet.specs.Types.{isMarked, isStamped}
 use Rattle.tables.specs.Rows.{rowsOf, firstMatch}
 use Rattle.tables.specs.Accept.{allRoutes, allCodes}
+use Rattle.tables.specs.Tables.{chipTables}
 use Rattle.router.specs.declared.Pass.{Pass}
 use Rattle.steps.specs.Links.{has}
 use Rattle.steps.specs.Wants.{wantedOf}
@@ -60,7 +61,7 @@ seenIn r =
 abbrev seen : Given → Seen
 seen g =
     seenIn
-    (passOf (g .bytes) (g .source) (g .rows) (6 ∷ [])
+    (passOf (g .bytes) (g .source) (chipTables (g .rows) (6 ∷ []))
     (record { width = 1; height = 1; monitor = 0; phase = g .phase; ready = g .ready }))
 
 pub record Case : Type 0 where

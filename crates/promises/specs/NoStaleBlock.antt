@@ -15,14 +15,15 @@ use Rattle.steps.specs.declared.Setting.{Setting}
 use Rattle.steps.specs.Links.{has, linksOf, link}
 use Rattle.steps.specs.Errors.{flag}
 use Rattle.steps.specs.Deciding.{outcomeOf}
-use Rattle.links.specs.Line.{idle, isReady}
+use Rattle.links.specs.Line.{idle, isReady, readyLinks}
 use Rattle.mesh.specs.Mesh.{Chip, Mesh, fresh, readyOf}
-use Rattle.mesh.specs.Steps.{Tables, rowsAt, codesAt, outcomeAt}
+use Rattle.mesh.specs.Steps.{Tables, rowsAt, codesAt, outcomeAt, tablesAt}
 use Rattle.mesh.specs.Calls.{many, chipOf, lineOf, withUp, withLink}
 use Rattle.mesh.specs.Sound.{SoundMesh}
 use Rattle.mesh.proofs.SoundChanges.{chip-sound}
 use Rattle.steps.proofs.Sets.{has-set}
 use Rattle.steps.proofs.Ways.{OneWay, pass-way}
+use Rattle.tables.specs.Tables.{ChipTables}
 
 -- of three ways that count to one, the first being taken, the others are not
 only-first : (a b c : Bool) → a ≡ true → flag a 1 + flag b 1 + flag c 1 ≡ 1 → (b ≡ false) × (c ≡ false)
@@ -37,11 +38,11 @@ pub record Used (o : Outcome) (i : ℕ) : Type 0 where
   pub no-detour : has (o .carried) (link (i + 5)) ≡ false
   pub not-dropped : has (o .dropped) i ≡ false
 
-pub ready-link-is-used : (p : Packet) (source : ℕ) (rows codes : List ℕ) (t : Setting) (i : ℕ) → t .ready < 64 → i < 6
-    → has (linksOf (outcomeOf p source rows codes t .wanted)) i ≡ true → has (t .ready) i ≡ true → Used (outcomeOf p source rows codes t) i
-ready-link-is-used p source rows codes t i hr hi wanted ready =
-    let o : Outcome = outcomeOf p source rows codes t in
-    let w : OneWay (o .sent) (o .carried) (o .dropped) (t .ready) i = pass-way p source rows codes t i hr hi wanted in
+pub ready-link-is-used : (p : Packet) (source : ℕ) (tables : ChipTables) (t : Setting) (i : ℕ) → t .ready < 64 → i < 6
+    → has (linksOf (outcomeOf p source tables t .wanted)) i ≡ true → has (t .ready) i ≡ true → Used (outcomeOf p source tables t) i
+ready-link-is-used p source tables t i hr hi wanted ready =
+    let o : Outcome = outcomeOf p source tables t in
+    let w : OneWay (o .sent) (o .carried) (o .dropped) (t .ready) i = pass-way p source tables t i hr hi wanted in
     let straight : has (o .sent) i ≡ true = w .straight ready in
     let rest = only-first (has (o .sent) i) (has (o .carried) (link (i + 5))) (has (o .dropped) i) straight (w .one) in
     record { sent = straight; no-detour = rest .0; not-dropped = rest .1 }
@@ -59,7 +60,7 @@ pub record Alike {A B : Type 0} (m : Mesh A) (n : Mesh B) (chip : ℕ) : Type 0 
 pub past-does-not-count : {A B : Type 0} (t : Tables) (m : Mesh A) (n : Mesh B) (chip source : ℕ) (p : Packet) → Alike m n chip
     → outcomeAt t m chip source p ≡ outcomeAt t n chip source p
 past-does-not-count t m n chip source p a =
-    λ i. outcomeOf p source (rowsAt t chip) (codesAt t (a .height i * a .width i) chip) (record {
+    λ i. outcomeOf p source (tablesAt t (a .height i * a .width i) chip) (record {
       width = a .width i;
       height = a .height i;
       monitor = a .monitor i;
@@ -71,13 +72,13 @@ past-does-not-count t m n chip source p a =
 
 -- A link that is taken up and holds at most 6 packets is ready at the very next pass, whatever happened before.
 pub up-is-ready : {A : Type 0} (m : Mesh A) → SoundMesh m → (chip link : ℕ) → chip < many m → link < 6 → length (lineOf m chip link .held) ≤ 6
-    → has (readyOf (chipOf (withLink m chip link true) chip)) link ≡ true
+    → has (readyOf (withLink m chip link true) chip) link ≡ true
 up-is-ready m sound chip link hc hl few =
     let c = chip-sound sound chip hc in
     let now : Chip _ =
     record { registers = chipOf m chip .registers; counters = chipOf m chip .counters; lines = set (chipOf m chip .lines) link (withUp true (lineOf m chip link)) } in
     let here : chipOf (withLink m chip link true) chip ≡ now = getD-set-same (m .chips) chip now fresh (omega (arith, sound .many)) in
-    ap (λ (x : Chip _). has (readyOf x) link) here
+    ap (λ (x : Chip _). has (readyLinks (x .lines)) link) here
     ∙ has-set (λ i. isReady (getD (now .lines) i idle)) link hl
     ∙ ap isReady (getD-set-same (chipOf m chip .lines) link (withUp true (lineOf m chip link)) idle (omega (arith, c .six)))
     ∙ le-leb _ _ few

@@ -7,9 +7,10 @@ use Rattle.steps.specs.declared.Setting.{Setting}
 use Rattle.steps.specs.Deciding.{outcomeOf, Source, Checked}
 use Rattle.kept.specs.Units.{weightIn, extra, settled, weightSent}
 use Rattle.kept.proofs.OnePass as proved
+use Rattle.tables.specs.Tables.{ChipTables}
 
 -- The weight of the packet plus its extra branches is what is delivered, ended in error, dropped, swallowed and sent.
-pub account : (p : Packet) (source : ℕ) (rows codes : List ℕ) (t : Setting) → Checked p source codes t → Source source
-    → weightIn p source + extra (outcomeOf p source rows codes t)
-    ≡ settled (outcomeOf p source rows codes t) source + weightSent (outcomeOf p source rows codes t)
+pub account : (p : Packet) (source : ℕ) (tables : ChipTables) (t : Setting) → Checked p source tables t → Source source
+    → weightIn p source + extra (outcomeOf p source tables t)
+    ≡ settled (outcomeOf p source tables t) source + weightSent (outcomeOf p source tables t)
 account = proved.account

@@ -56,7 +56,7 @@ noRow Nothing = true
 abbrev pub isMiss : Passage → Bool
 isMiss p =
     eqb (p .arrival .source) 7 && isMc (p .arrival .flight .packet .control) && eqb (p .outcome .errors) 0
-    && noRow (firstMatch (p .arrival .flight .packet .word) (rowsOf (p .rows)))
+    && noRow (firstMatch (p .arrival .flight .packet .word) (rowsOf (p .tables .rows)))
 
 -- What one pass adds to the history's own counts: passes, parity, age, length, bad local ("an error counter counts the passes that showed its
 -- error"), packets sent (so many more are on the chip's links than before), processor deliveries without error, units dropped, units swallowed, local misses.

@@ -19,6 +19,7 @@ use Rattle.steps.specs.declared.Setting.{Setting}
 use Rattle.steps.specs.Deciding.{Checked}
 use Rattle.tables.specs.Sizes.{sizeFine}
 use Rattle.tables.proofs.Sizes.{Size, size}
+use Rattle.tables.specs.Tables.{ChipTables}
 use Rattle.router.specs.Call.{settingFine, sourceFine, settingRefusals, passRefusals, checkedOf}
 use Rattle.packet.specs.Control.{isDirect}
 
@@ -30,16 +31,16 @@ source-small source e = go (leb source 5) refl
     go false f = omega (arith, eqb-true source 7 (simp f at e))
 
 -- each test of the setting has passed
-pub record Fine (source : ℕ) (rows codes : List ℕ) (t : Setting) : Type 0 where
+pub record Fine (source : ℕ) (tables : ChipTables) (t : Setting) : Type 0 where
   pub sized : sizeFine (t .width) (t .height) ≡ true
   pub setting : settingFine t ≡ true
-  pub tabled : rowsFine rows ≡ true
-  pub coded : codesFine codes (t .height * t .width) ≡ true
+  pub tabled : rowsFine (tables .rows) ≡ true
+  pub coded : codesFine (tables .codes) (t .height * t .width) ≡ true
   pub sourced : sourceFine source ≡ true
 
-pub fine : (source : ℕ) (rows codes : List ℕ) (t : Setting) → firstOf (settingRefusals source rows codes t) ≡ 0 → Fine source rows codes t
-fine source rows codes t e =
-    let off = none-applies (settingRefusals source rows codes t) refl e in
+pub fine : (source : ℕ) (tables : ChipTables) (t : Setting) → firstOf (settingRefusals source tables t) ≡ 0 → Fine source tables t
+fine source tables t e =
+    let off = none-applies (settingRefusals source tables t) refl e in
     record {
       sized = not-false _ (off .0);
       setting = not-false _ (off .1 .0);
@@ -48,11 +49,11 @@ fine source rows codes t e =
       sourced = not-false _ (off .1 .1 .1 .1 .0);
     }
 
-pub checked : (p : Packet) (source : ℕ) (rows codes : List ℕ) (t : Setting) → p .control < 256 → Fine source rows codes t → Checked p source codes t
-checked p source rows codes t hc f =
+pub checked : (p : Packet) (source : ℕ) (tables : ChipTables) (t : Setting) → p .control < 256 → Fine source tables t → Checked p source tables t
+checked p source tables t hc f =
     let s : Size (t .width) (t .height) = size (t .width) (t .height) (f .sized) in
     let h : _ = simp and-eq-true-iff at (f .setting) in
-    let k : length codes ≡ t .height * t .width = eqb-true _ _ (and-eq-true-iff (eqb (length codes) (t .height * t .width)) (allCodes codes) .0 (f .coded) .0) in
+    let k : length (tables .codes) ≡ t .height * t .width = eqb-true _ _ (and-eq-true-iff (eqb (length (tables .codes)) (t .height * t .width)) (allCodes (tables .codes)) .0 (f .coded) .0) in
     record {
       control = hc;
       from = source-small source (f .sourced);
@@ -66,53 +67,53 @@ checked p source rows codes t hc f =
 
 -- ---- what the checks find, one after the other
 
-module _ (bytes : List ℕ) (source : ℕ) (rows codes : List ℕ) (t : Setting) where
+module _ (bytes : List ℕ) (source : ℕ) (tables : ChipTables) (t : Setting) where
   found : ℕ → Taken
   found n = cond (eqb n 0) (record { refusal = 0; packet = packetAt bytes }) (notTaken n)
 
-  pub refused-setting : (n : ℕ) → firstOf (settingRefusals source rows codes t) ≡ n → (n ≡ 0 → ⊥) → checkedOf bytes source rows codes t ≡ notTaken n
+  pub refused-setting : (n : ℕ) → firstOf (settingRefusals source tables t) ≡ n → (n ≡ 0 → ⊥) → checkedOf bytes source tables t ≡ notTaken n
   unfolding checkedOf found
   refused-setting n e some =
-      let first : firstOf (passRefusals bytes source rows codes t) ≡ n =
-      first-append (settingRefusals source rows codes t) (packetRefusals bytes) refl ∙ simp (e, ne-eqb n 0 some) in
+      let first : firstOf (passRefusals bytes source tables t) ≡ n =
+      first-append (settingRefusals source tables t) (packetRefusals bytes) refl ∙ simp (e, ne-eqb n 0 some) in
       ap found first ∙ simp (ne-eqb n 0 some)
 
-  module _ (fine-setting : firstOf (settingRefusals source rows codes t) ≡ 0) where
-    by-packet : checkedOf bytes source rows codes t ≡ found (cond (eqb (takenOf bytes .refusal) 0) (cond (isDirect (getD bytes 0 0)) 4 0) (takenOf bytes .refusal))
+  module _ (fine-setting : firstOf (settingRefusals source tables t) ≡ 0) where
+    by-packet : checkedOf bytes source tables t ≡ found (cond (eqb (takenOf bytes .refusal) 0) (cond (isDirect (getD bytes 0 0)) 4 0) (takenOf bytes .refusal))
     unfolding checkedOf found
     by-packet =
-        let first : firstOf (passRefusals bytes source rows codes t) ≡ firstOf (packetRefusals bytes) =
-        first-append (settingRefusals source rows codes t) (packetRefusals bytes) refl ∙ simp fine-setting in
+        let first : firstOf (passRefusals bytes source tables t) ≡ firstOf (packetRefusals bytes) =
+        first-append (settingRefusals source tables t) (packetRefusals bytes) refl ∙ simp fine-setting in
         ap found (first ∙ packet-first bytes)
 
-    pub refused-packet : (takenOf bytes .refusal ≡ 0 → ⊥) → checkedOf bytes source rows codes t ≡ takenOf bytes
+    pub refused-packet : (takenOf bytes .refusal ≡ 0 → ⊥) → checkedOf bytes source tables t ≡ takenOf bytes
     unfolding found
     refused-packet some = by-packet ∙ simp (ne-eqb _ _ some) (sym (take-refused bytes some))
 
-    pub refused-direct : takenOf bytes .refusal ≡ 0 → isDirect (getD bytes 0 0) ≡ true → checkedOf bytes source rows codes t ≡ notTaken 4
+    pub refused-direct : takenOf bytes .refusal ≡ 0 → isDirect (getD bytes 0 0) ≡ true → checkedOf bytes source tables t ≡ notTaken 4
     unfolding found
     refused-direct e d = by-packet ∙ simp (eq-eqb _ _ e, d)
 
-    pub accepted : takenOf bytes .refusal ≡ 0 → isDirect (getD bytes 0 0) ≡ false → checkedOf bytes source rows codes t ≡ record { refusal = 0; packet = packetAt bytes }
+    pub accepted : takenOf bytes .refusal ≡ 0 → isDirect (getD bytes 0 0) ≡ false → checkedOf bytes source tables t ≡ record { refusal = 0; packet = packetAt bytes }
     unfolding found
     accepted e d = by-packet ∙ simp (eq-eqb _ _ e, d)
 
 -- where nothing is refused, each test has passed, and the packet is the one that stands in the bytes
-pub record Passed (bytes : List ℕ) (source : ℕ) (rows codes : List ℕ) (t : Setting) : Type 0 where
-  pub tests : Fine source rows codes t
-  pub packet : checkedOf bytes source rows codes t ≡ record { refusal = 0; packet = packetAt bytes }
+pub record Passed (bytes : List ℕ) (source : ℕ) (tables : ChipTables) (t : Setting) : Type 0 where
+  pub tests : Fine source tables t
+  pub packet : checkedOf bytes source tables t ≡ record { refusal = 0; packet = packetAt bytes }
 
-pub passed : (bytes : List ℕ) (source : ℕ) (rows codes : List ℕ) (t : Setting) → checkedOf bytes source rows codes t .refusal ≡ 0 → Passed bytes source rows codes t
+pub passed : (bytes : List ℕ) (source : ℕ) (tables : ChipTables) (t : Setting) → checkedOf bytes source tables t .refusal ≡ 0 → Passed bytes source tables t
 unfolding checkedOf
-passed bytes source rows codes t e = go (firstOf (settingRefusals source rows codes t)) refl (firstOf (passRefusals bytes source rows codes t)) refl
+passed bytes source tables t e = go (firstOf (settingRefusals source tables t)) refl (firstOf (passRefusals bytes source tables t)) refl
   where
-    go : (n : ℕ) → firstOf (settingRefusals source rows codes t) ≡ n → (m : ℕ) → firstOf (passRefusals bytes source rows codes t) ≡ m → Passed bytes source rows codes t
-    go zero f zero g = record { tests = fine source rows codes t f; packet = simp (eq-eqb _ _ g) }
+    go : (n : ℕ) → firstOf (settingRefusals source tables t) ≡ n → (m : ℕ) → firstOf (passRefusals bytes source tables t) ≡ m → Passed bytes source tables t
+    go zero f zero g = record { tests = fine source tables t f; packet = simp (eq-eqb _ _ g) }
     go zero f (suc m) g =
         let some : suc m ≡ 0 → ⊥ = λ z. omega arith in
-        let wrong : checkedOf bytes source rows codes t .refusal ≡ suc m = simp (g, ne-eqb _ _ some) in
+        let wrong : checkedOf bytes source tables t .refusal ≡ suc m = simp (g, ne-eqb _ _ some) in
         absurd (omega arith)
     go (suc n) f m g =
         let some : suc n ≡ 0 → ⊥ = λ z. omega arith in
-        let wrong : checkedOf bytes source rows codes t .refusal ≡ suc n = ap (λ (x : Taken). x .refusal) (refused-setting bytes source rows codes t (suc n) f some) in
+        let wrong : checkedOf bytes source tables t .refusal ≡ suc n = ap (λ (x : Taken). x .refusal) (refused-setting bytes source tables t (suc n) f some) in
         absurd (omega arith)

@@ -19,20 +19,21 @@ use Rattle.kept.specs.Counting.{zeros, countedOf}
 use Rattle.router.specs.Showing.{toProcessors, passShown, passFrom, noPass}
 use Rattle.router.specs.Call.{answer}
 use Rattle.steps.proofs.Bounds.{Sets, outcome-sets}
+use Rattle.tables.specs.Tables.{ChipTables}
 
-module _ (taken : Taken) (source : ℕ) (rows codes : List ℕ) (t : Setting) where
-  pub answer-shown : passShown (taken .refusal) (cond (eqb (taken .refusal) 0) (outcomeOf (taken .packet) source rows codes t) noOutcome) ≡ answer taken source rows codes t
+module _ (taken : Taken) (source : ℕ) (tables : ChipTables) (t : Setting) where
+  pub answer-shown : passShown (taken .refusal) (cond (eqb (taken .refusal) 0) (outcomeOf (taken .packet) source tables t) noOutcome) ≡ answer taken source tables t
   unfolding ones onesIn
   answer-shown = go (eqb (taken .refusal) 0) refl
     where
       go : (b : Bool) → eqb (taken .refusal) 0 ≡ b
-          → passShown (taken .refusal) (cond b (outcomeOf (taken .packet) source rows codes t) noOutcome)
-          ≡ cond b (passFrom (outcomeOf (taken .packet) source rows codes t)) (noPass (taken .refusal))
-      go true e = ap (λ (n : ℕ). passShown n (outcomeOf (taken .packet) source rows codes t)) (eqb-true _ _ e)
+          → passShown (taken .refusal) (cond b (outcomeOf (taken .packet) source tables t) noOutcome)
+          ≡ cond b (passFrom (outcomeOf (taken .packet) source tables t)) (noPass (taken .refusal))
+      go true e = ap (λ (n : ℕ). passShown n (outcomeOf (taken .packet) source tables t)) (eqb-true _ _ e)
       go false e = simp e
 
   abbrev unless : Bool → Outcome
-  unless b = cond b (outcomeOf (taken .packet) source rows codes t) noOutcome
+  unless b = cond b (outcomeOf (taken .packet) source tables t) noOutcome
 
   pub unless-none : unless (eqb (taken .refusal) 0) ≡ cond (eqb (taken .refusal) 0) (unless (eqb (taken .refusal) 0)) noOutcome
   unless-none = go (eqb (taken .refusal) 0)
@@ -41,11 +42,11 @@ module _ (taken : Taken) (source : ℕ) (rows codes : List ℕ) (t : Setting) wh
       go true = refl
       go false = refl
 
-  pub unless-sets : Sets (cond (eqb (taken .refusal) 0) (outcomeOf (taken .packet) source rows codes t) noOutcome)
+  pub unless-sets : Sets (cond (eqb (taken .refusal) 0) (outcomeOf (taken .packet) source tables t) noOutcome)
   unless-sets = go (eqb (taken .refusal) 0)
     where
-      go : (b : Bool) → Sets (cond b (outcomeOf (taken .packet) source rows codes t) noOutcome)
-      go true = outcome-sets (taken .packet) source rows codes t
+      go : (b : Bool) → Sets (cond b (outcomeOf (taken .packet) source tables t) noOutcome)
+      go true = outcome-sets (taken .packet) source tables t
       go false = record { sent = lit< tt; carried = lit< tt; dropped = lit< tt; leg = lit< tt; lost = lit< tt }
 
 -- a packet kept number by number

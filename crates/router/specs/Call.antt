@@ -8,6 +8,7 @@ use Rattle.packet.specs.Bytes.{packetAt, notTaken}
 use Rattle.packet.specs.Refusal.{Refusal, refuse, firstOf, packetRefusals}
 use Rattle.tables.specs.Sizes.{sizeFine}
 use Rattle.tables.specs.Accept.{rowsFine, codesFine}
+use Rattle.tables.specs.Tables.{ChipTables}
 use Rattle.steps.specs.declared.Setting.{Setting}
 use Rattle.router.specs.declared.Pass.{Pass}
 use Rattle.steps.specs.Deciding.{outcomeOf}
@@ -21,27 +22,27 @@ settingFine t = leb (t .phase) 3 && leb (t .ready) 63 && leb (t .monitor) 19
 abbrev pub sourceFine : ℕ → Bool
 sourceFine source = leb source 5 || eqb source 7
 
-abbrev pub settingRefusals : ℕ → List ℕ → List ℕ → Setting → List Refusal
-settingRefusals source rows codes t =
-    refuse (not (sizeFine (t .width) (t .height))) 7 ∷ refuse (not (settingFine t)) 6 ∷ refuse (not (rowsFine rows)) 5
-    ∷ refuse (not (codesFine codes (t .height * t .width))) 11
+abbrev pub settingRefusals : ℕ → ChipTables → Setting → List Refusal
+settingRefusals source tables t =
+    refuse (not (sizeFine (t .width) (t .height))) 7 ∷ refuse (not (settingFine t)) 6 ∷ refuse (not (rowsFine (tables .rows))) 5
+    ∷ refuse (not (codesFine (tables .codes) (t .height * t .width))) 11
     ∷ refuse (not (sourceFine source)) 1
     ∷ []
 
 -- "Order: 8, 7, 9, 6, 5, 11, 10, 1, 2, 3, 4, those that apply to the call": here 7, 6, 5, 11, 1, 2, 3, 4.
-abbrev pub passRefusals : List ℕ → ℕ → List ℕ → List ℕ → Setting → List Refusal
-passRefusals bytes source rows codes t = settingRefusals source rows codes t ++ packetRefusals bytes
+abbrev pub passRefusals : List ℕ → ℕ → ChipTables → Setting → List Refusal
+passRefusals bytes source tables t = settingRefusals source tables t ++ packetRefusals bytes
 
 -- The packet where nothing is refused.
-unfoldable pub checkedOf : List ℕ → ℕ → List ℕ → List ℕ → Setting → Taken
-checkedOf bytes source rows codes t =
-    cond (eqb (firstOf (passRefusals bytes source rows codes t)) 0) (record { refusal = 0; packet = packetAt bytes })
-    (notTaken (firstOf (passRefusals bytes source rows codes t)))
+unfoldable pub checkedOf : List ℕ → ℕ → ChipTables → Setting → Taken
+checkedOf bytes source tables t =
+    cond (eqb (firstOf (passRefusals bytes source tables t)) 0) (record { refusal = 0; packet = packetAt bytes })
+    (notTaken (firstOf (passRefusals bytes source tables t)))
 
-abbrev pub answer : Taken → ℕ → List ℕ → List ℕ → Setting → Pass
-answer taken source rows codes t =
-    cond (eqb (taken .refusal) 0) (passFrom (outcomeOf (taken .packet) source rows codes t)) (noPass (taken .refusal))
+abbrev pub answer : Taken → ℕ → ChipTables → Setting → Pass
+answer taken source tables t =
+    cond (eqb (taken .refusal) 0) (passFrom (outcomeOf (taken .packet) source tables t)) (noPass (taken .refusal))
 
 -- "A refusal returns its number and zeros elsewhere ..."
-unfoldable pub passOf : List ℕ → ℕ → List ℕ → List ℕ → Setting → Pass
-passOf bytes source rows codes t = answer (checkedOf bytes source rows codes t) source rows codes t
+unfoldable pub passOf : List ℕ → ℕ → ChipTables → Setting → Pass
+passOf bytes source tables t = answer (checkedOf bytes source tables t) source tables t

@@ -23,13 +23,14 @@ ghost use mathlib.Core.Path.{_≡_};
 ghost use mathlib.Core.Bool.{cond};
 ghost use lib.Dec.{eqb};
 ghost use Rattle.packet.specs.Refusal.{firstOf};
+ghost use Rattle.tables.specs.Tables.{chipTables};
 ghost use Rattle.steps.specs.Deciding.{Checked, noOutcome, outcomeOf};
 ghost use Rattle.router.specs.Call.{settingFine, sourceFine, settingRefusals, checkedOf, passOf};
 
 // One pass of one router. Refusals, the first that applies: 7 size, 6 phase, ready set or monitor, 5 rows, 11 codes,
 // 1 source, 2 length, 3 type 11, 4 NN with T = 1.
 pub fn pass(bytes: &[u8], source: u32, rows: &[u32], codes: &[u8], t: Setting) -> Pass
-    ensures { λ r. ⌜ r ≡ passOf (now (bytes .entry)) source (now (rows .entry)) (now (codes .entry)) t ⌝ }
+    ensures { λ r. ⌜ r ≡ passOf (now (bytes .entry)) source (chipTables (now (rows .entry)) (now (codes .entry))) t ⌝ }
 {
     let taken = checked(bytes, source, rows, codes, t);
     let p = taken.packet;
@@ -47,8 +48,8 @@ fn outcome_unless(
     codes: &[u8],
     t: Setting,
 ) -> Outcome
-    requires { ⌜ (refusal ≡ 0 → Checked p source (now codes) t) ⌝ }
-    ensures { λ r. ⌜ r ≡ cond (eqb refusal 0) (outcomeOf p source (now (rows .entry)) (now (codes .entry)) t) noOutcome ⌝ }
+    requires { ⌜ (refusal ≡ 0 → Checked p source (chipTables (now rows) (now codes)) t) ⌝ }
+    ensures { λ r. ⌜ r ≡ cond (eqb refusal 0) (outcomeOf p source (chipTables (now (rows .entry)) (now (codes .entry))) t) noOutcome ⌝ }
 {
     if refusal == 0 {
         let errors = errors_of(p, source, t.phase);
@@ -64,7 +65,7 @@ fn outcome_unless(
 
 // The packet where nothing is refused, or the first refusal.
 fn checked(bytes: &[u8], source: u32, rows: &[u32], codes: &[u8], t: Setting) -> Taken
-    ensures { λ r. ⌜ r ≡ checkedOf (now (bytes .entry)) source (now (rows .entry)) (now (codes .entry)) t ⌝ }
+    ensures { λ r. ⌜ r ≡ checkedOf (now (bytes .entry)) source (chipTables (now (rows .entry)) (now (codes .entry))) t ⌝ }
 {
     let refusal = setting_refusal(source, rows, codes, t);
     if refusal != 0 {
@@ -82,7 +83,7 @@ fn checked(bytes: &[u8], source: u32, rows: &[u32], codes: &[u8], t: Setting) ->
 }
 
 fn setting_refusal(source: u32, rows: &[u32], codes: &[u8], t: Setting) -> u32
-    ensures { λ r. ⌜ r ≡ firstOf (settingRefusals source (now (rows .entry)) (now (codes .entry)) t) ⌝ }
+    ensures { λ r. ⌜ r ≡ firstOf (settingRefusals source (chipTables (now (rows .entry)) (now (codes .entry))) t) ⌝ }
 {
     if !size_fine(t.width, t.height) {
         return 7;

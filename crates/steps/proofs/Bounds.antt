@@ -15,6 +15,7 @@ use Rattle.steps.specs.Detour.{carries, sends, drops}
 use Rattle.steps.specs.Errors.{errorsOf, stampedOf}
 use Rattle.steps.specs.Wants.{wantedOf}
 use Rattle.steps.specs.Deciding.{legSet, decided, outcomeOf}
+use Rattle.tables.specs.Tables.{ChipTables}
 
 bit-small : (b : Bool) (n : ℕ) → cond b n 0 ≤ n
 bit-small true n = le-refl n
@@ -51,8 +52,8 @@ decided-sets errors p source phase w ready =
       lost = set-small (λ i. has g i && not (has ready i));
     }
 
-pub outcome-sets : (p : Packet) (source : ℕ) (rows codes : List ℕ) (t : Setting) → Sets (outcomeOf p source rows codes t)
+pub outcome-sets : (p : Packet) (source : ℕ) (tables : ChipTables) (t : Setting) → Sets (outcomeOf p source tables t)
 unfolding outcomeOf
-outcome-sets p source rows codes t =
+outcome-sets p source tables t =
     let e = errorsOf p source (t .phase) in
-    decided-sets e (stampedOf p source e (t .phase)) source (t .phase) (wantedOf e p source rows codes t) (t .ready)
+    decided-sets e (stampedOf p source e (t .phase)) source (t .phase) (wantedOf e p source tables t) (t .ready)

@@ -3,7 +3,6 @@ use Prim.Native.Nat.{ℕ, _+_, _*_, _^_, _≤_, _<_}
 use mathlib.Core.Path.{_≡_}
 use mathlib.Core.Logic.{_⊎_}
 use mathlib.Core.Bool.{Bool, cond, _&&_, _||_}
-use mathlib.Core.List.{List}
 use lib.Dec.{eqb}
 use lib.ListN.{length}
 use Rattle.packet.specs.declared.Packet.{Packet}
@@ -11,6 +10,7 @@ use Rattle.packet.specs.Bytes.{nothing}
 use Rattle.packet.specs.Control.{markOf}
 use Rattle.packet.specs.Types.{isMarked}
 use Rattle.packet.specs.Parity.{withMark}
+use Rattle.tables.specs.Tables.{ChipTables}
 use Rattle.steps.specs.declared.Setting.{Setting}
 use Rattle.steps.specs.declared.Wanted.{Wanted}
 use Rattle.steps.specs.declared.Outcome.{Outcome}
@@ -44,10 +44,10 @@ decided errors p source phase w ready =
       phase = phase;
     }
 
-unfoldable pub outcomeOf : Packet → ℕ → List ℕ → List ℕ → Setting → Outcome
-outcomeOf p source rows codes t =
+unfoldable pub outcomeOf : Packet → ℕ → ChipTables → Setting → Outcome
+outcomeOf p source tables t =
     decided (errorsOf p source (t .phase)) (stampedOf p source (errorsOf p source (t .phase)) (t .phase)) source (t .phase)
-    (wantedOf (errorsOf p source (t .phase)) p source rows codes t)
+    (wantedOf (errorsOf p source (t .phase)) p source tables t)
     (t .ready)
 
 -- Nothing at all, as where a pass is refused.
@@ -71,7 +71,7 @@ abbrev pub Source : ℕ → Type 0
 Source s = (s < 6) ⊎ (s ≡ 7)
 
 -- What is checked before a pass.
-pub record Checked (p : Packet) (source : ℕ) (codes : List ℕ) (t : Setting) : Type 0 where
+pub record Checked (p : Packet) (source : ℕ) (tables : ChipTables) (t : Setting) : Type 0 where
   pub control : p .control < 256
   pub from : source < 8
   pub monitor : t .monitor < 20
@@ -79,4 +79,4 @@ pub record Checked (p : Packet) (source : ℕ) (codes : List ℕ) (t : Setting) 
   pub ready : t .ready < 64
   pub width : t .width ≤ 12
   pub height : t .height ≤ 12
-  pub enough : t .height * t .width ≤ length codes
+  pub enough : t .height * t .width ≤ length (tables .codes)

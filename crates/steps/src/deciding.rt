@@ -19,13 +19,14 @@ use packet::control::mark_of;
 use packet::parity::with_mark;
 ghost use mathlib.Core.Path.{_≡_};
 ghost use Prim.Native.Nat.{_<_};
+ghost use Rattle.tables.specs.Tables.{chipTables};
 ghost use Rattle.steps.specs.Links.{has};
 ghost use Rattle.steps.specs.Deciding.{hasLeg, legSet, decided, noOutcome, outcomeOf, markOn, packetOn, legPacket, Checked};
 
 // The pass itself, for inputs that have been checked.
 pub fn outcome_of(p: Packet, source: u32, rows: &[u32], codes: &[u8], t: Setting) -> Outcome
-    requires { ⌜ Checked p source (now codes) t ⌝ }
-    ensures { λ r. ⌜ r ≡ outcomeOf p source (now (rows .entry)) (now (codes .entry)) t ⌝ }
+    requires { ⌜ Checked p source (chipTables (now rows) (now codes)) t ⌝ }
+    ensures { λ r. ⌜ r ≡ outcomeOf p source (chipTables (now (rows .entry)) (now (codes .entry))) t ⌝ }
 {
     let errors = errors_of(p, source, t.phase);
     let stamped = stamped_of(p, source, errors, t.phase);

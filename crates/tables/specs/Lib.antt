@@ -2,3 +2,4 @@ pub mod Accept
 pub mod Codes
 pub mod Rows
 pub mod Sizes
+pub mod Tables

@@ -23,6 +23,7 @@ ghost use Rattle.packet.specs.Fields.{readOf};
 ghost use Rattle.packet.specs.Packing.{packedOf};
 ghost use Rattle.packet.specs.Refusal.{firstOf};
 ghost use Rattle.tables.specs.Rows.{foundIn};
+ghost use Rattle.tables.specs.Tables.{chipTables};
 ghost use Rattle.router.specs.Call.{passOf};
 ghost use Rattle.buffer.specs.Opening.{sizeOf, openRefusals, opening};
 ghost use Rattle.buffer.specs.Layout.{meshOf};
@@ -63,7 +64,7 @@ pub extern "C" fn yagbolshen_pass(
     phase: u32,
     ready: u32,
 ) -> Pass
-    ensures { λ r. ⌜ r ≡ passOf (now (packet .entry)) source (now (rows .entry)) (now (codes .entry)) (settingOf width height monitor phase ready) ⌝ }
+    ensures { λ r. ⌜ r ≡ passOf (now (packet .entry)) source (chipTables (now (rows .entry)) (now (codes .entry))) (settingOf width height monitor phase ready) ⌝ }
 {
     let t = Setting {
         width,

@@ -64,7 +64,7 @@ part-pass-at-end-2 : tie.Need-part-pass-at-end-2
 part-pass-at-end-2 c = rw (c .before .before .chips .ensures) (omega (arith, goings.codes-here _ _ _ _ _ (c .before .before .before .before .before .before .before .before .before .before .before .before .before .before .pre)))
 
 pass-at-requires : tie.Need-pass-at-requires
-pass-at-requires c κs = rw (add-sub-cancel-left, c .before .before .before .chips .ensures) (goings.ready-one _ _ _ _ _ (c .before .before .before .before .before .before .before .before .before .before .before .before .before .before .before .pre))
+pass-at-requires c κs = rw (add-sub-cancel-left, c .before .before .before .chips .ensures) (goings.checked-one _ _ _ _ _ (c .before .before .before .before .before .before .before .before .before .before .before .before .before .before .before .pre))
 
 write-record-requires : tie.Need-write-record-requires
 write-record-requires c κs = let small = goings.start-here _ _ _ _ _ (c .before .before .before .before .before .before .before .before .before .before .before .before .before .before .before .before .before .before .before .pre) in (small .1 .1, omega (arith, small .0))

@@ -13,6 +13,8 @@ use Rattle.steps.specs.Deciding.{Checked, outcomeOf}
 use Rattle.buffer.proofs.passing.pass_at.Statement.{statement}
 use Rattle.buffer.proofs.passing.pass_at.Tie as tie
 use Rattle.links.specs.Offsets.{widthAt, heightAt, monitorAt, phaseAt, headerLong, chipLong}
+use Rattle.links.specs.Line.{readyLinks}
+use Rattle.tables.specs.Tables.{chipTables}
 
 mul-at : tie.Need-mul-at
 mul-at c = search needs
@@ -56,8 +58,8 @@ outcome-of-requires c κs =
     let r = c .before .before .before .before .before .before .before .before .before .before .pre in
     let l = a .mesh .now in
     let at = headerLong + a .chip * chipLong in
-    let set : c .before .before .before .before .ready-of .result ≡ readyOf (chipIn (chipWords (a .chip) l)) = rw (add-sub-cancel-left at chipLong) at (c .before .before .before .before .ready-of .ensures) in
-    let fine : Checked (a .p) (a .source) (a .codes .now) (settingIn l (a .chip)) = checked-at l (a .chip) (a .source) (a .p) (a .codes .now) r (source-near (a .source) (r .from)) in
+    let set : c .before .before .before .before .ready-of .result ≡ readyLinks (chipIn (chipWords (a .chip) l) .lines) = rw (add-sub-cancel-left at chipLong) at (c .before .before .before .before .ready-of .ensures) in
+    let fine : Checked (a .p) (a .source) (chipTables (a .rows .now) (a .codes .now)) (settingIn l (a .chip)) = checked-at l (a .chip) (a .source) (a .p) (chipTables (a .rows .now) (a .codes .now)) r (source-near (a .source) (r .from)) in
     rw set fine
 
 add-after : tie.Need-add-after
@@ -81,11 +83,11 @@ after-requires c κs =
     let r = c .before .before .before .before .before .before .before .before .before .before .before .before .pre in
     let l = a .mesh .now in
     let at = headerLong + a .chip * chipLong in
-    let set : c .before .before .before .before .before .before .ready-of .result ≡ readyOf (chipIn (chipWords (a .chip) l)) = rw (add-sub-cancel-left at chipLong) at (c .before .before .before .before .before .before .ready-of .ensures) in
-    let fine : Checked (a .p) (a .source) (a .codes .now) (settingIn l (a .chip)) = checked-at l (a .chip) (a .source) (a .p) (a .codes .now) r (source-near (a .source) (r .from)) in
-    let same : c .before .outcome-of .result ≡ outcomeOf (a .p) (a .source) (a .rows .now) (a .codes .now) (settingIn l (a .chip)) =
-    c .before .outcome-of .ensures ∙ ap (λ (n : ℕ). outcomeOf (a .p) (a .source) (a .rows .now) (a .codes .now) (record { width = getD l widthAt 0; height = getD l heightAt 0; monitor = getD l monitorAt 0; phase = getD l phaseAt 0; ready = n })) set in
-    rw (add-sub-cancel-left at chipLong, same) (takes (a .p) (a .source) (a .rows .now) (a .codes .now) (settingIn l (a .chip)) fine (r .from) (chipWords (a .chip) l) (chip-long l (a .chip) (r .fits)) refl)
+    let set : c .before .before .before .before .before .before .ready-of .result ≡ readyLinks (chipIn (chipWords (a .chip) l) .lines) = rw (add-sub-cancel-left at chipLong) at (c .before .before .before .before .before .before .ready-of .ensures) in
+    let fine : Checked (a .p) (a .source) (chipTables (a .rows .now) (a .codes .now)) (settingIn l (a .chip)) = checked-at l (a .chip) (a .source) (a .p) (chipTables (a .rows .now) (a .codes .now)) r (source-near (a .source) (r .from)) in
+    let same : c .before .outcome-of .result ≡ outcomeOf (a .p) (a .source) (chipTables (a .rows .now) (a .codes .now)) (settingIn l (a .chip)) =
+    c .before .outcome-of .ensures ∙ ap (λ (n : ℕ). outcomeOf (a .p) (a .source) (chipTables (a .rows .now) (a .codes .now)) (record { width = getD l widthAt 0; height = getD l heightAt 0; monitor = getD l monitorAt 0; phase = getD l phaseAt 0; ready = n })) set in
+    rw (add-sub-cancel-left at chipLong, same) (takes (a .p) (a .source) (chipTables (a .rows .now) (a .codes .now)) (settingIn l (a .chip)) fine (r .from) (chipWords (a .chip) l) (chip-long l (a .chip) (r .fits)) refl)
 
 same-length : tie.Need-same-length
 same-length c = search needs
@@ -96,10 +98,10 @@ returns c =
     let r = c .before .before .before .before .before .before .before .before .before .before .before .before .before .before .before .pre in
     let l = a .mesh .now in
     let at = headerLong + a .chip * chipLong in
-    let set : c .before .before .before .before .before .before .before .before .before .ready-of .result ≡ readyOf (chipIn (chipWords (a .chip) l)) = rw (add-sub-cancel-left at chipLong) at (c .before .before .before .before .before .before .before .before .before .ready-of .ensures) in
-    let fine : Checked (a .p) (a .source) (a .codes .now) (settingIn l (a .chip)) = checked-at l (a .chip) (a .source) (a .p) (a .codes .now) r (source-near (a .source) (r .from)) in
-    let same : c .before .before .before .before .outcome-of .result ≡ outcomeOf (a .p) (a .source) (a .rows .now) (a .codes .now) (settingIn l (a .chip)) =
-    c .before .before .before .before .outcome-of .ensures ∙ ap (λ (n : ℕ). outcomeOf (a .p) (a .source) (a .rows .now) (a .codes .now) (record { width = getD l widthAt 0; height = getD l heightAt 0; monitor = getD l monitorAt 0; phase = getD l phaseAt 0; ready = n })) set in
+    let set : c .before .before .before .before .before .before .before .before .before .ready-of .result ≡ readyLinks (chipIn (chipWords (a .chip) l) .lines) = rw (add-sub-cancel-left at chipLong) at (c .before .before .before .before .before .before .before .before .before .ready-of .ensures) in
+    let fine : Checked (a .p) (a .source) (chipTables (a .rows .now) (a .codes .now)) (settingIn l (a .chip)) = checked-at l (a .chip) (a .source) (a .p) (chipTables (a .rows .now) (a .codes .now)) r (source-near (a .source) (r .from)) in
+    let same : c .before .before .before .before .outcome-of .result ≡ outcomeOf (a .p) (a .source) (chipTables (a .rows .now) (a .codes .now)) (settingIn l (a .chip)) =
+    c .before .before .before .before .outcome-of .ensures ∙ ap (λ (n : ℕ). outcomeOf (a .p) (a .source) (chipTables (a .rows .now) (a .codes .now)) (record { width = getD l widthAt 0; height = getD l heightAt 0; monitor = getD l monitorAt 0; phase = getD l phaseAt 0; ready = n })) set in
     (same, rw (add-sub-cancel-left at chipLong) (mesh-step l (c .before .before .after .last .0) (a .chip) (c .before .before .before .before .outcome-of .result) (r .fits) (r .there) (rw (add-sub-cancel-left at chipLong) at (c .before .before .after .ensures))))
 
 pub pass-at-spec : {M : Type 1} → statement M

@@ -8,6 +8,7 @@ use Rattle.router.specs.Call.{passOf, answer}
 use Rattle.packet.specs.declared.Taken.{Taken}
 use Rattle.router.proofs.call.pass.Statement.{statement}
 use Rattle.router.proofs.call.pass.Tie as tie
+use Rattle.tables.specs.Tables.{chipTables}
 
 checked-requires : tie.Need-checked-requires
 checked-requires c κs = search needs
@@ -16,24 +17,24 @@ outcome-unless-requires : tie.Need-outcome-unless-requires
 outcome-unless-requires c κs =
     let a = c .before .before .before .before .before .args in
     λ none.
-    let t = passed (c .before .before .before .before .before .args .bytes .now) (c .before .before .before .before .before .args .source) (c .before .before .before .before .before .args .rows .now) (c .before .before .before .before .before .args .codes .now) (c .before .before .before .before .before .args .t) (sym (ap (λ (x : Taken). x .refusal) (c .before .checked .ensures)) ∙ none) in
+    let t = passed (c .before .before .before .before .before .args .bytes .now) (c .before .before .before .before .before .args .source) (chipTables (a .rows .now) (a .codes .now)) (c .before .before .before .before .before .args .t) (sym (ap (λ (x : Taken). x .refusal) (c .before .checked .ensures)) ∙ none) in
     let control : c .before .checked .result .packet .control < 256 =
     rw (c .before .checked .ensures ∙ t .packet) (c .before .before .before .before .shared-slice-known .given 0 .fits) in
-    checked _ _ (a .rows .now) _ _ control (t .tests)
+    checked _ _ (chipTables (a .rows .now) (a .codes .now)) _ control (t .tests)
 
 shown-requires : tie.Need-shown-requires
 shown-requires c κs =
     let a = c .before .before .before .before .before .before .args in
-    let s = unless-sets (c .before .before .checked .result) (a .source) (a .rows .now) (a .codes .now) (a .t) in
-    rw (c .outcome-unless .ensures) (unless-none (c .before .before .checked .result) (a .source) (a .rows .now) (a .codes .now) (a .t), (s .sent, (s .dropped, s .lost)))
+    let s = unless-sets (c .before .before .checked .result) (a .source) (chipTables (a .rows .now) (a .codes .now)) (a .t) in
+    rw (c .outcome-unless .ensures) (unless-none (c .before .before .checked .result) (a .source) (chipTables (a .rows .now) (a .codes .now)) (a .t), (s .sent, (s .dropped, s .lost)))
 
 returns : tie.Need-returns
 unfolding passOf
 returns c =
     let a = c .before .before .before .before .before .before .before .args in
     c .shown .ensures ∙ ap (passShown _) (c .before .outcome-unless .ensures)
-    ∙ answer-shown (c .before .before .before .checked .result) (a .source) (a .rows .now) (a .codes .now) (a .t)
-    ∙ ap (λ (x : Taken). answer x (a .source) (a .rows .now) (a .codes .now) (a .t)) (c .before .before .before .checked .ensures)
+    ∙ answer-shown (c .before .before .before .checked .result) (a .source) (chipTables (a .rows .now) (a .codes .now)) (a .t)
+    ∙ ap (λ (x : Taken). answer x (a .source) (chipTables (a .rows .now) (a .codes .now)) (a .t)) (c .before .before .before .checked .ensures)
 
 pub pass-spec : {M : Type 1} → statement M
 pass-spec = tie.close (tie.spec checked-requires outcome-unless-requires shown-requires returns)

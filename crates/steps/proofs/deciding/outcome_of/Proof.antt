@@ -4,6 +4,7 @@ use Rattle.steps.proofs.ByRows.{wanted-by-rows}
 use borrow.Author.Needs.{needs}
 use Rattle.steps.proofs.deciding.outcome_of.Statement.{statement}
 use Rattle.steps.proofs.deciding.outcome_of.Tie as tie
+use Rattle.tables.specs.Tables.{chipTables}
 
 errors-of-requires : tie.Need-errors-of-requires
 errors-of-requires c κs = search needs
@@ -30,7 +31,7 @@ returns c =
     let errors = c .before .before .before .before .before .errors-of .result in
     let wanted =
     c .before .wanted-given .ensures
-    ∙ wanted-by-rows errors (a .p) (a .source) (a .rows .now) (a .codes .now) (a .t) _ _ (c .before .before .before .by-rows .ensures) (c .before .before .looked-up .ensures) in
+    ∙ wanted-by-rows errors (a .p) (a .source) (chipTables (a .rows .now) (a .codes .now)) (a .t) _ _ (c .before .before .before .by-rows .ensures) (c .before .before .looked-up .ensures) in
     c .decide .ensures ∙ simp (wanted, c .before .before .before .before .stamped-of .ensures, c .before .before .before .before .before .errors-of .ensures .0)
 
 pub outcome-of-spec : {M : Type 1} → statement M
