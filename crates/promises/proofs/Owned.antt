@@ -14,8 +14,9 @@ use Rattle.packet.specs.Parity.{isOdd}
 use Rattle.packet.proofs.Types.{mc-marked}
 use Rattle.tables.specs.declared.Found.{Found}
 use Rattle.tables.specs.declared.Found.the-variants.{At, Nothing}
-use Rattle.tables.specs.Rows.{rowsOf, firstMatch, routeOf, routeFor}
+use Rattle.tables.specs.Rows.{rowsOf, firstMatch, matchedOf, routeFor}
 use Rattle.tables.specs.Tables.{ChipTables}
+use Rattle.tables.specs.Rows.{rowsOf, firstMatch, matchedOf, routeFor}
 use Rattle.steps.specs.declared.Outcome.{Outcome}
 use Rattle.steps.specs.declared.Setting.{Setting}
 use Rattle.steps.specs.declared.Wanted.{Wanted}
@@ -69,7 +70,7 @@ module _ (q : Packet) (s : ℕ) (tables : ChipTables) (t : Setting) where
   abbrev errors : ℕ
   errors = errorsOf q s (t .phase)
 
-  missed-row : (f : Found) (mark : ℕ) → matchWanted (routeOf (rowsOf (tables .rows)) f) mark s (t .monitor) .missed ≡ flag (eqb s 7 && true && true && noRow f) 1
+  missed-row : (f : Found) (mark : ℕ) → matchWanted (matchedOf (rowsOf (tables .rows)) f) mark s (t .monitor) .missed ≡ flag (eqb s 7 && true && true && noRow f) 1
   missed-row (At n) mark = simp and-false
   missed-row Nothing mark = go (eqb s 7)
     where
@@ -97,7 +98,7 @@ module _ (q : Packet) (s : ℕ) (tables : ChipTables) (t : Setting) where
       row = noRow (firstMatch (q .word) (rowsOf (tables .rows)))
 
       by-mark : errors ≡ 0 → isMc (q .control) ≡ true → (b : Bool) → eqb (markOf (q .control)) 2 ≡ b
-          → (cond {A = Wanted} b (record { set = 0; missed = 0 }) (matchWanted (routeOf (rowsOf (tables .rows)) (firstMatch (q .word) (rowsOf (tables .rows)))) (markOf (q .control)) s (t .monitor))) .missed
+          → (cond {A = Wanted} b (record { set = 0; missed = 0 }) (matchWanted (matchedOf (rowsOf (tables .rows)) (firstMatch (q .word) (rowsOf (tables .rows)))) (markOf (q .control)) s (t .monitor))) .missed
           ≡ flag (eqb s 7 && true && true && noRow (firstMatch (q .word) (rowsOf (tables .rows)))) 1
       by-mark none mc true mark = simp (not-local none mc mark)
       by-mark none mc false mark = missed-row (firstMatch (q .word) (rowsOf (tables .rows))) (markOf (q .control))

@@ -14,12 +14,12 @@ use Rattle.tables.specs.declared.Matched.{Matched}
 use Rattle.tables.specs.declared.Matched.the-variants.{Route, Missed}
 use Rattle.tables.specs.declared.Row.{Row}
 use Rattle.tables.specs.declared.RowFound.{RowFound}
-use Rattle.tables.specs.Rows.{Entry, matches, rowsOf, numbersOf, next, firstMatch, noRow, routeOf, routeFor, rowFound, foundIn}
+use Rattle.tables.specs.Rows.{Entry, matches, rowsOf, numbersOf, next, firstMatch, blankEntry, matchedOf, routeFor, rowFound, foundIn}
 use Rattle.tables.proofs.LentRows.{length-rows, route-of-row}
 
 -- whether row k of a table matches a key
 abbrev pub matchesAt : ℕ → List Entry → ℕ → Bool
-matchesAt key rows k = matches key (getD rows k noRow .key) (getD rows k noRow .mask)
+matchesAt key rows k = matches key (getD rows k blankEntry .key) (getD rows k blankEntry .mask)
 
 pub record First (key : ℕ) (rows : List Entry) (n : ℕ) : Type 0 where
   pub there : n < length rows
@@ -69,7 +69,7 @@ foundBy r = cond (eqb (r .found) 1) (At (r .row)) Nothing
 pub find-route : (key : ℕ) (rows : List Row) → matchedBy (foundIn key rows) ≡ routeFor key (rowsOf (numbersOf rows))
 find-route key rows = go (firstMatch key (rowsOf (numbersOf rows)))
   where
-    go : (f : Found) → matchedBy (rowFound f rows) ≡ routeOf (rowsOf (numbersOf rows)) f
+    go : (f : Found) → matchedBy (rowFound f rows) ≡ matchedOf (rowsOf (numbersOf rows)) f
     go (At n) = ap Route (sym (route-of-row rows n))
     go Nothing = refl
 

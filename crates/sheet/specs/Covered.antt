@@ -12,7 +12,7 @@ use lib.ListN.{getD}
 use borrow.Author.Tests.{eqb-true, eq-eqb}
 use Rattle.tables.specs.declared.Found.{Found}
 use Rattle.tables.specs.declared.Found.the-variants.{At, Nothing}
-use Rattle.tables.specs.Rows.{Entry, matches, next, firstMatch, noRow}
+use Rattle.tables.specs.Rows.{Entry, matches, next, firstMatch, blankEntry}
 use Rattle.sheet.specs.Covering.{covers}
 
 min-assoc : (a b c : ℕ) → min (min a b) c ≡ min a (min b c)
@@ -66,11 +66,11 @@ covered-matches key earlier mask later laterMask c m =
 
 -- whether row k of a table covers row n
 abbrev pub coversAt : List Entry → ℕ → ℕ → Bool
-coversAt rows k n = covers (getD rows k noRow .key) (getD rows k noRow .mask) (getD rows n noRow .key) (getD rows n noRow .mask)
+coversAt rows k n = covers (getD rows k blankEntry .key) (getD rows k blankEntry .mask) (getD rows n blankEntry .key) (getD rows n blankEntry .mask)
 
 abbrev Says : ℕ → List Entry → Found → Type 0
 Says key rows (At n) =
-    (matches key (getD rows n noRow .key) (getD rows n noRow .mask) ≡ true) × ((k : ℕ) → k < n → coversAt rows k n ≡ true → ⊥)
+    (matches key (getD rows n blankEntry .key) (getD rows n blankEntry .mask) ≡ true) × ((k : ℕ) → k < n → coversAt rows k n ≡ true → ⊥)
 Says key rows Nothing = Unit {0}
 
 -- what a search of the other rows says, once the first does not match
@@ -79,7 +79,7 @@ further key r rs no-match Nothing s = tt
 further key r rs no-match (At n) s = (s .0, go)
   where
     row : Entry
-    row = getD rs n noRow
+    row = getD rs n blankEntry
 
     go : (k : ℕ) → k < suc n → coversAt (r ∷ rs) k (suc n) ≡ true → ⊥
     go zero h c = true≢false (sym (covered-matches key (r .key) (r .mask) (row .key) (row .mask) c (s .0)) ∙ no-match)

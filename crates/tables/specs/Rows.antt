@@ -55,19 +55,19 @@ foundFrom key s i = later i (firstMatch key (rowsOf (drop (i * 3) s)))
 abbrev pub foundAt : ℕ → ℕ → Found
 foundAt count n = cond (ltb n count) (At n) Nothing
 
-abbrev pub noRow : Entry
-noRow = record { key = 0; mask = 0; route = 0 }
+abbrev pub blankEntry : Entry
+blankEntry = record { key = 0; mask = 0; route = 0 }
 
 abbrev pub routeAt : List Entry → ℕ → ℕ
-routeAt rows n = getD rows n noRow .route
+routeAt rows n = getD rows n blankEntry .route
 
 -- What the table says of a key: the first matching row's route, or that no row matches.
-abbrev pub routeOf : List Entry → Found → Matched
-routeOf rows (At n) = Route (routeAt rows n)
-routeOf rows Nothing = Missed
+abbrev pub matchedOf : List Entry → Found → Matched
+matchedOf rows (At n) = Route (routeAt rows n)
+matchedOf rows Nothing = Missed
 
 abbrev pub routeFor : ℕ → List Entry → Matched
-routeFor key rows = routeOf rows (firstMatch key rows)
+routeFor key rows = matchedOf rows (firstMatch key rows)
 
 -- What stands past the end of a slice of row structs.
 abbrev pub blankRow : Row
