@@ -29,10 +29,10 @@ lineWords j l = part (linePlace j) lineLong l
 pub record Takes (l : List ℕ) (o : Outcome) : Type 0 where
   pub long : length l ≡ chipLong
   pub dropped : o .dropped < 64
-  pub lost : o .lost < 64
+  pub lost : o .«leg_dropped» < 64
   pub room : (i : ℕ) → i < 6 → Room (lineWords i l) o i
   pub right : (i : ℕ) → i < 6 → has (o .sent) i ≡ true → Right (packetOn o i)
-  pub leg : (i : ℕ) → i < 6 → has (o .leg) i ≡ true → Right (legPacket o)
+  pub leg : (i : ℕ) → i < 6 → has (o .«leg_sent») i ≡ true → Right (legPacket o)
 
 -- A chip's words before and after a pass: the chip is as the pass leaves it; the links' states and what is set aside are as they were.
 pub record ChipStep (before after : List ℕ) (o : Outcome) : Type 0 where

@@ -76,10 +76,10 @@ fn send_on(chip: &mut [u32], o: Outcome, i: u32)
 
 // Keeps a pass's first dropped unit in the six words of the registers.
 fn keep(words: &mut [u32], o: Outcome)
-    requires { ⌜ (length (now words) ≡ 6) × ((o .dropped < 64) × (o .lost < 64)) ⌝ }
+    requires { ⌜ (length (now words) ≡ 6) × ((o .dropped < 64) × (o .«leg_dropped» < 64)) ⌝ }
     ensures { λ _. ⌜ now (words .exit) ≡ registerWords (keptOf (registersIn (now (words .entry))) o) ⌝ }
 {
-    if (o.dropped == 0) & (o.lost == 0) {
+    if (o.dropped == 0) & (o.leg_dropped == 0) {
         return;
     }
     let r = Registers {

@@ -106,7 +106,7 @@ module _ (e : ℕ) (q : Packet) (s phase : ℕ) (w : Wanted) (ready : ℕ) (hr :
       go false f = plain-weight (linksOf (w .set)) ready hl hr
 
   -- the second leg is sent or dropped
-  leg-close : ones (decided e q s phase w ready .leg) + ones (decided e q s phase w ready .lost) ≡ cond (hasLeg e q) 1 0
+  leg-close : ones (decided e q s phase w ready .«leg_sent») + ones (decided e q s phase w ready .«leg_dropped») ≡ cond (hasLeg e q) 1 0
   unfolding decided legBitTest
   leg-close = go (hasLeg e q)
     where

@@ -26,7 +26,7 @@ abbrev pub swallowed : Outcome → ℕ
 swallowed o = cond (swallows o) 1 0
 
 abbrev pub sentCount : Outcome → ℕ
-sentCount o = ones (o .sent) + ones (o .leg)
+sentCount o = ones (o .sent) + ones (o .«leg_sent»)
 
 -- What a pass adds to each counter. "An error counter counts the passes that showed its error."
 abbrev pub countsOf : Outcome → List ℕ

@@ -17,7 +17,7 @@ isEmpty r = eqb (r .control) 0 && eqb (r .word) 0 && eqb (r .payload) 0
 
 -- Units dropped in a pass.
 abbrev pub dropCount : Outcome → ℕ
-dropCount o = ones (o .dropped) + ones (o .lost)
+dropCount o = ones (o .dropped) + ones (o .«leg_dropped»)
 
 -- The lowest link of a set.
 abbrev pub lowest : ℕ → ℕ
@@ -30,7 +30,7 @@ firstDrop o =
       control = o .packet .control;
       word = o .packet .word;
       payload = o .packet .payload;
-      link = cond (eqb (o .dropped) 0) (lowest (o .lost)) (lowest (o .dropped));
+      link = cond (eqb (o .dropped) 0) (lowest (o .«leg_dropped»)) (lowest (o .dropped));
       leg = cond (eqb (o .dropped) 0) 1 0;
       more = cond (ltb 1 (dropCount o)) 1 0;
     }

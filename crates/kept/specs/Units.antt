@@ -52,4 +52,4 @@ overLinks f = f 0 + f 1 + f 2 + f 3 + f 4 + f 5
 
 -- What is sent weighs as it will in flight: a link marked 01 two, any other one, and the second leg, marked 11, one.
 abbrev pub weightSent : Outcome → ℕ
-weightSent o = overLinks (λ i. cond (has (o .sent) i) (cond (eqb (markOn o i) 1) 2 1) 0) + ones (o .leg)
+weightSent o = overLinks (λ i. cond (has (o .sent) i) (cond (eqb (markOn o i) 1) 2 1) 0) + ones (o .«leg_sent»)

@@ -39,10 +39,10 @@ pub fn no_counts() -> Counters
 fn sent_count(o: Outcome) -> u32
     ensures { λ n. ⌜ n ≡ sentCount o ⌝ }
 {
-    if o.leg == 0 {
+    if o.leg_sent == 0 {
         return u32::count_ones(o.sent);
     }
-    u32::count_ones(o.sent) + u32::count_ones(o.leg)
+    u32::count_ones(o.sent) + u32::count_ones(o.leg_sent)
 }
 
 fn delivered_count(o: Outcome) -> u32

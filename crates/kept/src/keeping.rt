@@ -8,7 +8,7 @@ ghost use Rattle.kept.specs.Keeping.{empty, isEmpty, dropCount, lowest, 
 
 // The registers after a pass.
 pub fn kept_of(r: Registers, o: Outcome) -> Registers
-    requires { ⌜ (o .dropped < 64) × (o .lost < 64) ⌝ }
+    requires { ⌜ (o .dropped < 64) × (o .«leg_dropped» < 64) ⌝ }
     ensures { λ k. ⌜ k ≡ keptOf r o ⌝ }
 {
     if drop_count(o) == 0 {
@@ -37,10 +37,10 @@ pub fn empty_registers() -> Registers
 pub fn drop_count(o: Outcome) -> u32
     ensures { λ n. ⌜ (n ≡ dropCount o) × (n ≤ 64) ⌝ }
 {
-    if (o.dropped == 0) & (o.lost == 0) {
+    if (o.dropped == 0) & (o.leg_dropped == 0) {
         return 0;
     }
-    u32::count_ones(o.dropped) + u32::count_ones(o.lost)
+    u32::count_ones(o.dropped) + u32::count_ones(o.leg_dropped)
 }
 
 fn is_empty(r: Registers) -> bool
@@ -58,7 +58,7 @@ fn with_more(r: Registers) -> Registers
 }
 
 fn first_drop(o: Outcome) -> Registers
-    requires { ⌜ (o .dropped < 64) × (o .lost < 64) ⌝ }
+    requires { ⌜ (o .dropped < 64) × (o .«leg_dropped» < 64) ⌝ }
     ensures { λ r. ⌜ r ≡ firstDrop o ⌝ }
 {
     let p = o.packet;
@@ -72,7 +72,7 @@ fn first_drop(o: Outcome) -> Registers
     };
     r.more = flag_of(1 < drop_count(o), 1);
     if o.dropped == 0 {
-        r.link = lowest_link(o.lost);
+        r.link = lowest_link(o.leg_dropped);
         r.leg = 1;
         return r;
     }

@@ -120,24 +120,24 @@ module _ (l : List ℕ) (o : Outcome) (i : ℕ) (h : length l ≡ lineLong) (roo
   pub room-first : has (o .sent) i ≡ true → getD l heldAt 0 ≤ 7
   room-first t = omega (arith, room .0 t)
 
-  pub room-second : has (o .leg) i ≡ true → getD (pushedIf (has (o .sent) i) l (packetOn o i)) 1 0 ≤ 7
+  pub room-second : has (o .«leg_sent») i ≡ true → getD (pushedIf (has (o .sent) i) l (packetOn o i)) 1 0 ≤ 7
   room-second t = omega (arith, room .1 t, count-pushed-if (has (o .sent) i) l (packetOn o i) h)
 
   pub long-between : length (pushedIf (has (o .sent) i) l (packetOn o i)) ≡ lineLong
   long-between = length-pushed-if (has (o .sent) i) l (packetOn o i) ∙ h
 
   -- what a pass sends on a link: the link after the pass
-  pub line-sent : (has (o .sent) i ≡ true → Right (packetOn o i)) → (has (o .leg) i ≡ true → Right (legPacket o)) → lineIn (sentWords l o i) ≡ lineAfter o tt i (lineIn l)
+  pub line-sent : (has (o .sent) i ≡ true → Right (packetOn o i)) → (has (o .«leg_sent») i ≡ true → Right (legPacket o)) → lineIn (sentWords l o i) ≡ lineAfter o tt i (lineIn l)
   line-sent r g =
-      line-push-if (has (o .leg) i) (pushedIf (has (o .sent) i) l (packetOn o i)) (legPacket o) g long-between room-second
-      ∙ ap (λ (x : Line (Unit {0})). record { up = x .up; held = x .held ++ cond (has (o .leg) i) (flight (legPacket o) ∷ []) [] })
+      line-push-if (has (o .«leg_sent») i) (pushedIf (has (o .sent) i) l (packetOn o i)) (legPacket o) g long-between room-second
+      ∙ ap (λ (x : Line (Unit {0})). record { up = x .up; held = x .held ++ cond (has (o .«leg_sent») i) (flight (legPacket o) ∷ []) [] })
       (line-push-if (has (o .sent) i) l (packetOn o i) r h room-first)
 
   -- the state and what is set aside stay
   pub still-sent : still (sentWords l o i) ≡ still l
   still-sent =
-      still-push-if (has (o .leg) i) (pushedIf (has (o .sent) i) l (packetOn o i)) (legPacket o) room-second
+      still-push-if (has (o .«leg_sent») i) (pushedIf (has (o .sent) i) l (packetOn o i)) (legPacket o) room-second
       ∙ still-push-if (has (o .sent) i) l (packetOn o i) room-first
 
   pub length-sent : length (sentWords l o i) ≡ lineLong
-  length-sent = length-pushed-if (has (o .leg) i) (pushedIf (has (o .sent) i) l (packetOn o i)) (legPacket o) ∙ long-between
+  length-sent = length-pushed-if (has (o .«leg_sent») i) (pushedIf (has (o .sent) i) l (packetOn o i)) (legPacket o) ∙ long-between

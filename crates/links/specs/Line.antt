@@ -36,4 +36,4 @@ module _ {A : Type 0} where
   sent b p tag = cond b (record { packet = p; tag = tag } ∷ []) []
 
   abbrev pub lineAfter : Outcome → A → ℕ → Line A → Line A
-  lineAfter o tag i l = record { up = l .up; held = l .held ++ sent (has (o .sent) i) (packetOn o i) tag ++ sent (has (o .leg) i) (legPacket o) tag }
+  lineAfter o tag i l = record { up = l .up; held = l .held ++ sent (has (o .sent) i) (packetOn o i) tag ++ sent (has (o .«leg_sent») i) (legPacket o) tag }

@@ -28,11 +28,11 @@ pushedIf b l p = cond b (pushed l p) l
 
 -- "So one link may carry two packets of one pass: the one from step 5 goes first."
 abbrev pub sentWords : List ℕ → Outcome → ℕ → List ℕ
-sentWords l o i = pushedIf (has (o .leg) i) (pushedIf (has (o .sent) i) l (packetOn o i)) (legPacket o)
+sentWords l o i = pushedIf (has (o .«leg_sent») i) (pushedIf (has (o .sent) i) l (packetOn o i)) (legPacket o)
 
 -- Where a pass sends by link i, the link has room for two.
 abbrev pub Room : List ℕ → Outcome → ℕ → Type 0
-Room l o i = (has (o .sent) i ≡ true → getD l heldAt 0 ≤ 6) × (has (o .leg) i ≡ true → getD l heldAt 0 ≤ 6)
+Room l o i = (has (o .sent) i ≡ true → getD l heldAt 0 ≤ 6) × (has (o .«leg_sent») i ≡ true → getD l heldAt 0 ≤ 6)
 
 -- What a pass leaves alone on a link: its state, and what is set aside.
 abbrev pub still : List ℕ → List ℕ

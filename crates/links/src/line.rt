@@ -87,10 +87,10 @@ fn send_packet(line: &mut [u32], o: Outcome, i: u32)
 }
 
 fn send_leg(line: &mut [u32], o: Outcome, i: u32)
-    requires { ⌜ (length (now line) ≡ lineLong) × ((i < 6) × (has (o .leg) i ≡ true → getD (now line) heldAt 0 ≤ 7)) ⌝ }
-    ensures { λ _. ⌜ now (line .exit) ≡ pushedIf (has (o .leg) i) (now (line .entry)) (legPacket o) ⌝ }
+    requires { ⌜ (length (now line) ≡ lineLong) × ((i < 6) × (has (o .«leg_sent») i ≡ true → getD (now line) heldAt 0 ≤ 7)) ⌝ }
+    ensures { λ _. ⌜ now (line .exit) ≡ pushedIf (has (o .«leg_sent») i) (now (line .entry)) (legPacket o) ⌝ }
 {
-    if has_link(o.leg, i) {
+    if has_link(o.leg_sent, i) {
         push(line, leg_packet(o));
     }
 }

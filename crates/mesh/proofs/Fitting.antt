@@ -69,7 +69,7 @@ module _ (p : Packet) (s : ℕ) (tables : ChipTables) (t : Setting) (h : Checked
       go false z =
           absurd (false≢true (sym (none-sent (isMarked (stampedOf p s (errorsOf p s (t .phase)) (t .phase) .control)) _ (no-link-wanted (eqb-false _ _ z))) ∙ sent))
 
-  pub leg-no-error : (i : ℕ) → i < 6 → has (outcomeOf p s tables t .leg) i ≡ true → errorsOf p s (t .phase) ≡ 0
+  pub leg-no-error : (i : ℕ) → i < 6 → has (outcomeOf p s tables t .«leg_sent») i ≡ true → errorsOf p s (t .phase) ≡ 0
   unfolding outcomeOf decided
   leg-no-error i hi leg = go (eqb (errorsOf p s (t .phase)) 0) refl
     where
@@ -87,6 +87,6 @@ module _ (p : Packet) (s : ℕ) (tables : ChipTables) (t : Setting) (h : Checked
   unfolding outcomeOf
   sends-ready i hi f = sent-ready (errorsOf p s (t .phase)) (stampedOf p s (errorsOf p s (t .phase)) (t .phase)) s (t .phase) (wantedOf (errorsOf p s (t .phase)) p s tables t) (t .ready) i hi f
 
-  pub legs-ready : (i : ℕ) → i < 6 → has (outcomeOf p s tables t .leg) i ≡ true → has (t .ready) i ≡ true
+  pub legs-ready : (i : ℕ) → i < 6 → has (outcomeOf p s tables t .«leg_sent») i ≡ true → has (t .ready) i ≡ true
   unfolding outcomeOf
   legs-ready i hi f = leg-ready (errorsOf p s (t .phase)) (stampedOf p s (errorsOf p s (t .phase)) (t .phase)) s (t .phase) (wantedOf (errorsOf p s (t .phase)) p s tables t) (t .ready) i hi f

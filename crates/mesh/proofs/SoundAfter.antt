@@ -38,12 +38,12 @@ module _ {A : Type 0} where
   sent-few false false p q tag fs few h k = simp length-append (omega arith)
 
   -- a link after a pass, where there is room for what is sent, and what is sent is sound
-  line-after-sound : (o : Outcome) (tag : A) (i : ℕ) (l : Line A) → SoundLine l → (has (o .sent) i ≡ true → length (l .held) ≤ 6) → (has (o .leg) i ≡ true → length (l .held) ≤ 6)
-      → (has (o .sent) i ≡ true → SoundPacket (packetOn o i)) → (has (o .leg) i ≡ true → SoundPacket (legPacket o)) → SoundLine (lineAfter o tag i l)
+  line-after-sound : (o : Outcome) (tag : A) (i : ℕ) (l : Line A) → SoundLine l → (has (o .sent) i ≡ true → length (l .held) ≤ 6) → (has (o .«leg_sent») i ≡ true → length (l .held) ≤ 6)
+      → (has (o .sent) i ≡ true → SoundPacket (packetOn o i)) → (has (o .«leg_sent») i ≡ true → SoundPacket (legPacket o)) → SoundLine (lineAfter o tag i l)
   line-after-sound o tag i l sound room room₂ fine fine₂ =
       record {
-        few = sent-few (has (o .sent) i) (has (o .leg) i) (packetOn o i) (legPacket o) tag (l .held) (sound .few) room room₂;
-        fine = all-append _ _ _ (all-append _ _ _ (sound .fine) (sent-all (has (o .sent) i) (packetOn o i) tag fine)) (sent-all (has (o .leg) i) (legPacket o) tag fine₂);
+        few = sent-few (has (o .sent) i) (has (o .«leg_sent») i) (packetOn o i) (legPacket o) tag (l .held) (sound .few) room room₂;
+        fine = all-append _ _ _ (all-append _ _ _ (sound .fine) (sent-all (has (o .sent) i) (packetOn o i) tag fine)) (sent-all (has (o .«leg_sent») i) (legPacket o) tag fine₂);
       }
 
   length-lines-after : (o : Outcome) (tag : A) (i : ℕ) (ls : List (Line A)) → length (linesAfter o tag i ls) ≡ length ls

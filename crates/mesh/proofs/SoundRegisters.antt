@@ -63,7 +63,7 @@ first-fine : (o : Outcome) → o .packet .control < 256 → isOdd (o .packet) �
 first-fine o byte odd =
     simp (
       lt-ltb _ _ byte,
-      lt-ltb _ _ (either-below (eqb (o .dropped) 0) _ _ (lowest-link-below (o .lost)) (lowest-link-below (o .dropped))),
+      lt-ltb _ _ (either-below (eqb (o .dropped) 0) _ _ (lowest-link-below (o .«leg_dropped»)) (lowest-link-below (o .dropped))),
       le-leb _ _ (flag-le (eqb (o .dropped) 0)),
       le-leb _ _ (flag-le (ltb 1 (dropCount o))),
       odd-some (o .packet) odd,

@@ -74,7 +74,7 @@ module _ (p : Packet) (s : ℕ) (tables : ChipTables) (t : Setting) (h : Checked
   sends-sound i hi sent = sent-sound (sent-no-error p s tables t h from i hi sent) i
 
   -- only a packet with a mark has a second leg
-  leg-marked : (i : ℕ) → i < 6 → has (outcomeOf p s tables t .leg) i ≡ true → isMarked (outcomeOf p s tables t .packet .control) ≡ true
+  leg-marked : (i : ℕ) → i < 6 → has (outcomeOf p s tables t .«leg_sent») i ≡ true → isMarked (outcomeOf p s tables t .packet .control) ≡ true
   unfolding outcomeOf decided
   leg-marked i hi leg = go (hasLeg e q) refl
     where
@@ -90,7 +90,7 @@ module _ (p : Packet) (s : ℕ) (tables : ChipTables) (t : Setting) (h : Checked
           let none : legSet e q s ≡ 0 = ap (λ (b : Bool). cond b (2 ^ link (s + 5)) 0) z in
           absurd (false≢true (sym (has-set (λ j. has (legSet e q s) j && has (t .ready) j) i hi ∙ ap (λ (k : ℕ). has k i && has (t .ready) i) none ∙ simp has-none) ∙ leg))
 
-  pub legs-sound : (i : ℕ) → i < 6 → has (outcomeOf p s tables t .leg) i ≡ true → SoundPacket (legPacket (outcomeOf p s tables t))
+  pub legs-sound : (i : ℕ) → i < 6 → has (outcomeOf p s tables t .«leg_sent») i ≡ true → SoundPacket (legPacket (outcomeOf p s tables t))
   legs-sound i hi leg =
       let f = pass.sent-leg p s tables t h from in
       let none = leg-no-error p s tables t h from i hi leg in

@@ -28,11 +28,11 @@ tagged-sent false p tag = tt
 behind-line : (o : Outcome) (tag : Tag) (i : ℕ) (l : Line Tag) → Behind (l .held) (lineAfter o tag i l .held) tag
 behind-line o tag i l =
     let packet = sent (has (o .sent) i) (packetOn o i) tag in
-    let leg = sent (has (o .leg) i) (legPacket o) tag in
+    let leg = sent (has (o .«leg_sent») i) (legPacket o) tag in
     record {
       added = packet ++ leg;
       joined = append-assoc (l .held) packet leg;
-      tagged = all-append _ packet leg (tagged-sent (has (o .sent) i) (packetOn o i) tag) (tagged-sent (has (o .leg) i) (legPacket o) tag);
+      tagged = all-append _ packet leg (tagged-sent (has (o .sent) i) (packetOn o i) tag) (tagged-sent (has (o .«leg_sent») i) (legPacket o) tag);
     }
 
 -- one link of a chip after a pass

@@ -66,8 +66,8 @@ module _ (o : Outcome) where
 
   pub length-dropped : Sets o → length (droppedUnits o) ≡ dropCount o
   length-dropped s =
-      length-append (unitsOf o (o .dropped) 0) (unitsOf o (o .lost) 1)
-      ∙ (λ k. length-units (o .dropped) 0 (s .dropped) k + length-units (o .lost) 1 (s .lost) k)
+      length-append (unitsOf o (o .dropped) 0) (unitsOf o (o .«leg_dropped») 1)
+      ∙ (λ k. length-units (o .dropped) 0 (s .dropped) k + length-units (o .«leg_dropped») 1 (s .lost) k)
 
   -- a unit with the flag that so many units ask for
   abbrev shown : ℕ → ℕ → ℕ → Registers
@@ -92,16 +92,16 @@ module _ (o : Outcome) where
   -- the first unit of a pass that drops some
   pub first-dropped : Sets o → (dropCount o ≡ 0 → ⊥) → firstOfUnits (droppedUnits o) ≡ firstDrop o
   unfolding ones
-  first-dropped s some = (λ k. firstOfUnits (units-of (o .dropped) 0 k ++ units-of (o .lost) 1 k)) ∙ go (linksIn (o .dropped)) refl (linksIn (o .lost)) refl
+  first-dropped s some = (λ k. firstOfUnits (units-of (o .dropped) 0 k ++ units-of (o .«leg_dropped») 1 k)) ∙ go (linksIn (o .dropped)) refl (linksIn (o .«leg_dropped»)) refl
     where
       by : ℕ → List ℕ → List Registers
       by leg links = map (λ (j : ℕ). unit o j leg) links
 
-      count : (ds ls : List ℕ) → linksIn (o .dropped) ≡ ds → linksIn (o .lost) ≡ ls → length (by 0 ds ++ by 1 ls) ≡ dropCount o
+      count : (ds ls : List ℕ) → linksIn (o .dropped) ≡ ds → linksIn (o .«leg_dropped») ≡ ls → length (by 0 ds ++ by 1 ls) ≡ dropCount o
       count ds ls e f =
           length-append (by 0 ds) (by 1 ls)
           ∙ (λ k. (length-map ds (λ j. unit o j 0) ∙ ap length (sym e)) k + (length-map ls (λ j. unit o j 1) ∙ ap length (sym f)) k)
-          ∙ (λ k. listed (o .dropped) (s .dropped) .many k + listed (o .lost) (s .lost) .many k)
+          ∙ (λ k. listed (o .dropped) (s .dropped) .many k + listed (o .«leg_dropped») (s .lost) .many k)
 
       -- a set whose first link is i
       there : (set i : ℕ) (is : List ℕ) → set < 64 → linksIn set ≡ i ∷ is → (set ≡ 0 → ⊥) × (i ≡ lowest set)
@@ -113,17 +113,17 @@ module _ (o : Outcome) where
       nothing set h e true z = z
       nothing set h e false z = absurd (omega (arith, listed set h .some (eqb-false _ _ z), listed set h .many, ap length e))
 
-      go : (ds : List ℕ) → linksIn (o .dropped) ≡ ds → (ls : List ℕ) → linksIn (o .lost) ≡ ls → firstOfUnits (by 0 ds ++ by 1 ls) ≡ firstDrop o
+      go : (ds : List ℕ) → linksIn (o .dropped) ≡ ds → (ls : List ℕ) → linksIn (o .«leg_dropped») ≡ ls → firstOfUnits (by 0 ds ++ by 1 ls) ≡ firstDrop o
       go (d ∷ ds) e ls f =
           let h = there (o .dropped) d ds (s .dropped) e in
           first-unit d 0 (by 0 ds ++ by 1 ls)
           ∙ (λ k. shown (h .1 k) 0 (count (d ∷ ds) ls e f k))
-          ∙ ap (λ (b : Bool). shown (cond b (lowest (o .lost)) (lowest (o .dropped))) (cond b 1 0) (dropCount o)) (sym (ne-eqb (o .dropped) 0 (h .0)))
+          ∙ ap (λ (b : Bool). shown (cond b (lowest (o .«leg_dropped»)) (lowest (o .dropped))) (cond b 1 0) (dropCount o)) (sym (ne-eqb (o .dropped) 0 (h .0)))
       go [] e (l ∷ ls) f =
-          let h = there (o .lost) l ls (s .lost) f in
+          let h = there (o .«leg_dropped») l ls (s .lost) f in
           first-unit l 1 (by 1 ls)
           ∙ (λ k. shown (h .1 k) 1 (count [] (l ∷ ls) e f k))
-          ∙ ap (λ (b : Bool). shown (cond b (lowest (o .lost)) (lowest (o .dropped))) (cond b 1 0) (dropCount o)) (sym (nothing (o .dropped) (s .dropped) e (eqb (o .dropped) 0) refl))
+          ∙ ap (λ (b : Bool). shown (cond b (lowest (o .«leg_dropped»)) (lowest (o .dropped))) (cond b 1 0) (dropCount o)) (sym (nothing (o .dropped) (s .dropped) e (eqb (o .dropped) 0) refl))
       go [] e [] f = absurd (some (sym (count [] [] e f)))
 
 -- ---- what registers keep
@@ -159,7 +159,7 @@ all-of P (x ∷ xs) h = (h x, all-of P xs h)
 
 -- the units of a packet that is not all zeros
 pub all-some : (o : Outcome) → isEmpty (unit o 0 0) ≡ false → All Some (droppedUnits o)
-all-some o h = all-append Some (unitsOf o (o .dropped) 0) (unitsOf o (o .lost) 1) (units (o .dropped) 0) (units (o .lost) 1)
+all-some o h = all-append Some (unitsOf o (o .dropped) 0) (unitsOf o (o .«leg_dropped») 1) (units (o .dropped) 0) (units (o .«leg_dropped») 1)
   where
     units : (links leg : ℕ) → All Some (unitsOf o links leg)
     units links leg = rw (units-of o links leg) (all-map Some (λ j. unit o j leg) (linksIn links) (all-of (λ j. Some (unit o j leg)) (linksIn links) (λ j. h)))

@@ -52,7 +52,7 @@ module _ {A : Type 0} (Q : Flight A → Type 0) where
   -- of each packet that a pass sends, with the tag of the sending
   pub record Sends (o : Outcome) (tag : A) : Type 0 where
     pub links : (i : ℕ) → i < 6 → has (o .sent) i ≡ true → Q (record { packet = packetOn o i; tag = tag })
-    pub leg : (i : ℕ) → i < 6 → has (o .leg) i ≡ true → Q (record { packet = legPacket o; tag = tag })
+    pub leg : (i : ℕ) → i < 6 → has (o .«leg_sent») i ≡ true → Q (record { packet = legPacket o; tag = tag })
 
   each-sent : (b : Bool) (p : Packet) (tag : A) → (b ≡ true → Q (record { packet = p; tag = tag })) → All Q (sent b p tag)
   unfolding All
@@ -61,7 +61,7 @@ module _ {A : Type 0} (Q : Flight A → Type 0) where
 
   each-line-after : (o : Outcome) (tag : A) (i : ℕ) (l : Line A) → i < 6 → Sends o tag → EachHeld l → EachHeld (lineAfter o tag i l)
   each-line-after o tag i l hi h a =
-      all-append Q _ _ (all-append Q _ _ a (each-sent (has (o .sent) i) (packetOn o i) tag (h .links i hi))) (each-sent (has (o .leg) i) (legPacket o) tag (h .leg i hi))
+      all-append Q _ _ (all-append Q _ _ a (each-sent (has (o .sent) i) (packetOn o i) tag (h .links i hi))) (each-sent (has (o .«leg_sent») i) (legPacket o) tag (h .leg i hi))
 
   each-lines-after : (o : Outcome) (tag : A) (i : ℕ) (ls : List (Line A)) → i + length ls ≤ 6 → Sends o tag → All EachHeld ls → All EachHeld (linesAfter o tag i ls)
   unfolding All linesAfter

@@ -74,12 +74,12 @@ module _ {A : Type 0} where
   line-after : (o : Outcome) (tag : A) (i : ℕ) (l : Line A) → plainLine (lineAfter o tag i l) ≡ lineAfter o tt i (plainLine l)
   line-after o tag i l =
       ap (λ (held : List (Flight (Unit {0}))). record { up = l .up; held = held })
-      (map-append plainFlight (l .held ++ sent (has (o .sent) i) (packetOn o i) tag) (sent (has (o .leg) i) (legPacket o) tag)
+      (map-append plainFlight (l .held ++ sent (has (o .sent) i) (packetOn o i) tag) (sent (has (o .«leg_sent») i) (legPacket o) tag)
       ∙ (λ k.
       (map-append plainFlight (l .held) (sent (has (o .sent) i) (packetOn o i) tag)
       ∙ ap (λ (x : List (Flight (Unit {0}))). map plainFlight (l .held) ++ x) (plain-sent (has (o .sent) i) (packetOn o i) tag))
       k
-      ++ plain-sent (has (o .leg) i) (legPacket o) tag k))
+      ++ plain-sent (has (o .«leg_sent») i) (legPacket o) tag k))
 
   lines-after : (o : Outcome) (tag : A) (i : ℕ) (ls : List (Line A)) → map plainLine (linesAfter o tag i ls) ≡ linesAfter o tt i (map plainLine ls)
   unfolding linesAfter

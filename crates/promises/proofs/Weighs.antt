@@ -40,7 +40,7 @@ weighed x = weight (x .packet)
 module _ {A : Type 0} (w : Flight A → ℕ) where
   -- what link i gets
   abbrev gained : Outcome → A → ℕ → ℕ
-  gained o tag i = cond (has (o .sent) i) (w (record { packet = packetOn o i; tag = tag })) 0 + cond (has (o .leg) i) (w (record { packet = legPacket o; tag = tag })) 0
+  gained o tag i = cond (has (o .sent) i) (w (record { packet = packetOn o i; tag = tag })) 0 + cond (has (o .«leg_sent») i) (w (record { packet = legPacket o; tag = tag })) 0
 
   total-sent : (b : Bool) (p : Packet) (tag : A) → total w (sent b p tag) ≡ cond b (w (record { packet = p; tag = tag })) 0
   unfolding total
@@ -49,7 +49,7 @@ module _ {A : Type 0} (w : Flight A → ℕ) where
 
   line-gains : (o : Outcome) (tag : A) (i : ℕ) (l : Line A) → onLine w (lineAfter o tag i l) ≡ onLine w l + gained o tag i
   line-gains o tag i l =
-      simp total-append (omega (arith, total-sent (has (o .sent) i) (packetOn o i) tag, total-sent (has (o .leg) i) (legPacket o) tag))
+      simp total-append (omega (arith, total-sent (has (o .sent) i) (packetOn o i) tag, total-sent (has (o .«leg_sent») i) (legPacket o) tag))
 
   chip-gains : (o : Outcome) (tag : A) (c : Chip A) → length (c .lines) ≡ 6 → onChip w (chipAfter o tag c) ≡ onChip w c + overLinks (gained o tag)
   unfolding total linesAfter
@@ -98,9 +98,9 @@ module _ (p : Packet) (s : ℕ) (tables : ChipTables) (t : Setting) (h : Checked
   sent-weighs : {A : Type 0} (tag : A) → overLinks (gained weighed (outcomeOf p s tables t) tag) ≡ weightSent (outcomeOf p s tables t)
   sent-weighs tag =
       let o = outcomeOf p s tables t in
-      (λ j. overLinks (λ i. cond (has (o .sent) i) (on-weighs i j) 0 + cond (has (o .leg) i) (leg-weighs j) 0))
-      ∙ over-add (λ i. cond (has (o .sent) i) (cond (eqb (markOn o i) 1) 2 1) 0) (λ i. cond (has (o .leg) i) 1 0)
-      ∙ ap (λ (n : ℕ). overLinks (λ i. cond (has (o .sent) i) (cond (eqb (markOn o i) 1) 2 1) 0) + n) (links-ones (o .leg) (outcome-sets p s tables t .leg))
+      (λ j. overLinks (λ i. cond (has (o .sent) i) (on-weighs i j) 0 + cond (has (o .«leg_sent») i) (leg-weighs j) 0))
+      ∙ over-add (λ i. cond (has (o .sent) i) (cond (eqb (markOn o i) 1) 2 1) 0) (λ i. cond (has (o .«leg_sent») i) 1 0)
+      ∙ ap (λ (n : ℕ). overLinks (λ i. cond (has (o .sent) i) (cond (eqb (markOn o i) 1) 2 1) 0) + n) (links-ones (o .«leg_sent») (outcome-sets p s tables t .leg))
 
   -- so a chip of six links weighs more by what the pass sends
   pub chip-weighs-sent : {A : Type 0} (tag : A) (c : Chip A) → length (c .lines) ≡ 6
@@ -116,7 +116,7 @@ module _ (p : Packet) (s : ℕ) (tables : ChipTables) (t : Setting) (h : Checked
       omega (
         arith,
         chip-gains (λ x. 1) o tag c lines,
-        over-add (λ i. cond (has (o .sent) i) 1 0) (λ i. cond (has (o .leg) i) 1 0),
+        over-add (λ i. cond (has (o .sent) i) 1 0) (λ i. cond (has (o .«leg_sent») i) 1 0),
         links-ones (o .sent) (sets .sent),
-        links-ones (o .leg) (sets .leg),
+        links-ones (o .«leg_sent») (sets .leg),
       )

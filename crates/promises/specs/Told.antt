@@ -93,7 +93,7 @@ unitsOf o links leg =
 
 -- "Within a pass drops go by link 0 to 5, the second leg last."
 abbrev pub droppedUnits : Outcome → List Registers
-droppedUnits o = unitsOf o (o .dropped) 0 ++ unitsOf o (o .lost) 1
+droppedUnits o = unitsOf o (o .dropped) 0 ++ unitsOf o (o .«leg_dropped») 1
 
 abbrev pub noted : ℕ → List Registers → Event → List Registers
 noted chip units (passed p) = cond (eqb (p .arrival .chip) chip) (units ++ droppedUnits (p .outcome)) units

@@ -20,7 +20,7 @@ abbrev pub packetsOf : Outcome → List Packet
 packetsOf o = onLink o 0 ∷ onLink o 1 ∷ onLink o 2 ∷ onLink o 3 ∷ onLink o 4 ∷ onLink o 5 ∷ []
 
 abbrev pub onLeg : Outcome → Packet
-onLeg o = cond (eqb (o .leg) 0) nothing (legPacket o)
+onLeg o = cond (eqb (o .«leg_sent») 0) nothing (legPacket o)
 
 -- "Processors get the packet as it now stands, its mark as it came." No processor is wanted below route bit 6.
 abbrev pub toProcessors : Outcome → Packet
@@ -35,8 +35,8 @@ passShown n o =
       wanted = o .wanted;
       sent = o .sent;
       dropped = o .dropped;
-      «leg_sent» = o .leg;
-      «leg_dropped» = o .lost;
+      «leg_sent» = o .«leg_sent»;
+      «leg_dropped» = o .«leg_dropped»;
       processors = processorsOf (o .wanted);
       delivered = toProcessors o;
       packets = packetsOf o;

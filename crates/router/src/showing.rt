@@ -22,7 +22,7 @@ ghost use Rattle.steps.specs.Deciding.{noOutcome};
 // All that a pass did, its registers and counters begun from zeros; or, of a pass that was refused, the number of the
 // refusal and zeros. What needs most room to be worked out comes first, what is mostly zeros last.
 pub fn shown(refusal: u32, o: Outcome) -> Pass
-    requires { ⌜ (o ≡ cond (eqb refusal 0) o noOutcome) × ((o .sent < 64) × ((o .dropped < 64) × (o .lost < 64))) ⌝ }
+    requires { ⌜ (o ≡ cond (eqb refusal 0) o noOutcome) × ((o .sent < 64) × ((o .dropped < 64) × (o .«leg_dropped» < 64))) ⌝ }
     ensures { λ r. ⌜ r ≡ passShown refusal o ⌝ }
 {
     let packets = packets_of(o);
@@ -36,8 +36,8 @@ pub fn shown(refusal: u32, o: Outcome) -> Pass
         wanted: o.wanted,
         sent: o.sent,
         dropped: o.dropped,
-        leg_sent: o.leg,
-        leg_dropped: o.lost,
+        leg_sent: o.leg_sent,
+        leg_dropped: o.leg_dropped,
         processors: o.wanted / 64,
         delivered,
         packets,
@@ -101,7 +101,7 @@ fn packets_of(o: Outcome) -> [Packet; 6]
 fn on_leg(o: Outcome) -> Packet
     ensures { λ r. ⌜ r ≡ onLeg o ⌝ }
 {
-    if o.leg == 0 {
+    if o.leg_sent == 0 {
         no_packet()
     } else {
         leg_packet(o)

@@ -36,8 +36,8 @@ pub record Sets (o : Outcome) : Type 0 where
   pub sent : o .sent < 64
   pub carried : o .carried < 64
   pub dropped : o .dropped < 64
-  pub leg : o .leg < 64
-  pub lost : o .lost < 64
+  pub leg : o .«leg_sent» < 64
+  pub lost : o .«leg_dropped» < 64
 
 pub decided-sets : (errors : ℕ) (p : Packet) (source phase : ℕ) (w : Wanted) (ready : ℕ) → Sets (decided errors p source phase w ready)
 unfolding decided

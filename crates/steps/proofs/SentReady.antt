@@ -24,7 +24,7 @@ module _ (e : ℕ) (p : Packet) (s phase : ℕ) (w : Wanted) (ready : ℕ) (i : 
           let t : (has (linksOf (w .set)) i && has ready i) ≡ true = sym (has-set (λ j. has (linksOf (w .set)) j && has ready j) i hi) ∙ h in
           and-eq-true-iff (has (linksOf (w .set)) i) (has ready i) .0 t .1
 
-  pub leg-ready : has (decided e p s phase w ready .leg) i ≡ true → has ready i ≡ true
+  pub leg-ready : has (decided e p s phase w ready .«leg_sent») i ≡ true → has ready i ≡ true
   unfolding decided
   leg-ready h =
       let t : (has (legSet e p s) i && has ready i) ≡ true = sym (has-set (λ j. has (legSet e p s) j && has ready j) i hi) ∙ h in

@@ -38,8 +38,8 @@ decided errors p source phase w ready =
       sent = cond (isMarked (p .control)) (sendSet (linksOf (w .set)) ready) (plainSendSet (linksOf (w .set)) ready);
       carried = cond (isMarked (p .control)) (carrySet (linksOf (w .set)) ready) 0;
       dropped = cond (isMarked (p .control)) (dropSet (linksOf (w .set)) ready) (plainDropSet (linksOf (w .set)) ready);
-      leg = plainSendSet (legSet errors p source) ready;
-      lost = plainDropSet (legSet errors p source) ready;
+      «leg_sent» = plainSendSet (legSet errors p source) ready;
+      «leg_dropped» = plainDropSet (legSet errors p source) ready;
       source = source;
       phase = phase;
     }
@@ -52,7 +52,7 @@ outcomeOf p source tables t =
 
 -- Nothing at all, as where a pass is refused.
 abbrev pub noOutcome : Outcome
-noOutcome = record { errors = 0; packet = nothing; wanted = 0; missed = 0; sent = 0; carried = 0; dropped = 0; leg = 0; lost = 0; source = 0; phase = 0 }
+noOutcome = record { errors = 0; packet = nothing; wanted = 0; missed = 0; sent = 0; carried = 0; dropped = 0; «leg_sent» = 0; «leg_dropped» = 0; source = 0; phase = 0 }
 
 -- "Mark 00 if wanted and not carrying a detour, 01 if wanted and carrying one, 10 if only carrying."
 abbrev pub markOn : Outcome → ℕ → ℕ

@@ -54,8 +54,8 @@ pub fn no_outcome() -> Outcome
         sent: 0,
         carried: 0,
         dropped: 0,
-        leg: 0,
-        lost: 0,
+        leg_sent: 0,
+        leg_dropped: 0,
         source: 0,
         phase: 0,
     }
@@ -105,8 +105,8 @@ pub fn decide(errors: u32, p: Packet, source: u32, phase: u32, w: Wanted, ready:
             sent: send_set(links, ready),
             carried: carry_set(links, ready),
             dropped: drop_set(links, ready),
-            leg: plain_send_set(leg, ready),
-            lost: plain_drop_set(leg, ready),
+            leg_sent: plain_send_set(leg, ready),
+            leg_dropped: plain_drop_set(leg, ready),
             source,
             phase,
         }
@@ -119,8 +119,8 @@ pub fn decide(errors: u32, p: Packet, source: u32, phase: u32, w: Wanted, ready:
             sent: plain_send_set(links, ready),
             carried: 0,
             dropped: plain_drop_set(links, ready),
-            leg: plain_send_set(leg, ready),
-            lost: plain_drop_set(leg, ready),
+            leg_sent: plain_send_set(leg, ready),
+            leg_dropped: plain_drop_set(leg, ready),
             source,
             phase,
         }

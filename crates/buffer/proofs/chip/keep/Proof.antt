@@ -14,8 +14,8 @@ use Rattle.buffer.proofs.chip.keep.Tie as tie
 returns : tie.Need-returns
 returns c =
     let o = c .before .before .before .before .args .o in
-    let none = and-eq-true-iff (eqb (o .dropped) 0) (eqb (o .lost) 0) .0 (c .if1 .taken) in
-    six 0 (c .before .before .before .before .args .words .now) (c .before .before .before .before .pre .0) ∙ simp (eqb-true (o .dropped) 0 (none .0), eqb-true (o .lost) 0 (none .1), ones-zero)
+    let none = and-eq-true-iff (eqb (o .dropped) 0) (eqb (o .«leg_dropped») 0) .0 (c .if1 .taken) in
+    six 0 (c .before .before .before .before .args .words .now) (c .before .before .before .before .pre .0) ∙ simp (eqb-true (o .dropped) 0 (none .0), eqb-true (o .«leg_dropped») 0 (none .1), ones-zero)
 
 slice-read-t9 : tie.Need-slice-read-t9
 slice-read-t9 c = search needs

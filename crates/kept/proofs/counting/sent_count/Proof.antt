@@ -7,10 +7,10 @@ use Rattle.kept.proofs.counting.sent_count.Statement.{statement}
 use Rattle.kept.proofs.counting.sent_count.Tie as tie
 
 returns : tie.Need-returns
-returns c = let none : c .before .before .before .args .o .leg ≡ 0 = c .before .if1 .taken in simp (none, ones-zero) (omega arith)
+returns c = let none : c .before .before .before .args .o .«leg_sent» ≡ 0 = c .before .if1 .taken in simp (none, ones-zero) (omega arith)
 
 add-result : tie.Need-add-result
-add-result c = let o = c .before .before .before .before .args .o in omega (arith, ones-le 32 (o .sent) (omega arith), ones-le 32 (o .leg) (omega arith))
+add-result c = let o = c .before .before .before .before .args .o in omega (arith, ones-le 32 (o .sent) (omega arith), ones-le 32 (o .«leg_sent») (omega arith))
 
 returns-2 : tie.Need-returns-2
 returns-2 c = search needs

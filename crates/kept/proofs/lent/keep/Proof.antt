@@ -82,13 +82,13 @@ module _ {M : Type 1} (𝓤 : URA M) (H : Heap 𝓤) (A : Atoms 𝓤) (W : Given
   abbrev to : KeptOf 𝓤 H A at-mem run .Ghost
   to = ((tt, tt, tt, (h, (u, tt)), (T′.lowered h ∷ [], (O′.lowered u ∷ [], tt))), tt)
 
-  asked : Is T.the-row h (T′.lowered h ∷ []) → Is O.the-row u (O′.lowered u ∷ []) → (u .dropped < 64) × (u .lost < 64) → ent 𝓤 (emp 𝓤) (KeptOf 𝓤 H A at-mem run .pre to)
+  asked : Is T.the-row h (T′.lowered h ∷ []) → Is O.the-row u (O′.lowered u ∷ []) → (u .dropped < 64) × (u .«leg_dropped» < 64) → ent 𝓤 (emp 𝓤) (KeptOf 𝓤 H A at-mem run .pre to)
   asked was is fits =
       qed W [] ∵ says ! fits $ nothing ! $ owned ! O.the-row (Is O.the-row) (LL.makes O.the-type O′.the-plain 𝓤 H A) u _ is $ fjoin ! $
       owned ! T.the-row (Is T.the-row) (LL.makes T.the-type T′.the-plain 𝓤 H A) h _ was $ fjoin ! $ nothing ! $ frame ! $ done !
 
   module _ (C : Calls 𝓤 H) (Λ : Loops 𝓤 H) (fm : FmC 𝓤 H (W .laws) C) (known : Triple 𝓤 (C #kept·keeping·kept-of) (KeptOf 𝓤 H A at-mem run)) where
-    walk : Is O.the-row u (O′.lowered u ∷ []) → (u .dropped < 64) × (u .lost < 64)
+    walk : Is O.the-row u (O′.lowered u ∷ []) → (u .dropped < 64) × (u .«leg_dropped» < 64)
         → ent 𝓤 (onEntry 𝓤 H A keep′.signature (κ, tt) (q, tt) x at) (WpFn 𝓤 H C Λ code.function (vptr b o ∷ O′.lowered u ∷ []) Post)
     walk is fits =
         qed W ((‵ (flft κ q) ⊛ ‵ ftrue) ∷ ‵ (owns (MutRef (named 0) κ T.the-row ∷ O.the-row ∷ []) x at) ∷ []) ∵ split ! $ move ! (2 ∷ []) $ fsplit ! $ fsplit3 ! $ drop ! $ move ! (0 ∷ 1 ∷ 3 ∷ []) $
