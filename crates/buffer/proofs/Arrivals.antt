@@ -1,4 +1,4 @@
--- What was set aside, as it arrives: that passes leave it alone, and that some of it passed and then the next is more of it. Assumes nothing.
+-- What was set aside, as it arrives: that passes leave it alone, and that some of it passed and then the next is more of it.
 use mathlib.Core.Path.{_≡_, sym, ap, _∙_, subst}
 use mathlib.Core.List.{List, [], _∷_, _++_, map}
 use Prim.Native.Nat.{ℕ, suc, _+_, _-_, _*_, _≤_, _<_}

@@ -1,4 +1,4 @@
--- A chip, and then a mesh, whose links were all set aside. Assumes nothing.
+-- A chip, and then a mesh, whose links were all set aside.
 use mathlib.Core.Path.{_≡_, refl, sym, ap, _∙_, subst}
 use mathlib.Core.Logic.{_⊎_, inl, inr}
 use mathlib.Core.List.{List, [], _∷_}

@@ -1,4 +1,4 @@
--- A link whose packets were set aside: it holds none, and what is set aside is what it held. Assumes nothing.
+-- A link whose packets were set aside: it holds none, and what is set aside is what it held.
 use mathlib.Core.Path.{_≡_, refl, ap, _∙_}
 use mathlib.Core.List.{List, [], _∷_, _++_}
 use Prim.Native.Nat.{ℕ, zero, suc, _+_, _*_, _≤_, _<_}

@@ -1,4 +1,4 @@
--- A link change and a chip's registers read, on a mesh's words. Assumes nothing.
+-- A link change and a chip's registers read, on a mesh's words.
 use mathlib.Core.Path.{_≡_, refl, sym, ap, _∙_, subst}
 use mathlib.Core.Logic.{_⊎_, inl, inr}
 use mathlib.Core.Bool.{Bool, true, false}

@@ -1,4 +1,4 @@
--- A chip's words with one part changed: its registers, its counters or one of its links. Assumes nothing.
+-- A chip's words with one part changed: its registers, its counters or one of its links.
 use mathlib.Core.Path.{_≡_, refl, sym, ap, _∙_, subst}
 use mathlib.Core.Logic.{_⊎_, inl, inr}
 use mathlib.Core.List.{List, [], _∷_}

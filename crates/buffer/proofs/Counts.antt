@@ -1,4 +1,4 @@
--- A buffer that holds a mesh: its size, its length, its chips and their links, and each link's count word, at most 8. Assumes nothing.
+-- A buffer that holds a mesh: its size, its length, its chips and their links, and each link's count word, at most 8.
 use mathlib.Core.Path.{_≡_, subst}
 use mathlib.Core.Logic.{_⊎_, inl, inr}
 use mathlib.Core.Bool.{Bool, true, _&&_, and-eq-true-iff}

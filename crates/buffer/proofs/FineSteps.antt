@@ -1,4 +1,4 @@
--- The tests of a buffer, step by step: what is known of all from those that are still to come. Assumes nothing.
+-- The tests of a buffer, step by step: what is known of all from those that are still to come.
 use mathlib.Core.Path.{_≡_, ap, _∙_}
 use mathlib.Core.Bool.{true, _&&_, and-eq-true-iff}
 use mathlib.Core.List.{List}

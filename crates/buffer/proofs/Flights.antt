@@ -1,4 +1,4 @@
--- The packets in flight, counted by the links' count words. Assumes nothing.
+-- The packets in flight, counted by the links' count words.
 use mathlib.Core.Path.{_≡_, ap, _∙_}
 use mathlib.Core.Bool.{true}
 use mathlib.Core.List.{List}

@@ -1,4 +1,4 @@
--- Passes one after the other: one is as the mesh's definition says, and some followed by others are all of them. Assumes nothing.
+-- Passes one after the other: one is as the mesh's definition says, and some followed by others are all of them.
 use mathlib.Core.Path.{_≡_, refl, sym, ap, _∙_, subst}
 use mathlib.Core.Bool.{_&&_, and-eq-true-iff}
 use mathlib.Core.List.{List, [], _∷_, _++_, foldl}

@@ -1,4 +1,4 @@
--- What a header in range says, and headers that are the same. Assumes nothing.
+-- What a header in range says, and headers that are the same.
 use mathlib.Core.Path.{_≡_, sym, ap, _∙_}
 use mathlib.Core.Bool.{true, _&&_, and-eq-true-iff}
 use mathlib.Core.List.{List}

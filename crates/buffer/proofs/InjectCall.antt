@@ -1,4 +1,4 @@
--- An injection that is accepted: what is due, and what its pass leaves. Assumes nothing.
+-- An injection that is accepted: what is due, and what its pass leaves.
 use mathlib.Core.Path.{_≡_, refl, sym, ap, _∙_, subst}
 use mathlib.Core.Logic.{inr}
 use mathlib.Core.Bool.{true}

@@ -1,4 +1,4 @@
--- What a call leaves, refused or accepted. Assumes nothing.
+-- What a call leaves, refused or accepted.
 use mathlib.Core.Path.{_≡_, refl, sym, ap, _∙_}
 use mathlib.Core.Bool.{true}
 use mathlib.Core.List.{List, [], _++_}

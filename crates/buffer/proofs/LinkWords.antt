@@ -1,4 +1,4 @@
--- Where the words of a link stand, and its packets. Assumes nothing.
+-- Where the words of a link stand, and its packets.
 use mathlib.Core.Path.{_≡_, refl, sym, ap, _∙_}
 use mathlib.Core.List.{List}
 use Prim.Native.Nat.{ℕ, zero, suc, _+_, _*_, _<_}

@@ -1,4 +1,4 @@
--- A record put behind those that a log has. Assumes nothing.
+-- A record put behind those that a log has.
 use mathlib.Core.Path.{_≡_, refl, sym, ap, _∙_}
 use mathlib.Core.List.{List, [], _∷_, _++_, append-nil}
 use Prim.Native.Nat.{ℕ, suc, _+_, _*_, _≤_}

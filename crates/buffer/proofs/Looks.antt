@@ -1,4 +1,4 @@
--- What a look at a mesh's words finds: a chip's counter, a link. Assumes nothing.
+-- What a look at a mesh's words finds: a chip's counter, a link.
 use mathlib.Core.Path.{_≡_, refl, sym, ap, _∙_}
 use mathlib.Core.Bool.{Bool, true, cond, and-eq-true-iff}
 use mathlib.Core.List.{List}

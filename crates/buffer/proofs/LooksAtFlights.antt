@@ -1,4 +1,4 @@
--- What a look at a packet in flight finds in a mesh's words. Assumes nothing.
+-- What a look at a packet in flight finds in a mesh's words.
 use mathlib.Core.Path.{_≡_, sym, ap, _∙_}
 use mathlib.Core.Bool.{Bool, cond}
 use mathlib.Core.List.{List, map}

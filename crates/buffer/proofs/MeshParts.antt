@@ -1,4 +1,4 @@
--- A mesh's words with one chip's block changed: the mesh with that chip changed. Assumes nothing.
+-- A mesh's words with one chip's block changed: the mesh with that chip changed.
 use mathlib.Core.Path.{_≡_, refl, sym, ap, _∙_}
 use mathlib.Core.Logic.{_⊎_, inl, inr}
 use mathlib.Core.List.{List, _∷_}

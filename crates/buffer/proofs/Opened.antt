@@ -1,4 +1,4 @@
--- A buffer that was opened reads as an open mesh: all links up, nothing in flight, registers and counters at zeros. Assumes nothing.
+-- A buffer that was opened reads as an open mesh: all links up, nothing in flight, registers and counters at zeros.
 use mathlib.Core.Path.{_≡_, refl, sym, ap, _∙_, subst}
 use mathlib.Core.Bool.{true}
 use mathlib.Core.List.{List, _∷_, _++_}

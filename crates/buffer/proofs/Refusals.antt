@@ -1,4 +1,4 @@
--- The first refusal that applies to a call on a mesh, test by test. Assumes nothing.
+-- The first refusal that applies to a call on a mesh, test by test.
 use mathlib.Core.Path.{_≡_, refl, sym, ap, _∙_}
 use mathlib.Core.Bool.{Bool, true, false, cond, _&&_, not}
 use mathlib.Core.List.{List, [], _∷_}

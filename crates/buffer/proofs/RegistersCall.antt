@@ -1,4 +1,4 @@
--- A chip's registers read, on a mesh's words: handed over and emptied. Assumes nothing.
+-- A chip's registers read, on a mesh's words: handed over and emptied.
 use mathlib.Core.Path.{_≡_, sym, ap, _∙_, subst}
 use mathlib.Core.Bool.{Bool, cond}
 use mathlib.Core.List.{List, [], _∷_, _++_}

@@ -1,4 +1,4 @@
--- A round that is accepted: what is due, and what the three steps of the code leave together. Assumes nothing.
+-- A round that is accepted: what is due, and what the three steps of the code leave together.
 use mathlib.Core.Path.{_≡_, sym, ap, _∙_, subst}
 use mathlib.Core.Bool.{true, and-eq-true-iff}
 use mathlib.Core.List.{List, [], foldl}

@@ -1,4 +1,4 @@
--- A round on a mesh's words, step by step: all set aside, all of it arrived, the phase stepped on. Assumes nothing.
+-- A round on a mesh's words, step by step: all set aside, all of it arrived, the phase stepped on.
 use mathlib.Core.Path.{_≡_, refl, sym, ap, _∙_, subst}
 use mathlib.Core.Bool.{Bool, true, false, cond}
 use mathlib.Core.List.{List, _∷_, _++_, map, append-nil, append-assoc}

@@ -1,4 +1,4 @@
--- A buffer holds a mesh exactly when its mesh is sound, its link states are in range and it is long enough. Assumes nothing.
+-- A buffer holds a mesh exactly when its mesh is sound, its link states are in range and it is long enough.
 use mathlib.Core.Path.{_≡_, refl, sym, ap, subst}
 use mathlib.Core.Bool.{Bool, true, _&&_, and-eq-true-iff}
 use mathlib.Core.List.{List}

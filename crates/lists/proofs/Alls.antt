@@ -1,5 +1,4 @@
 -- What holds of every element of a list: of two lists put together, of a list's images, of one element, of a list with one element changed.
--- Assumes nothing.
 use mathlib.Core.List.{List, [], _∷_, _++_, map}
 use Prim.Native.Nat.{ℕ, zero, suc, _<_}
 use native.Mathlib.Omega.{arith}

@@ -1,4 +1,4 @@
--- A part of a list put back after a change: what stands in it, before it and behind it. Assumes nothing.
+-- A part of a list put back after a change: what stands in it, before it and behind it.
 use mathlib.Core.Path.{_≡_, sym, ap, _∙_}
 use mathlib.Core.List.{List, [], _∷_, _++_}
 use Prim.Native.Nat.{ℕ, zero, suc, _+_, _-_, _≤_, _<_}

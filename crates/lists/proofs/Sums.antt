@@ -1,4 +1,4 @@
--- Sums of a function over the numbers below a bound: joined, by rows, turned round. Assumes nothing.
+-- Sums of a function over the numbers below a bound: joined, by rows, turned round.
 use mathlib.Core.Path.{_≡_, refl, sym, ap, _∙_}
 use mathlib.Core.List.{List, [], _∷_}
 use Prim.Native.Nat.{ℕ, zero, suc, _+_, _*_, _/_, _%_, _≤_, _<_}

@@ -1,4 +1,4 @@
--- What `total` says of lists joined, mapped, counted, and changed at one place. Assumes nothing.
+-- What `total` says of lists joined, mapped, counted, and changed at one place.
 use mathlib.Core.Path.{_≡_, refl, ap}
 use mathlib.Core.List.{List, [], _∷_, _++_, map}
 use Prim.Native.Nat.{ℕ, zero, suc, _+_, _*_, _≤_, _<_}

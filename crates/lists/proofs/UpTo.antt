@@ -1,4 +1,4 @@
--- Lists up to a number, one behind the other. Assumes nothing.
+-- Lists up to a number, one behind the other.
 use mathlib.Core.Path.{_≡_, refl, sym, ap, _∙_}
 use mathlib.Core.List.{List, [], _∷_, _++_, append-nil, append-assoc}
 use Prim.Native.Nat.{ℕ, zero, suc, _+_, _-_, _≤_, _<_}

@@ -1,4 +1,4 @@
--- What is known where a call on a mesh is accepted. Assumes nothing.
+-- What is known where a call on a mesh is accepted.
 use mathlib.Core.Path.{_≡_, refl}
 use mathlib.Core.Bool.{Bool, true, false, cond, and-eq-true-iff}
 use mathlib.Core.List.{List}

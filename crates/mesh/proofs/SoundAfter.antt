@@ -1,4 +1,4 @@
--- A sound chip is sound after a pass with its own ready set: a ready link holds at most 6, and a pass sends at most two by it. Assumes nothing.
+-- A sound chip is sound after a pass with its own ready set: a ready link holds at most 6, and a pass sends at most two by it.
 use mathlib.Core.Path.{_≡_, refl, sym, ap, _∙_, subst}
 use mathlib.Core.Bool.{Bool, true, false, and-eq-true-iff}
 use mathlib.Core.List.{List, [], _∷_, _++_}

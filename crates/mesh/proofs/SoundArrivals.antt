@@ -1,4 +1,4 @@
--- What arrives in a sound mesh may pass: at a chip that is there, by a link, a packet that is sound. Assumes nothing.
+-- What arrives in a sound mesh may pass: at a chip that is there, by a link, a packet that is sound.
 use mathlib.Core.Path.{sym, subst}
 use mathlib.Core.Logic.{inl}
 use mathlib.Core.Bool.{and-eq-true-iff}

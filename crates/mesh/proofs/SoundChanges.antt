@@ -1,4 +1,4 @@
--- A sound mesh stays sound over a link change and over a chip's registers being read. Assumes nothing.
+-- A sound mesh stays sound over a link change and over a chip's registers being read.
 use mathlib.Core.Path.{refl, _∙_}
 use mathlib.Core.Bool.{Bool}
 use Prim.Native.Nat.{ℕ, _*_, _<_}

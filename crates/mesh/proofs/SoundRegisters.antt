@@ -1,5 +1,5 @@
 -- A chip's registers stay in range: what a pass drops has no error, so that its packet has odd parity and its control byte, word and payload
--- are not all 0. Assumes nothing.
+-- are not all 0.
 use mathlib.Core.Path.{_≡_, refl, sym, _∙_}
 use mathlib.Core.Bool.{Bool, true, false, cond, _&&_, not, and-eq-true-iff, false≢true}
 use mathlib.Core.List.{List}

@@ -1,4 +1,4 @@
--- A sound mesh stays sound: over a pass, an injection, a round and each step of a round; and an open mesh is sound. Assumes nothing.
+-- A sound mesh stays sound: over a pass, an injection, a round and each step of a round; and an open mesh is sound.
 use mathlib.Core.Path.{_≡_, refl, sym, _∙_, subst}
 use mathlib.Core.Logic.{inr}
 use mathlib.Core.Bool.{Bool, true, false, cond, and-eq-true-iff}

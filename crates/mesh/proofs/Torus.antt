@@ -1,4 +1,4 @@
--- What arrives in a round weighs what was in flight when it began: each link's packets arrive at one chip, by one link. Assumes nothing.
+-- What arrives in a round weighs what was in flight when it began: each link's packets arrive at one chip, by one link.
 use mathlib.Core.Path.{_≡_, refl, sym, ap, _∙_}
 use Prim.Native.Nat.{ℕ, zero, suc, _+_, _*_, _≤_, _<_}
 use native.Mathlib.Nat.{add-zero, zero-add}

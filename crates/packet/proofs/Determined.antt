@@ -1,4 +1,4 @@
--- Each public call's answer is determined by its inputs: two answers that meet its contract are equal. Assumes nothing.
+-- Each public call's answer is determined by its inputs: two answers that meet its contract are equal.
 use mathlib.Core.Path.{_≡_, sym, _∙_}
 use mathlib.Core.Bool.{Bool}
 use mathlib.Core.List.{List}

@@ -1,5 +1,5 @@
 -- A packet and its fields: those of a whole packet are in range and make it again, and fields in range make a whole packet that reads back into
--- them. What carries it: the fields of the control byte are its digits. Assumes nothing.
+-- them. What carries it: the fields of the control byte are its digits.
 use mathlib.Core.Path.{_≡_, refl}
 use mathlib.Core.Logic.{_⊎_, inl, inr, ⊎-elim}
 use mathlib.Core.Bool.{true, _||_, and-true, or-true, and-eq-true-iff}

@@ -1,4 +1,4 @@
--- The first refusal that applies, of two lists joined, and where none applies. Assumes nothing.
+-- The first refusal that applies, of two lists joined, and where none applies.
 use mathlib.Core.Path.{_≡_, refl}
 use mathlib.Core.Bool.{Bool, true, false, cond, _&&_, and-eq-true-iff}
 use mathlib.Core.List.{List, [], _∷_, _++_}

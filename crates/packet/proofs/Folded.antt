@@ -1,4 +1,4 @@
--- Words laid over each other by exclusive or keep the parity of their ones. Assumes nothing.
+-- Words laid over each other by exclusive or keep the parity of their ones.
 use mathlib.Core.Path.{_≡_, refl, sym, ap, _∙_}
 use Prim.Native.Nat.{ℕ, zero, suc, _+_, _*_, _/_, _%_, _<_}
 use native.Mathlib.Nat.{mod-lt, add-mod}

@@ -1,5 +1,4 @@
 -- Two bits of a number put in anew by shifts and masks: the parts above, in and below the two bits stand apart.
--- Assumes nothing.
 use mathlib.Core.Path.{_≡_, sym, ap, _∙_, subst}
 use Prim.Native.Nat.{ℕ, _+_, _*_, _/_, _%_, _^_, _-_, _<_, _≤_}
 use native.Mathlib.Nat.{mod-lt, mod-eq-of-lt, div-mul-le-self, lt-of-lt-of-le, lt-of-le-of-lt, mul-assoc, add-mul, mul-lt-mul-of-pos-right}

@@ -1,4 +1,4 @@
--- Packing: the bytes of a word in the other order, and the bytes of fields in range, from their control byte and word. Assumes nothing.
+-- Packing: the bytes of a word in the other order, and the bytes of fields in range, from their control byte and word.
 use mathlib.Core.Path.{_≡_, sym}
 use mathlib.Core.Bool.{true}
 use Prim.Native.Nat.{ℕ, _+_, _*_, _/_, _%_, _<_}

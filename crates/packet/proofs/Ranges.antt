@@ -1,4 +1,4 @@
--- Fields in range, as facts about numbers: those of each type, and those that every type has. Assumes nothing.
+-- Fields in range, as facts about numbers: those of each type, and those that every type has.
 use mathlib.Core.Path.{_≡_}
 use mathlib.Core.Bool.{true, cond, and-eq-true-iff}
 use Prim.Native.Nat.{_<_}

@@ -1,5 +1,5 @@
 -- A mark or stamp rewritten: parity is odd, the new field is the one asked for, and every other field is as before. Parity is shown by
--- counting the ones of a control byte as its lowest bit and the rest; the fields by computing all control bytes. Assumes nothing.
+-- counting the ones of a control byte as its lowest bit and the rest; the fields by computing all control bytes.
 use mathlib.Core.Path.{_≡_, refl, _∙_}
 use mathlib.Core.Bool.{Bool, true, _&&_, and-eq-true-iff}
 use Prim.Native.Nat.{ℕ, _+_, _*_, _/_, _%_, _<_}

@@ -1,4 +1,4 @@
--- A fact about every number below a small bound, proved by computing it at each of them. Assumes nothing.
+-- A fact about every number below a small bound, proved by computing it at each of them.
 use mathlib.Core.Path.{_≡_, subst}
 use mathlib.Core.Bool.{Bool, true, _&&_, and-eq-true-iff}
 use Prim.Native.Nat.{ℕ, zero, suc, _<_}

@@ -1,5 +1,5 @@
 -- The age of a copy of an MC or P2P packet, and what a pass makes of it: what it sends is a round older, with the stamp of the phase that the packet
--- was injected in, and its span is not over; a pass finds age just at the end of the span. Assumes nothing.
+-- was injected in, and its span is not over; a pass finds age just at the end of the span.
 use mathlib.Core.Path.{_≡_, sym, ap, _∙_}
 use mathlib.Core.List.{List}
 use Prim.Native.Nat.{ℕ, _+_, _-_, _/_, _%_, _≤_, _<_}

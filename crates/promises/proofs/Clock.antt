@@ -1,4 +1,4 @@
--- The phase of a mesh after so many rounds, and when a stamp is too old: just at the round that ends its span. Assumes nothing.
+-- The phase of a mesh after so many rounds, and when a stamp is too old: just at the round that ends its span.
 use mathlib.Core.Path.{_≡_, refl, sym, ap, _∙_}
 use mathlib.Core.Bool.{Bool, true, false, and-eq-true-iff}
 use mathlib.Core.List.{List}

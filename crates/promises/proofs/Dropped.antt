@@ -1,4 +1,4 @@
--- The units that a pass drops, one by one, and what registers keep of them: the first unit, and whether more followed. Assumes nothing.
+-- The units that a pass drops, one by one, and what registers keep of them: the first unit, and whether more followed.
 use mathlib.Core.Path.{_≡_, refl, sym, ap, _∙_}
 use mathlib.Core.Bool.{Bool, true, false, cond, _&&_, _||_, and-eq-true-iff}
 use mathlib.Core.List.{List, [], _∷_, _++_, map, map-append, append-nil}

@@ -1,5 +1,5 @@
 -- What holds of every packet in flight, over passes: what holds of each arrival, and is handed on by a pass, holds of all that is in flight after
--- them; and what each such pass shows, every record of them shows. Assumes nothing.
+-- them; and what each such pass shows, every record of them shows.
 use mathlib.Core.Path.{_≡_, refl, sym, subst}
 use mathlib.Core.Bool.{Bool, true, false}
 use mathlib.Core.List.{List, [], _∷_, _++_, foldl}

@@ -1,5 +1,4 @@
 -- What a pass sends has the type of what arrived, and its stamp: from a link the same, from the chip itself the phase. What is too old is not sent.
--- Assumes nothing.
 use mathlib.Core.Path.{_≡_, refl, sym, _∙_, subst}
 use mathlib.Core.Bool.{Bool, true, false, _&&_, not, and-false, and-eq-true-iff, true≢false}
 use mathlib.Core.List.{List}

@@ -1,4 +1,4 @@
--- What the one-router call shows: one way of building its answer serves passes and refusals. Assumes nothing.
+-- What the one-router call shows: one way of building its answer serves passes and refusals.
 use mathlib.Core.Path.{_≡_, refl, ap}
 use mathlib.Core.Bool.{Bool, true, false, cond}
 use mathlib.Core.List.{List, [], _∷_}

@@ -1,4 +1,4 @@
--- A set made of six tests has just the links that pass them. Assumes nothing.
+-- A set made of six tests has just the links that pass them.
 use mathlib.Core.Path.{_≡_, refl, ap, _∙_}
 use mathlib.Core.Bool.{Bool, true, false, cond}
 use Prim.Native.Nat.{ℕ, zero, suc, _+_, _*_, _/_, _%_, _^_, _≤_, _<_}

@@ -1,4 +1,4 @@
--- Chips by number, y * W + x: below H * W, which is at most 144. Assumes nothing.
+-- Chips by number, y * W + x: below H * W, which is at most 144.
 use Prim.Native.Nat.{ℕ, _+_, _*_, _<_, _≤_}
 use native.Mathlib.Nat.{lt-of-lt-of-le, mul-le-mul}
 use lib.Arith.{digits-lt}

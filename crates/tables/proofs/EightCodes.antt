@@ -1,4 +1,4 @@
--- Codes side by side in one number: the bits above the lowest three of each byte tell of all of them at once. Assumes nothing.
+-- Codes side by side in one number: the bits above the lowest three of each byte tell of all of them at once.
 use mathlib.Core.Path.{_≡_, refl, sym, ap, ap₂, _∙_, subst}
 use mathlib.Core.Bool.{Bool, true, false, _&&_, and-assoc, and-true, and-false}
 use mathlib.Core.List.{List}

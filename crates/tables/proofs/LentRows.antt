@@ -1,5 +1,4 @@
 -- A table in row structs and the numbers that it has: where a row's key and mask stand among them, its route, and the search through them, row by row.
--- Assumes nothing.
 use mathlib.Core.Path.{_≡_, refl, sym, ap, _∙_}
 use mathlib.Core.Bool.{true, false}
 use mathlib.Core.List.{List, [], _∷_}

@@ -1,4 +1,4 @@
--- The tests of lent tables, entry by entry: what is known of all from those that are still to come. Assumes nothing.
+-- The tests of lent tables, entry by entry: what is known of all from those that are still to come.
 use mathlib.Core.Path.{_≡_, refl, sym, ap, _∙_}
 use mathlib.Core.Bool.{Bool, true, false, _&&_, and-assoc, and-true}
 use mathlib.Core.List.{List}

@@ -1,4 +1,4 @@
--- The search, row by row: what is known of the whole table from the rows that are still to come. Assumes nothing.
+-- The search, row by row: what is known of the whole table from the rows that are still to come.
 use mathlib.Core.Path.{_≡_, refl, sym, ap, _∙_, subst}
 use mathlib.Core.Bool.{Bool, true, false}
 use mathlib.Core.List.{List, [], _∷_}

@@ -1,5 +1,5 @@
 -- Where each chip's rows start, number by number: what the test of all of them says of each, and what is known of all from those that are still
--- to come. Assumes nothing.
+-- to come.
 use mathlib.Core.Path.{_≡_, refl, sym, ap, _∙_, subst}
 use mathlib.Core.Bool.{Bool, true, false, _&&_, and-comm, and-eq-true-iff}
 use mathlib.Core.List.{List, [], _∷_}

@@ -1,4 +1,4 @@
--- Which kinds go with which body lengths and link states, kind by kind. Assumes nothing.
+-- Which kinds go with which body lengths and link states, kind by kind.
 use mathlib.Core.Path.{_≡_, refl, sym, ap, _∙_}
 use mathlib.Core.Logic.{_⊎_, inl, inr}
 use mathlib.Core.Bool.{Bool, true, false, _&&_, _||_, not, and-eq-true-iff}

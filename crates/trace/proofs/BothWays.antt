@@ -1,4 +1,4 @@
--- A written trace reads back as its calls, and a trace that reads as calls is what writing them gives: one record after another. Assumes nothing.
+-- A written trace reads back as its calls, and a trace that reads as calls is what writing them gives: one record after another.
 use mathlib.Core.Path.{_≡_, refl, sym, ap, _∙_, subst}
 use mathlib.Core.Bool.{Bool, true, false}
 use mathlib.Core.List.{List, [], _∷_, _++_}

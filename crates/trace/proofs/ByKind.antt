@@ -1,4 +1,4 @@
--- A choice by kind, kind by kind. Assumes nothing.
+-- A choice by kind, kind by kind.
 use mathlib.Core.Path.{_≡_, refl, ap}
 use mathlib.Core.Bool.{Bool, true, false, cond}
 use Prim.Native.Nat.{ℕ}

@@ -1,4 +1,4 @@
--- A replay and its calls made directly leave the same mesh, log and answer. Assumes nothing.
+-- A replay and its calls made directly leave the same mesh, log and answer.
 use mathlib.Core.Path.{_≡_, refl, sym, ap, _∙_}
 use mathlib.Core.Bool.{Bool, cond}
 use mathlib.Core.List.{List, _++_, append-assoc}

@@ -1,4 +1,4 @@
--- One record of a replay: one that is refused, and one whose call is made. Assumes nothing.
+-- One record of a replay: one that is refused, and one whose call is made.
 use mathlib.Core.Path.{_≡_, refl, sym, ap, _∙_, subst}
 use mathlib.Core.Bool.{Bool, true, false, cond}
 use mathlib.Core.List.{List, []}

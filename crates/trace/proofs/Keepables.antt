@@ -1,4 +1,4 @@
--- What is known of a call that a record keeps as it is, kind by kind, and how long its record is. Assumes nothing.
+-- What is known of a call that a record keeps as it is, kind by kind, and how long its record is.
 use mathlib.Core.Path.{_≡_, refl, sym, ap, _∙_, subst}
 use mathlib.Core.Logic.{_⊎_, inl, inr}
 use mathlib.Core.Bool.{Bool, true, false, _&&_, _||_, and-eq-true-iff}

@@ -1,4 +1,4 @@
--- What is known of bytes that read as a record, and what is answered for those that do not. Assumes nothing.
+-- What is known of bytes that read as a record, and what is answered for those that do not.
 use mathlib.Core.Path.{_≡_, refl, sym, ap, _∙_}
 use mathlib.Core.Bool.{Bool, true, false, cond, _||_}
 use mathlib.Core.List.{List}

@@ -1,5 +1,5 @@
 -- A record that is read is the record that writing its call gives, and writing accepts that call: kind by kind, each byte from what is known
--- of a record that is read. Assumes nothing.
+-- of a record that is read.
 use mathlib.Core.Path.{_≡_, refl, sym, ap, _∙_, subst}
 use mathlib.Core.Logic.{_⊎_, inl, inr}
 use mathlib.Core.Bool.{Bool, true, false, cond}

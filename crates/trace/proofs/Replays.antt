@@ -1,4 +1,4 @@
--- The turns of a replay: one record more, the first that is refused, the end. Assumes nothing.
+-- The turns of a replay: one record more, the first that is refused, the end.
 use mathlib.Core.Path.{_≡_, refl, sym, ap, _∙_, subst}
 use mathlib.Core.List.{List, [], _∷_, _++_, append-nil, append-assoc}
 use Prim.Native.Nat.{ℕ, zero, suc, _+_, _-_, _*_, _/_, _≤_, _<_}

@@ -1,4 +1,4 @@
--- A replay on its way: what one record does, what the records up to a byte have done, and what is left for those from there on. Assumes nothing.
+-- A replay on its way: what one record does, what the records up to a byte have done, and what is left for those from there on.
 use mathlib.Core.Path.{_≡_, refl, sym, ap, _∙_}
 use mathlib.Core.Bool.{Bool, true, false, cond}
 use mathlib.Core.List.{List, []}

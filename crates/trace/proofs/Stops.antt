@@ -1,4 +1,4 @@
--- Where a replay stops, record by record. Assumes nothing.
+-- Where a replay stops, record by record.
 use mathlib.Core.Path.{_≡_, refl, sym, ap, _∙_, subst}
 use mathlib.Core.Bool.{Bool, true, false, cond}
 use mathlib.Core.List.{List, _++_}

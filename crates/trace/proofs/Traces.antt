@@ -1,4 +1,4 @@
--- A trace is read record by record, and as many records may be asked for as there are bytes: no record is shorter than a byte. Assumes nothing.
+-- A trace is read record by record, and as many records may be asked for as there are bytes: no record is shorter than a byte.
 use mathlib.Core.Path.{_≡_, refl, sym, ap, _∙_}
 use mathlib.Core.Bool.{Bool, true, false, cond}
 use mathlib.Core.List.{List}

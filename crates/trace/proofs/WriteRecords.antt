@@ -1,4 +1,4 @@
--- The bytes that writing lays out begin with the record, and what is written where a call is refused or accepted. Assumes nothing.
+-- The bytes that writing lays out begin with the record, and what is written where a call is refused or accepted.
 use mathlib.Core.Path.{_≡_, refl, sym, ap, _∙_}
 use mathlib.Core.Logic.{inl, inr}
 use mathlib.Core.Bool.{true, false}

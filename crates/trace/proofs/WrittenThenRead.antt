@@ -1,5 +1,5 @@
 -- Bytes that begin with the record of a call that writing accepts read as that call: kind by kind, with each field that the kind decides written
--- out, a record computes. Assumes nothing.
+-- out, a record computes.
 use mathlib.Core.Path.{_≡_, refl, sym, ap, _∙_, subst}
 use mathlib.Core.Logic.{inl, inr}
 use mathlib.Core.Bool.{Bool, true, false, _&&_, _||_, and-eq-true-iff}

@@ -1,6 +1,5 @@
 -- `yagbolshen_find` meets its contract: a walk of its MIR, by hand. What it is lent goes on to `tables::search::find` as it came, and what that returns is returned.
 -- All that the proof knows of `find` is that it meets its contract, which is this one too.
--- Assumes nothing.
 use mathlib.Core.Path.{_≡_, refl}
 use Prim.Native.Nat.{ℕ, _<_, _^_}
 use mathlib.Core.List.{[], _∷_, List}

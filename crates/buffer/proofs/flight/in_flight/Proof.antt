@@ -1,5 +1,5 @@
 -- `mesh::flight::in_flight` meets its contract. The loop's invariant: there is room for the chips, and the sum so far is what those below `i` hold.
--- The measure is what is left of the chips. Assumes nothing.
+-- The measure is what is left of the chips.
 use mathlib.Core.Path.{_≡_}
 use Prim.Native.Nat.{_+_, _-_, _*_, _≤_}
 use native.Mathlib.Nat.{add-sub-cancel-left}

@@ -1,4 +1,4 @@
--- `mesh::flight::on_chip` meets its contract: six count words of at most 8 each have a sum that fits. Assumes nothing.
+-- `mesh::flight::on_chip` meets its contract: six count words of at most 8 each have a sum that fits.
 use mathlib.Core.Path.{sym}
 use native.Mathlib.Omega.{arith}
 use borrow.Author.Needs.{needs}

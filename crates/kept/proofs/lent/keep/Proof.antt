@@ -1,6 +1,5 @@
 -- `lent::keep` meets its contract: a walk of its MIR, by hand. The borrow is opened, the registers are copied out of it and passed to `kept_of` with the outcome, what that returns is stored over them, and the borrow is closed at it.
 -- All that the proof knows of `kept_of` is that it meets its contract. Registers and outcome are plain, so that what each owns is made anew where it is asked for.
--- Assumes nothing.
 use mathlib.Core.Path.{_≡_, refl}
 use Prim.Native.Nat.{ℕ, _<_}
 use mathlib.Core.List.{[], _∷_, List}

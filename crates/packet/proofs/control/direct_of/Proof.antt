@@ -1,4 +1,4 @@
--- `packet::control::direct_of` meets its contract: a mask of ones is a remainder. Assumes nothing.
+-- `packet::control::direct_of` meets its contract: a mask of ones is a remainder.
 use Prim.Native.Nat.{_/_}
 use lib.Bits.{and-mask}
 use Rattle.packet.proofs.control.direct_of.Statement.{statement}

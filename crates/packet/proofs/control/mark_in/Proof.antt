@@ -1,4 +1,4 @@
--- `packet::control::mark_in` meets its contract: the three parts stand apart, so that `|` adds them. Assumes nothing.
+-- `packet::control::mark_in` meets its contract: the three parts stand apart, so that `|` adds them.
 use lib.Dec.{lit≤}
 use Rattle.packet.proofs.Masks.{field-in}
 use Rattle.packet.proofs.control.mark_in.Statement.{statement}

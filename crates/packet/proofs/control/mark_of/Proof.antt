@@ -1,4 +1,4 @@
--- `packet::control::mark_of` meets its contract: a mask of ones is a remainder. Assumes nothing.
+-- `packet::control::mark_of` meets its contract: a mask of ones is a remainder.
 use Prim.Native.Nat.{_/_}
 use lib.Bits.{and-mask}
 use Rattle.packet.proofs.control.mark_of.Statement.{statement}

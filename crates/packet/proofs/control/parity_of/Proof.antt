@@ -1,4 +1,4 @@
--- `packet::control::parity_of` meets its contract: a mask of ones is a remainder. Assumes nothing.
+-- `packet::control::parity_of` meets its contract: a mask of ones is a remainder.
 use lib.Bits.{and-mask}
 use Rattle.packet.proofs.control.parity_of.Statement.{statement}
 use Rattle.packet.proofs.control.parity_of.Tie as tie

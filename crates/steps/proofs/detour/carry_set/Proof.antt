@@ -1,4 +1,4 @@
--- `steps::detour::carry_set` meets its contract, which is computed at every pair of sets. Assumes nothing.
+-- `steps::detour::carry_set` meets its contract, which is computed at every pair of sets.
 use mathlib.Core.Path.{refl}
 use mathlib.Core.Bool.{Bool}
 use Prim.Native.Nat.{ℕ, _*_, _/_, _%_}

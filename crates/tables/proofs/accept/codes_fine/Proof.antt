@@ -1,5 +1,5 @@
 -- `accept::codes_fine` meets its contract. The loop's invariant: the test of all codes is that of what is joined so far, with that of the codes from
--- eight times i on. The measure is what is left of the eights. Assumes nothing.
+-- eight times i on. The measure is what is left of the eights.
 use mathlib.Core.Path.{_≡_, refl, sym, ap, _∙_}
 use mathlib.Core.Bool.{Bool, _&&_}
 use Prim.Native.Nat.{_+_, _*_, _/_, _-_, _≤_}

@@ -1,5 +1,5 @@
 -- `accept::last_codes` meets its contract. The loop's invariant: what is joined and the codes from i on are fine where what was joined and the codes
--- past the last whole eight are. The measure is what is left of the codes. Assumes nothing.
+-- past the last whole eight are. The measure is what is left of the codes.
 use mathlib.Core.Path.{_≡_, refl, ap, _∙_}
 use mathlib.Core.Bool.{Bool, _&&_, and-true}
 use Prim.Native.Nat.{_*_, _/_, _-_}

@@ -1,5 +1,5 @@
 -- `accept::last_routes` meets its contract. The loop's invariant: what is joined and the rows from i on are fine where what was joined and the rows
--- past the last whole eight are. The measure is what is left of the rows. Assumes nothing.
+-- past the last whole eight are. The measure is what is left of the rows.
 use mathlib.Core.Path.{_≡_, refl}
 use mathlib.Core.Bool.{_&&_}
 use Prim.Native.Nat.{_+_, _*_, _/_, _-_, _<_}

@@ -1,5 +1,5 @@
 -- `accept::routes_fine` meets its contract. The loop's invariant: the test of all rows is that of the two numbers joined so far, with that of the
--- rows from eight times i on. The measure is what is left of the eights. Assumes nothing.
+-- rows from eight times i on. The measure is what is left of the eights.
 use mathlib.Core.Path.{_≡_, refl, sym, ap, _∙_}
 use mathlib.Core.Bool.{Bool, _&&_}
 use Prim.Native.Nat.{_+_, _*_, _/_, _-_, _≤_}

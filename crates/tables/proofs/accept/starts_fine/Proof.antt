@@ -1,5 +1,5 @@
 -- `tables::accept::starts_fine` meets its contract. The loop's invariant: the test of all the starts is what is found so far, joined with the
--- test of those from `i` on. The measure is what is left of the chips. Assumes nothing.
+-- test of those from `i` on. The measure is what is left of the chips.
 use mathlib.Core.Path.{_≡_, refl}
 use mathlib.Core.Bool.{_&&_}
 use Prim.Native.Nat.{_+_, _-_, _≤_}

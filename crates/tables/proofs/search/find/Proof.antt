@@ -1,6 +1,5 @@
 -- `search::find` meets its contract: a walk of its MIR, by hand. In each turn the slice is looked into, row i is copied out of it, and the slice is shut again; `matches_row` is called on the row's key and mask.
 -- All that the proof knows of `matches_row` is that it meets its contract. What the rows before i say of the search is the loop's variant: i, with `Searched i`, ordered by the rows that are left.
--- Assumes nothing.
 use mathlib.Core.Path.{_≡_, refl, sym, ap, _∙_}
 use mathlib.Core.WellFounded.{WellFounded, InvImage·wf}
 use Prim.Native.Nat.{ℕ, _+_, _*_, _-_, _%_, _<_, _≤_, _^_, zero-le}

@@ -1,5 +1,5 @@
 -- `search::first_from` meets its contract. The loop's invariant: from row i on the search finds what it finds from row `from` on.
--- The measure is what is left of the rows. Assumes nothing.
+-- The measure is what is left of the rows.
 use mathlib.Core.Path.{_≡_, refl, sym, _∙_}
 use Prim.Native.Nat.{_+_, _*_, _/_, _-_, _<_, _≤_}
 use native.Mathlib.Omega.{arith}

@@ -1,5 +1,5 @@
 -- `search::first_match` meets its contract. The loop's invariant: from row i on the search finds what it finds in the whole table.
--- The measure is what is left of the rows. Assumes nothing.
+-- The measure is what is left of the rows.
 use mathlib.Core.Path.{_≡_, refl, sym, ap, _∙_}
 use mathlib.Core.Logic.{⊎-elim}
 use Prim.Native.Nat.{_+_, _/_, _-_, _≤_}
