@@ -16,7 +16,7 @@ use Rattle.tables.specs.declared.Found.{Found}
 use Rattle.tables.specs.declared.Found.the-variants.{At, Nothing}
 use Rattle.tables.specs.Rows.{rowsOf, firstMatch, matchedOf, routeFor}
 use Rattle.tables.specs.Tables.{ChipTables}
-use Rattle.tables.specs.Rows.{rowsOf, firstMatch, matchedOf, routeFor}
+use Rattle.tables.specs.Shown.{foundShown}
 use Rattle.steps.specs.declared.Outcome.{Outcome}
 use Rattle.steps.specs.declared.Setting.{Setting}
 use Rattle.steps.specs.declared.Wanted.{Wanted}
@@ -33,7 +33,7 @@ use Rattle.mesh.specs.Weights.{onChip}
 use Rattle.mesh.proofs.SoundChanges.{chip-sound}
 use Rattle.mesh.proofs.SoundSteps.{checked}
 use Rattle.promises.specs.History.{Passage, Event, passed, emptied, turned}
-use Rattle.promises.specs.Told.{EachPass, sumOf, noRow, isMiss, ownCounts, countAt}
+use Rattle.promises.specs.Told.{EachPass, sumOf, isMiss, ownCounts, countAt}
 use Rattle.promises.specs.Demand3.{Always, Counts}
 use Rattle.promises.proofs.Counted.{countedAt, counts-kept}
 use Rattle.promises.proofs.Records.{no-stale-block}
@@ -70,7 +70,7 @@ module _ (q : Packet) (s : ℕ) (tables : ChipTables) (t : Setting) where
   abbrev errors : ℕ
   errors = errorsOf q s (t .phase)
 
-  missed-row : (f : Found) (mark : ℕ) → matchWanted (matchedOf (rowsOf (tables .rows)) f) mark s (t .monitor) .missed ≡ flag (eqb s 7 && true && true && noRow f) 1
+  missed-row : (f : Found) (mark : ℕ) → matchWanted (matchedOf (rowsOf (tables .rows)) f) mark s (t .monitor) .missed ≡ flag (eqb s 7 && true && true && eqb (foundShown f .number) 0) 1
   missed-row (At n) mark = simp and-false
   missed-row Nothing mark = go (eqb s 7)
     where
@@ -90,24 +90,24 @@ module _ (q : Packet) (s : ℕ) (tables : ChipTables) (t : Setting) where
           let bad : badLocal (q .control) s ≡ true = simp (e, mc-marked (q .control) mc, two) in
           absurd (false≢true (sym (pass.right q s (t .phase) none .local) ∙ bad))
 
-  pub missed-own : wantedOf errors q s tables t .missed ≡ flag (eqb s 7 && isMc (q .control) && eqb errors 0 && noRow (firstMatch (q .word) (rowsOf (tables .rows)))) 1
+  pub missed-own : wantedOf errors q s tables t .missed ≡ flag (eqb s 7 && isMc (q .control) && eqb errors 0 && eqb (foundShown (firstMatch (q .word) (rowsOf (tables .rows))) .number) 0) 1
   unfolding wantedOf
   missed-own = by-error (eqb errors 0) refl
     where
       row : Bool
-      row = noRow (firstMatch (q .word) (rowsOf (tables .rows)))
+      row = eqb (foundShown (firstMatch (q .word) (rowsOf (tables .rows))) .number) 0
 
       by-mark : errors ≡ 0 → isMc (q .control) ≡ true → (b : Bool) → eqb (markOf (q .control)) 2 ≡ b
           → (cond {A = Wanted} b (record { set = 0; missed = 0 }) (matchWanted (matchedOf (rowsOf (tables .rows)) (firstMatch (q .word) (rowsOf (tables .rows)))) (markOf (q .control)) s (t .monitor))) .missed
-          ≡ flag (eqb s 7 && true && true && noRow (firstMatch (q .word) (rowsOf (tables .rows)))) 1
+          ≡ flag (eqb s 7 && true && true && eqb (foundShown (firstMatch (q .word) (rowsOf (tables .rows))) .number) 0) 1
       by-mark none mc true mark = simp (not-local none mc mark)
       by-mark none mc false mark = missed-row (firstMatch (q .word) (rowsOf (tables .rows))) (markOf (q .control))
 
-      by-kind : errors ≡ 0 → (b : Bool) → isMc (q .control) ≡ b → kindWanted (kindOf (q .control)) q s (routeFor (q .word) (rowsOf (tables .rows))) (tables .codes) t .missed ≡ flag (eqb s 7 && isMc (q .control) && true && noRow (firstMatch (q .word) (rowsOf (tables .rows)))) 1
+      by-kind : errors ≡ 0 → (b : Bool) → isMc (q .control) ≡ b → kindWanted (kindOf (q .control)) q s (routeFor (q .word) (rowsOf (tables .rows))) (tables .codes) t .missed ≡ flag (eqb s 7 && isMc (q .control) && true && eqb (foundShown (firstMatch (q .word) (rowsOf (tables .rows))) .number) 0) 1
       by-kind none true mc = simp mc (by-mark none mc (eqb (markOf (q .control)) 2) refl)
       by-kind none false other = simp (other, and-false)
 
-      by-error : (b : Bool) → eqb errors 0 ≡ b → wantedOf errors q s tables t .missed ≡ flag (eqb s 7 && isMc (q .control) && eqb errors 0 && noRow (firstMatch (q .word) (rowsOf (tables .rows)))) 1
+      by-error : (b : Bool) → eqb errors 0 ≡ b → wantedOf errors q s tables t .missed ≡ flag (eqb s 7 && isMc (q .control) && eqb errors 0 && eqb (foundShown (firstMatch (q .word) (rowsOf (tables .rows))) .number) 0) 1
       by-error true e = simp e (by-kind (eqb-true _ _ e) (isMc (q .control)) refl)
       by-error false e = simp (e, and-false)
 
@@ -134,7 +134,7 @@ own p e more =
     let b = bits (not (isOdd q)) (tooOld (q .control) s (p .setting .phase)) (wrongLength q) (badLocal (q .control) s) in
     let miss : p .outcome .missed ≡ flag (isMiss p) 1 =
     ap (λ (o : Outcome). o .missed) e ∙ missed-own q s (p .tables) (p .setting)
-    ∙ ap (λ (n : ℕ). flag (eqb s 7 && isMc (q .control) && eqb n 0 && noRow (firstMatch (q .word) (rowsOf (p .tables .rows)))) 1) (sym errors-are) in
+    ∙ ap (λ (n : ℕ). flag (eqb s 7 && isMc (q .control) && eqb n 0 && eqb (foundShown (firstMatch (q .word) (rowsOf (p .tables .rows))) .number) 0) 1) (sym errors-are) in
     let sent : sentCount (p .outcome) ≡ onChip (λ x. 1) (p .left) - onChip (λ x. 1) (p .here) = omega (arith, more) in
     λ i. 1 ∷ (ap (λ (n : ℕ). n % 2) errors-are ∙ b .0) i ∷ (ap (λ (n : ℕ). n / 2 % 2) errors-are ∙ b .1) i ∷ (ap (λ (n : ℕ). n / 4 % 2) errors-are ∙ b .2) i
     ∷ (ap (λ (n : ℕ). n / 8 % 2) errors-are ∙ b .3) i

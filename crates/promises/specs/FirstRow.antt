@@ -1,19 +1,17 @@
 -- The search, for every table and key: its number is that of the first row that matches, and it finds nothing only where no row matches. The search
 -- through row structs says the same.
-use Prim.Native.Nat.{ℕ, zero, suc, _^_, _<_, _≤_}
-use mathlib.Core.Path.{_≡_, refl, sym, ap, subst}
+use Prim.Native.Nat.{ℕ, zero, suc, _%_, _^_, _<_, _≤_}
+use mathlib.Core.Path.{_≡_, refl, sym}
 use mathlib.Core.Bool.{Bool, true, false, cond}
 use mathlib.Core.List.{List, [], _∷_}
 use native.Mathlib.Omega.{arith}
 use native.Mathlib.Nat.{mod-eq-of-lt}
-use lib.Dec.{eqb}
 use lib.ListN.{length, getD}
 use Rattle.tables.specs.declared.Found.{Found}
 use Rattle.tables.specs.declared.Found.the-variants.{At, Nothing}
-use Rattle.tables.specs.declared.Matched.{Matched}
-use Rattle.tables.specs.declared.Matched.the-variants.{Route, Missed}
 use Rattle.tables.specs.declared.Row.{Row}
 use Rattle.tables.specs.declared.RowFound.{RowFound}
+use Rattle.tables.specs.Shown.{Shown, foundShown, matchedShown}
 use Rattle.tables.specs.Rows.{Entry, matches, rowsOf, numbersOf, next, firstMatch, blankEntry, matchedOf, routeFor, rowFound, foundIn}
 use Rattle.tables.proofs.LentRows.{length-rows, route-of-row}
 
@@ -26,57 +24,62 @@ pub record First (key : ℕ) (rows : List Entry) (n : ℕ) : Type 0 where
   pub matching : matchesAt key rows n ≡ true
   pub before : (k : ℕ) → k < n → matchesAt key rows k ≡ false
 
-abbrev Says : ℕ → List Entry → Found → Type 0
-Says key rows (At n) = First key rows n
-Says key rows Nothing = (k : ℕ) → k < length rows → matchesAt key rows k ≡ false
+-- what an answer of the search says: its number 1 that its value is the first matching row's, its number 0 that none matches
+record Says (key : ℕ) (rows : List Entry) (a : Shown) : Type 0 where
+  first : a .number ≡ 1 → First key rows (a .value)
+  none : a .number ≡ 0 → (k : ℕ) → k < length rows → matchesAt key rows k ≡ false
 
 -- what a search of the other rows says, once the first does not match
-further : (key : ℕ) (r : Entry) (rs : List Entry) → matches key (r .key) (r .mask) ≡ false → (f : Found) → Says key rs f → Says key (r ∷ rs) (next f)
-further key r rs no-match (At n) s = record { there = omega (arith, s .there); matching = s .matching; before = go }
+further : (key : ℕ) (r : Entry) (rs : List Entry) → matches key (r .key) (r .mask) ≡ false → (f : Found) → Says key rs (foundShown f)
+    → Says key (r ∷ rs) (foundShown (next f))
+further key r rs no-match (At n) s = record { first = λ e. record { there = omega (arith, s .first refl .there); matching = s .first refl .matching; before = go }; none = λ e. absurd (omega arith) }
   where
     go : (k : ℕ) → k < suc n → matchesAt key (r ∷ rs) k ≡ false
     go zero h = no-match
-    go (suc k) h = s .before k (omega arith)
-further key r rs no-match Nothing s = go
+    go (suc k) h = s .first refl .before k (omega arith)
+further key r rs no-match Nothing s = record { first = λ e. absurd (omega arith); none = λ e. go }
   where
     go : (k : ℕ) → k < suc (length rs) → matchesAt key (r ∷ rs) k ≡ false
     go zero h = no-match
-    go (suc k) h = s k (omega arith)
+    go (suc k) h = s .none refl k (omega arith)
 
-says : (key : ℕ) (rows : List Entry) → Says key rows (firstMatch key rows)
+search-says : (key : ℕ) (rows : List Entry) → Says key rows (foundShown (firstMatch key rows))
 unfolding firstMatch
-says key [] = λ k h. absurd (omega arith)
-says key (r ∷ rs) = go (matches key (r .key) (r .mask)) refl (says key rs)
+search-says key [] = record { first = λ e. absurd (omega arith); none = λ e k h. absurd (omega arith) }
+search-says key (r ∷ rs) = go (matches key (r .key) (r .mask)) refl (search-says key rs)
   where
-    go : (b : Bool) → matches key (r .key) (r .mask) ≡ b → Says key rs (firstMatch key rs) → Says key (r ∷ rs) (cond b (At 0) (next (firstMatch key rs)))
-    go true e s = record { there = omega arith; matching = e; before = λ k h. absurd (omega arith) }
+    go : (b : Bool) → matches key (r .key) (r .mask) ≡ b → Says key rs (foundShown (firstMatch key rs))
+        → Says key (r ∷ rs) (foundShown (cond b (At 0) (next (firstMatch key rs))))
+    go true e s = record { first = λ z. record { there = omega arith; matching = e; before = λ k h. absurd (omega arith) }; none = λ z. absurd (omega arith) }
     go false e s = further key r rs e (firstMatch key rs) s
 
-pub found-is-first : (key : ℕ) (rows : List Entry) (n : ℕ) → firstMatch key rows ≡ At n → First key rows n
-found-is-first key rows n e = subst (Says key rows) e (says key rows)
+pub found-is-first : (key : ℕ) (rows : List Entry) → foundShown (firstMatch key rows) .number ≡ 1 → First key rows (foundShown (firstMatch key rows) .value)
+found-is-first key rows = search-says key rows .first
 
-pub nothing-matches : (key : ℕ) (rows : List Entry) → firstMatch key rows ≡ Nothing → (k : ℕ) → k < length rows → matchesAt key rows k ≡ false
-nothing-matches key rows e = subst (Says key rows) e (says key rows)
+pub nothing-matches : (key : ℕ) (rows : List Entry) → foundShown (firstMatch key rows) .number ≡ 0 → (k : ℕ) → k < length rows → matchesAt key rows k ≡ false
+nothing-matches key rows = search-says key rows .none
 
--- What the answer of `find` says: a route, and the number of a row.
-abbrev pub matchedBy : RowFound → Matched
-matchedBy r = cond (eqb (r .found) 1) (Route (r .route)) Missed
+-- What `find` answers, as the answer of a table to a key, and as that of a search.
+abbrev pub routeShown : RowFound → Shown
+routeShown r = record { number = r .found; value = r .route }
 
-abbrev pub foundBy : RowFound → Found
-foundBy r = cond (eqb (r .found) 1) (At (r .row)) Nothing
+abbrev pub rowShown : RowFound → Shown
+rowShown r = record { number = r .found; value = r .row }
 
 -- The route is that of the search through the same table's numbers.
-pub find-route : (key : ℕ) (rows : List Row) → matchedBy (foundIn key rows) ≡ routeFor key (rowsOf (numbersOf rows))
+pub find-route : (key : ℕ) (rows : List Row) → routeShown (foundIn key rows) ≡ matchedShown (routeFor key (rowsOf (numbersOf rows)))
 find-route key rows = go (firstMatch key (rowsOf (numbersOf rows)))
   where
-    go : (f : Found) → matchedBy (rowFound f rows) ≡ matchedOf (rowsOf (numbersOf rows)) f
-    go (At n) = ap Route (sym (route-of-row rows n))
+    go : (f : Found) → routeShown (rowFound f rows) ≡ matchedShown (matchedOf (rowsOf (numbersOf rows)) f)
+    go (At n) = λ i. record { number = 1; value = sym (route-of-row rows n) i }
     go Nothing = refl
 
 -- So is the row's number, in a table of up to 2^32 rows.
-pub find-number : (key : ℕ) (rows : List Row) → length rows ≤ 2 ^ 32 → foundBy (foundIn key rows) ≡ firstMatch key (rowsOf (numbersOf rows))
-find-number key rows few = go (firstMatch key (rowsOf (numbersOf rows))) (says key (rowsOf (numbersOf rows)))
+pub find-number : (key : ℕ) (rows : List Row) → length rows ≤ 2 ^ 32 → rowShown (foundIn key rows) ≡ foundShown (firstMatch key (rowsOf (numbersOf rows)))
+find-number key rows fits = go (firstMatch key (rowsOf (numbersOf rows))) (search-says key (rowsOf (numbersOf rows)))
   where
-    go : (f : Found) → Says key (rowsOf (numbersOf rows)) f → foundBy (rowFound f rows) ≡ f
-    go (At n) s = ap At (mod-eq-of-lt (omega (arith, s .there, length-rows rows)))
+    go : (f : Found) → Says key (rowsOf (numbersOf rows)) (foundShown f) → rowShown (rowFound f rows) ≡ foundShown f
+    go (At n) s =
+        let own : n % 2 ^ 32 ≡ n = mod-eq-of-lt (omega (arith, s .first refl .there, length-rows rows)) in
+        λ i. record { number = 1; value = own i }
     go Nothing s = refl

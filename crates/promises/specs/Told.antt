@@ -1,15 +1,14 @@
 -- What a history tells: sums over its passes, the drops since a chip's registers were last read, the records of its log.
 use Prim.Native.Nat.{ℕ, _+_, _-_}
 use mathlib.Core.Path.{_≡_}
-use mathlib.Core.Bool.{Bool, true, false, cond, _&&_, not}
+use mathlib.Core.Bool.{Bool, true, cond, _&&_, not}
 use mathlib.Core.List.{List, [], _∷_, _++_, foldl, map}
 use lib.Dec.{eqb}
 use lib.ListN.{getD}
 use Rattle.packet.specs.declared.Packet.{Packet}
 use Rattle.packet.specs.Types.{isMc, isStamped}
 use Rattle.packet.specs.Parity.{isOdd}
-use Rattle.tables.specs.declared.Found.{Found}
-use Rattle.tables.specs.declared.Found.the-variants.{At, Nothing}
+use Rattle.tables.specs.Shown.{foundShown}
 use Rattle.tables.specs.Rows.{rowsOf, firstMatch}
 use Rattle.steps.specs.declared.Outcome.{Outcome}
 use Rattle.kept.specs.declared.Registers.{Registers}
@@ -48,15 +47,11 @@ sumOf f [] = 0
 sumOf f (passed p ∷ es) = f p + sumOf f es
 sumOf f (emptied c ∷ es) = sumOf f es
 
-abbrev pub noRow : Found → Bool
-noRow (At n) = false
-noRow Nothing = true
-
 -- "A local miss is a local MC packet without error and without a matching row."
 abbrev pub isMiss : Passage → Bool
 isMiss p =
     eqb (p .arrival .source) 7 && isMc (p .arrival .flight .packet .control) && eqb (p .outcome .errors) 0
-    && noRow (firstMatch (p .arrival .flight .packet .word) (rowsOf (p .tables .rows)))
+    && eqb (foundShown (firstMatch (p .arrival .flight .packet .word) (rowsOf (p .tables .rows))) .number) 0
 
 -- What one pass adds to the history's own counts: passes, parity, age, length, bad local ("an error counter counts the passes that showed its
 -- error"), packets sent (so many more are on the chip's links than before), processor deliveries without error, units dropped, units swallowed, local misses.

@@ -7,7 +7,7 @@ use Rattle.packet.specs.declared.Packet.{Packet}
 use Rattle.packet.specs.Control.{kindOf, markOf, routeOf}
 use Rattle.packet.specs.Types.{isMc}
 use Rattle.tables.specs.declared.Matched.{Matched}
-use Rattle.tables.specs.declared.Matched.the-variants.{Route, Missed}
+use Rattle.tables.specs.Shown.{matchedShown}
 use Rattle.tables.specs.Rows.{rowsOf, routeFor}
 use Rattle.tables.specs.Codes.{codeFor}
 use Rattle.tables.specs.Tables.{ChipTables}
@@ -26,8 +26,7 @@ missWanted mark source monitor =
     (wants (2 ^ link (cond (eqb mark 3) (source + 2) (source + 3))))
 
 abbrev pub matchWanted : Matched → ℕ → ℕ → ℕ → Wanted
-matchWanted (Route route) mark source monitor = wants route
-matchWanted Missed mark source monitor = missWanted mark source monitor
+matchWanted m mark source monitor = cond (eqb (matchedShown m .number) 1) (wants (matchedShown m .value)) (missWanted mark source monitor)
 
 -- "MC, mark not 10: the matching row's route; ... MC, mark 10: nothing."
 abbrev pub markWanted : Matched → ℕ → ℕ → ℕ → Wanted

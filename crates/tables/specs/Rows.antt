@@ -12,6 +12,7 @@ use Rattle.tables.specs.declared.Matched.{Matched}
 use Rattle.tables.specs.declared.Matched.the-variants.{Route, Missed}
 use Rattle.tables.specs.declared.Row.{Row}
 use Rattle.tables.specs.declared.RowFound.{RowFound}
+use Rattle.tables.specs.Shown.{foundShown}
 
 pub record Entry : Type 0 where
   pub key : ℕ
@@ -63,8 +64,7 @@ routeAt rows n = getD rows n blankEntry .route
 
 -- What the table says of a key: the first matching row's route, or that no row matches.
 abbrev pub matchedOf : List Entry → Found → Matched
-matchedOf rows (At n) = Route (routeAt rows n)
-matchedOf rows Nothing = Missed
+matchedOf rows f = cond (eqb (foundShown f .number) 1) (Route (routeAt rows (foundShown f .value))) Missed
 
 abbrev pub routeFor : ℕ → List Entry → Matched
 routeFor key rows = matchedOf rows (firstMatch key rows)
@@ -75,8 +75,10 @@ blankRow = record { key = 0; mask = 0; route = 0 }
 
 -- What a search through row structs answers of what it finds. The number has 32 bits: it is the row's own in every table of up to 48 GiB.
 abbrev pub rowFound : Found → List Row → RowFound
-rowFound (At n) rows = record { found = 1; row = n % 2 ^ 32; route = getD rows n blankRow .route }
-rowFound Nothing rows = record { found = 0; row = 0; route = 0 }
+rowFound f rows =
+    cond (eqb (foundShown f .number) 1)
+    (record { found = 1; row = foundShown f .value % 2 ^ 32; route = getD rows (foundShown f .value) blankRow .route })
+    (record { found = 0; row = 0; route = 0 })
 
 -- "One thin lookup over a lent slice of row structs."
 abbrev pub foundIn : ℕ → List Row → RowFound

@@ -1,7 +1,7 @@
 use borrow.Author.Needs.{needs}
 use mathlib.Core.Path.{sym, ap, _∙_}
 use Rattle.tables.proofs.RowByRow.{match-row}
-use Rattle.tables.specs.Rows.{matchedOf}
+use Rattle.tables.specs.Rows.{matchedOf, rowsOf}
 use Rattle.tables.specs.declared.Matched.the-variants.{Route}
 use Rattle.tables.proofs.search.route_for.Statement.{statement}
 use Rattle.tables.proofs.search.route_for.Tie as tie
@@ -21,10 +21,13 @@ enum-told c = search needs
 returns : tie.Need-returns
 returns c =
     let found : _ = sym (c .before .before .before .before .first-match .ensures) ∙ c .before .before .n .given .1 in
-    sym (ap (matchedOf _) found ∙ ap Route (match-row _ _ _ found .1 ∙ sym (c .route-at .ensures)))
+    let rows = rowsOf (c .before .before .before .before .before .before .args .rows .now) in
+    sym (ap (matchedOf rows) found ∙ ap Route (match-row _ _ _ found .1 ∙ sym (c .route-at .ensures)))
 
 returns-2 : tie.Need-returns-2
-returns-2 c = sym (ap (matchedOf _) (sym (c .before .before .first-match .ensures) ∙ c .enum-told .given .1))
+returns-2 c =
+    let rows = rowsOf (c .before .before .before .before .args .rows .now) in
+    sym (ap (matchedOf rows) (sym (c .before .before .first-match .ensures) ∙ c .enum-told .given .1))
 
 pub route-for-spec : {M : Type 1} → statement M
 route-for-spec =
