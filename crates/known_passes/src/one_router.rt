@@ -2,9 +2,13 @@
 use packet::reading::read;
 use router::call::pass;
 use steps::Setting;
+ghost use mathlib.Core.Path.{_≡_};
+ghost use Rattle.known_passes.specs.OneRouter.{refusalWith, isRefused, case13, rowsFit};
 
 // Lengths 0, 4, 6 and 10 are refused with 2, and C0 00 00 00 00, whose parity is even, with 3.
-pub fn case_13() -> bool {
+pub fn case_13() -> bool
+    ensures { λ r. ⌜ r ≡ case13 ⌝ }
+{
     let ten: [u8; 10] = [0, 0, 0, 0, 1, 0, 0, 0, 0, 0];
     let unused: [u8; 5] = [192, 0, 0, 0, 0];
     refused(&ten[..0], 2)
@@ -15,20 +19,26 @@ pub fn case_13() -> bool {
 }
 
 // 1,024 rows pass, and 1,025 are refused with 5.
-pub fn rows_fit() -> bool {
+pub fn rows_fit() -> bool
+    ensures { λ r. ⌜ r ≡ rowsFit ⌝ }
+{
     let bytes: [u8; 5] = [0, 0, 0, 0, 1];
     let rows = [0u32; 3075];
     (refusal_with(&bytes, &rows[..3072]) == 0) & (refusal_with(&bytes, &rows) == 5)
 }
 
 // Whether reading and the pass both refuse the bytes with this number.
-fn refused(bytes: &[u8], number: u32) -> bool {
+fn refused(bytes: &[u8], number: u32) -> bool
+    ensures { λ r. ⌜ r ≡ isRefused (now (bytes .entry)) number ⌝ }
+{
     let rows: [u32; 0] = [];
     (read(bytes).refusal == number) & (refusal_with(bytes, &rows) == number)
 }
 
 // What the pass of a packet from link 0 is refused with: one chip, all links ready.
-fn refusal_with(bytes: &[u8], rows: &[u32]) -> u32 {
+fn refusal_with(bytes: &[u8], rows: &[u32]) -> u32
+    ensures { λ r. ⌜ r ≡ refusalWith (now (bytes .entry)) (now (rows .entry)) ⌝ }
+{
     let codes: [u8; 1] = [6];
     let t = Setting {
         width: 1,

@@ -1,0 +1,2 @@
+pub mod OneRouter
+pub mod TwoChips

@@ -1,0 +1,33 @@
+-- Case 13, and of case 15 the half about rows, by the definitions: whether it is as the case says.
+use Prim.Native.Nat.{ℕ}
+use mathlib.Core.Bool.{Bool, _&&_}
+use mathlib.Core.List.{List, [], _∷_}
+use lib.Dec.{eqb}
+use lib.ListN.{take, replicate}
+use Rattle.packet.specs.Fields.{readOf}
+use Rattle.steps.specs.declared.Setting.{Setting}
+use Rattle.router.specs.Call.{passOf}
+
+-- "All links ready, phase 00, no rows, monitor 0 unless said"; one chip.
+abbrev pub setting : Setting
+setting = record { width = 1; height = 1; monitor = 0; phase = 0; ready = 63 }
+
+-- What the pass of a packet from link 0 is refused with.
+abbrev pub refusalWith : List ℕ → List ℕ → ℕ
+refusalWith bytes rows = passOf bytes 0 rows (6 ∷ []) setting .refusal
+
+-- Whether reading and the pass both refuse the bytes with this number.
+abbrev pub isRefused : List ℕ → ℕ → Bool
+isRefused bytes number = eqb (readOf bytes .refusal) number && eqb (refusalWith bytes []) number
+
+abbrev pub ten : List ℕ
+ten = 0 ∷ 0 ∷ 0 ∷ 0 ∷ 1 ∷ 0 ∷ 0 ∷ 0 ∷ 0 ∷ 0 ∷ []
+
+-- "13. Lengths 0, 4, 6, 10: refusal 2. C0 00 00 00 00: parity even, yet refusal 3."
+unfoldable pub case13 : Bool
+case13 =
+    isRefused (take 0 ten) 2 && isRefused (take 4 ten) 2 && isRefused (take 6 ten) 2 && isRefused ten 2 && isRefused (192 ∷ 0 ∷ 0 ∷ 0 ∷ 0 ∷ []) 3
+
+-- "15. ... 1,024 rows pass; 1,025 are refused."
+unfoldable pub rowsFit : Bool
+rowsFit = eqb (refusalWith (take 5 ten) (replicate 3072 0)) 0 && eqb (refusalWith (take 5 ten) (replicate 3075 0)) 5
