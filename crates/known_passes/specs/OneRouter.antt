@@ -6,6 +6,7 @@ use lib.Dec.{eqb}
 use lib.ListN.{take, replicate}
 use Rattle.packet.specs.Fields.{readOf}
 use Rattle.steps.specs.declared.Setting.{Setting}
+use Rattle.tables.specs.Tables.{chipTables}
 use Rattle.router.specs.Call.{passOf}
 
 -- "All links ready, phase 00, no rows, monitor 0 unless said"; one chip.
@@ -14,7 +15,7 @@ setting = record { width = 1; height = 1; monitor = 0; phase = 0; ready = 63 }
 
 -- What the pass of a packet from link 0 is refused with.
 abbrev pub refusalWith : List ℕ → List ℕ → ℕ
-refusalWith bytes rows = passOf bytes 0 rows (6 ∷ []) setting .refusal
+refusalWith bytes rows = passOf bytes 0 (chipTables rows (6 ∷ [])) setting .refusal
 
 -- Whether reading and the pass both refuse the bytes with this number.
 abbrev pub isRefused : List ℕ → ℕ → Bool
