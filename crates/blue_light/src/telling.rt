@@ -2,8 +2,8 @@
 use super::board::CHIPS;
 use super::board::Totals;
 use super::board::WORDS;
+use super::board::mark_on;
 use super::board::watched_link;
-use super::marks::mark_in_flight;
 use buffer::looking::look_link;
 use buffer::looking::look_mesh;
 use libc::STDOUT_FILENO;
@@ -58,7 +58,7 @@ fn sendings(mesh: &[u32; WORDS]) {
     while n < CHIPS * 6 {
         if look_link(mesh, n / 6, n % 6).held != 0 {
             sending(n / 6, n % 6);
-            mark(mark_in_flight(mesh));
+            mark(mark_on(mesh, n / 6, n % 6));
             light(mesh);
         }
         n += 1;

@@ -22,8 +22,8 @@ look-link-requires c κs = search needs
 sending-requires : tie.Need-sending-requires Inv-loop μ-loop
 sending-requires c κs = search needs
 
-mark-in-flight-requires : tie.Need-mark-in-flight-requires Inv-loop μ-loop
-mark-in-flight-requires c κs = search needs
+mark-on-requires : tie.Need-mark-on-requires Inv-loop μ-loop
+mark-on-requires c κs = search needs
 
 mark-requires : tie.Need-mark-requires Inv-loop μ-loop
 mark-requires c κs = search needs
@@ -53,7 +53,7 @@ sendings-spec =
     mul-loop
     look-link-requires
     sending-requires
-    mark-in-flight-requires
+    mark-on-requires
     mark-requires
     light-requires
     add-n
