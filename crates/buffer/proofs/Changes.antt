@@ -94,7 +94,7 @@ module _ (l : List ℕ) (chip link : ℕ) (up : Bool) where
   unfolding meshOf
   link-refused r e some =
       let f = refused-leaves (firstOf (numberRefusals (holdsMesh l) (chipsOf l) chip link 6)) (meshOf l) (record { mesh = withLink (meshOf l) chip link up; log = [] }) (λ z. some (e ∙ z)) l [] in
-      (e ∙ ap (λ (a : Added). a .refusal) (f .0), f .1 .0)
+      (e ∙ ap (λ (a : Added). a .refusal) (f .answered), f .buffer)
 
   pub link-leaves : firstOf (numberRefusals (holdsMesh l) (chipsOf l) chip link 6) ≡ 0
       → (0 ≡ linkLeft l chip link up .refusal) × Leaves l (putBack (chipPlace chip) chipLong (changedOn (stateOn up) (chipWords chip l) link) l) (linkLeft l chip link up)

@@ -16,8 +16,8 @@ use Rattle.buffer.specs.Holding.{holdsMesh, StatesFine}
 use Rattle.lists.specs.Lists.{All}
 use Rattle.mesh.specs.Sound.{SoundMesh}
 use Rattle.buffer.specs.Going.{arrival, Due, Passed}
-use Rattle.mesh.specs.Calls.{injectRefusals, addedOf, loggedOn}
-use Rattle.buffer.specs.Leaving.{Leaves, injectLeft}
+use Rattle.mesh.specs.Calls.{injectRefusals}
+use Rattle.buffer.specs.Leaving.{Moves, injectLeft}
 use Rattle.buffer.proofs.Counts.{holds-head, words-enough}
 use Rattle.mesh.proofs.SoundSteps.{sound-injected}
 use Rattle.buffer.proofs.SoundWords.{holds-sound, holds-states, sound-holds}
@@ -27,11 +27,10 @@ use Rattle.mesh.proofs.Accepts.{InjectGoes, inject-goes}
 use Rattle.links.specs.Offsets.{widthAt, heightAt, stateAt}
 
 pub inject-refused : (t : Tables) (l log : List ℕ) (chip : ℕ) (bytes : List ℕ) (r : ℕ) → r ≡ firstOf (injectRefusals (holdsMesh l) (chipsOf l) chip t (length log) bytes) → (r ≡ 0 → ⊥)
-    → (record { refusal = r; added = 0 } ≡ addedOf (injectLeft l t (length log) chip bytes))
-    × (Leaves l l (injectLeft l t (length log) chip bytes) × (log ≡ loggedOn (injectLeft l t (length log) chip bytes .log) log))
+    → Moves l log (injectLeft l t (length log) chip bytes) (record { refusal = r; added = 0 }) l log
 unfolding meshOf
 inject-refused t l log chip bytes r e some =
-    subst (λ (k : ℕ). (record { refusal = k; added = 0 } ≡ addedOf (injectLeft l t (length log) chip bytes)) × (Leaves l l (injectLeft l t (length log) chip bytes) × (log ≡ loggedOn (injectLeft l t (length log) chip bytes .log) log))) (sym e)
+    subst (λ (k : ℕ). Moves l log (injectLeft l t (length log) chip bytes) (record { refusal = k; added = 0 }) l log) (sym e)
     (refused-leaves (firstOf (injectRefusals (holdsMesh l) (chipsOf l) chip t (length log) bytes)) (meshOf l) (injected t same (meshOf l) chip (record { packet = packetAt bytes; tag = tt })) (λ z. some (e ∙ z)) l log)
 
 module _ (t : Tables) (l log : List ℕ) (chip : ℕ) (bytes : List ℕ) (none : firstOf (injectRefusals (holdsMesh l) (chipsOf l) chip t (length log) bytes) ≡ 0) where
@@ -75,10 +74,13 @@ module _ (t : Tables) (l log : List ℕ) (chip : ℕ) (bytes : List ℕ) (none :
         states-left
         (subst (λ (k : ℕ). wordsOf l₁ ≤ k) (sym (p .long)) (subst (λ (k : ℕ). k ≤ length l) (λ i. wordsFor (sym (number widthAt (lit< tt)) i) (sym (number heightAt (lit< tt)) i)) (words-enough l (go .holds))))
 
-    pub inject-leaves : (record { refusal = 0; added = n } ≡ addedOf (injectLeft l t (length log) chip bytes))
-        × (Leaves l l₁ (injectLeft l t (length log) chip bytes) × (log₁ ≡ loggedOn (injectLeft l t (length log) chip bytes .log) log))
+    pub inject-leaves : Moves l log (injectLeft l t (length log) chip bytes) (record { refusal = 0; added = n }) l₁ log₁
     unfolding meshOf
     inject-leaves =
         let r = firstOf (injectRefusals (holdsMesh l) (chipsOf l) chip t (length log) bytes) in
         let told = accepted-log r (meshOf l) after none log log₁ n (ap (λ (x : Going (Unit {0})). x .log) (p .going)) (p .behind) (p .room) (omega (arith, p .few, go .room)) in
-        (told .0, (accepted-leaves r (meshOf l) after none l l₁ (ap (λ (x : Going (Unit {0})). x .mesh) (p .going)) holds-left (p .long) (p .past), told .1))
+        record {
+          answered = told .0;
+          buffer = accepted-leaves r (meshOf l) after none l l₁ (ap (λ (x : Going (Unit {0})). x .mesh) (p .going)) holds-left (p .long) (p .past);
+          logged = told .1;
+        }

@@ -12,7 +12,7 @@ use Rattle.mesh.specs.Steps.{Going}
 use Rattle.buffer.specs.Layout.{meshOf, wordsOf}
 use Rattle.buffer.specs.Holding.{holdsMesh}
 use Rattle.mesh.specs.Calls.{addedOf, loggedOn, unless}
-use Rattle.buffer.specs.Leaving.{Leaves}
+use Rattle.buffer.specs.Leaving.{Leaves, Moves}
 use Rattle.links.specs.Offsets.{headerLong}
 
 module _ (r : ℕ) (m : Mesh (Unit {0})) (g : Going (Unit {0})) where
@@ -23,8 +23,9 @@ module _ (r : ℕ) (m : Mesh (Unit {0})) (g : Going (Unit {0})) where
   no-left e = simp (ne-eqb r 0 e)
 
   -- "A refused call changes nothing."
-  pub refused-leaves : (r ≡ 0 → ⊥) → (l log : List ℕ) → ((record { refusal = r; added = 0 } ≡ addedOf (unless r m g)) × (Leaves l l (unless r m g) × (log ≡ loggedOn (unless r m g .log) log)))
-  refused-leaves some l log = rw (no-left some) (refl, (record { refused = λ z. refl; mesh = λ z. absurd (some z); holds = λ z. absurd (some z); long = refl; past = refl }, refl))
+  pub refused-leaves : (r ≡ 0 → ⊥) → (l log : List ℕ) → Moves l log (unless r m g) (record { refusal = r; added = 0 }) l log
+  refused-leaves some l log = rw (no-left some)
+      (record { answered = refl; buffer = record { refused = λ z. refl; mesh = λ z. absurd (some z); holds = λ z. absurd (some z); long = refl; past = refl }; logged = refl })
 
   -- An accepted call leaves what it makes of the mesh.
   pub accepted-leaves : r ≡ 0 → (l l′ : List ℕ) → meshOf l′ ≡ g .mesh → holdsMesh l′ ≡ true → length l′ ≡ length l

@@ -64,7 +64,7 @@ module _ (l : List ℕ) (chip r : ℕ) (e : r ≡ firstOf (chipRefusals (holdsMe
   registers-refused some none z =
       let f = refused-leaves (firstOf (chipRefusals (holdsMesh l) (chipsOf l) chip)) (meshOf l) (record { mesh = withEmpty (meshOf l) chip; log = [] }) (λ k. some (e ∙ k)) l [] in (
         (λ i. record { refusal = e i; registers = (z ∙ sym (ap (λ (b : Bool). cond b (chipOf (meshOf l) chip .registers) empty) (ne-eqb _ 0 (λ k. some (e ∙ k))))) i }),
-        f .1 .0,
+        f .buffer,
       )
 
   pub registers-leave : r ≡ 0 → (found : Registers) → found ≡ registersIn (part (chipPlace chip) 6 l)

@@ -20,8 +20,8 @@ use Rattle.mesh.specs.Sound.{Arrives, SoundLine, SoundChip, SoundMesh}
 use Rattle.mesh.specs.Weights.{onLine, onChip, inFlight}
 use Rattle.buffer.specs.Aside.{AsideUpto}
 use Rattle.buffer.specs.Going.{asideFrom, goingIn, DueAside, Passed}
-use Rattle.mesh.specs.Calls.{Lent, roundRefusals, addedOf, loggedOn}
-use Rattle.buffer.specs.Leaving.{Leaves, roundLeft, overWords}
+use Rattle.mesh.specs.Calls.{Lent, roundRefusals}
+use Rattle.buffer.specs.Leaving.{Moves, roundLeft, overWords}
 use Rattle.lists.proofs.Alls.{all-getD, all-weaken}
 use Rattle.lists.proofs.Totals.{total-ones, total-most}
 use Rattle.buffer.proofs.Counts.{holds-head, held-few, words-enough}
@@ -72,10 +72,10 @@ module _ (t : Tables) (l log : List ℕ) where
   round-holds none = round-goes (holdsMesh l) (chipsOf l) (inFlight (meshOf l)) t (length log) none .holds
 
   pub round-refused : (r : ℕ) → r ≡ firstOf (roundRefusals (holdsMesh l) (chipsOf l) (inFlight (meshOf l)) t (length log)) → (r ≡ 0 → ⊥)
-      → (record { refusal = r; added = 0 } ≡ addedOf (roundLeft l t (length log))) × (Leaves l l (roundLeft l t (length log)) × (log ≡ loggedOn (roundLeft l t (length log) .log) log))
+      → Moves l log (roundLeft l t (length log)) (record { refusal = r; added = 0 }) l log
   unfolding meshOf
   round-refused r e some =
-      subst (λ (k : ℕ). (record { refusal = k; added = 0 } ≡ addedOf (roundLeft l t (length log))) × (Leaves l l (roundLeft l t (length log)) × (log ≡ loggedOn (roundLeft l t (length log) .log) log))) (sym e)
+      subst (λ (k : ℕ). Moves l log (roundLeft l t (length log)) (record { refusal = k; added = 0 }) l log) (sym e)
       (refused-leaves (firstOf (roundRefusals (holdsMesh l) (chipsOf l) (inFlight (meshOf l)) t (length log))) (meshOf l) (rounded t same (meshOf l)) (λ z. some (e ∙ z)) l log)
 
 module _ (t : Tables) (l log : List ℕ) (none : firstOf (roundRefusals (holdsMesh l) (chipsOf l) (inFlight (meshOf l)) t (length log)) ≡ 0) (l₁ : List ℕ) (u : AsideUpto (chipsOf l) (chipsOf l) l l₁) where
@@ -165,11 +165,10 @@ module _ (t : Tables) (l log : List ℕ) (none : firstOf (roundRefusals (holdsMe
         ∙ subst (λ (k : ℕ). drop k l₂ ≡ drop k l₁) (λ i. wordsFor (number widthAt (lit< tt) i) (number heightAt (lit< tt) i)) (p .past)
         ∙ u .past
 
-    pub round-leaves : (record { refusal = 0; added = n } ≡ addedOf (roundLeft l t (length log)))
-        × (Leaves l (overWords l₂) (roundLeft l t (length log)) × (log₂ ≡ loggedOn (roundLeft l t (length log) .log) log))
+    pub round-leaves : Moves l log (roundLeft l t (length log)) (record { refusal = 0; added = n }) (overWords l₂) log₂
     unfolding meshOf
     round-leaves =
         let r = firstOf (roundRefusals (holdsMesh l) (chipsOf l) (inFlight (meshOf l)) t (length log)) in
         let g = rounded t same (meshOf l) in
         let told = accepted-log r (meshOf l) g none log log₂ n (ap (λ (x : Going (Unit {0})). x .log) going) (p .behind) (p .room) (omega (arith, p .few, arrived, go .room)) in
-        (told .0, (accepted-leaves r (meshOf l) g none l (overWords l₂) mesh-left holds-left long-left past-left, told .1))
+        record { answered = told .0; buffer = accepted-leaves r (meshOf l) g none l (overWords l₂) mesh-left holds-left long-left past-left; logged = told .1 }

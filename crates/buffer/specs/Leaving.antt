@@ -11,7 +11,8 @@ use Rattle.links.specs.Offsets.{roundsAt, phaseAt, elapsedAt, stateAt}
 use Rattle.links.specs.Phase.{nextPhase}
 use Rattle.links.specs.Lines.{stateOf}
 use Rattle.mesh.specs.Steps.{Tables, same}
-use Rattle.mesh.specs.Calls.{Left, injecting, rounding, linking, emptying}
+use Rattle.mesh.specs.declared.Added.{Added}
+use Rattle.mesh.specs.Calls.{Left, addedOf, loggedOn, injecting, rounding, linking, emptying}
 
 -- A mesh buffer before and after a call that leaves r. "A refusal returns its number ..., and lent memory stays as it came." "Each buffer left by opening
 -- or by an accepted call holds one [a mesh]". Words past the needed length are never touched.
@@ -21,6 +22,16 @@ pub record Leaves (before after : List ℕ) (r : Left (Unit {0})) : Type 0 where
   pub holds : r .refusal ≡ 0 → holdsMesh after ≡ true
   pub long : length after ≡ length before
   pub past : drop (wordsOf before) after ≡ drop (wordsOf before) before
+
+-- A call that is lent a mesh and a log, where by the definition it leaves r and answers told: its answer, the buffer and every word of the log.
+pub record Gives (A : Type 0) (told : A) (before log : List ℕ) (r : Left (Unit {0})) (answer : A) (after written : List ℕ) : Type 0 where
+  pub answered : answer ≡ told
+  pub buffer : Leaves before after r
+  pub logged : written ≡ loggedOn (r .log) log
+
+-- An injection or a round, and any kept call made like one: it answers its refusal and how many records it added.
+abbrev pub Moves : List ℕ → List ℕ → Left (Unit {0}) → Added → List ℕ → List ℕ → Type 0
+Moves before log r answer after written = Gives Added (addedOf r) before log r answer after written
 
 abbrev pub injectLeft : List ℕ → Tables → ℕ → ℕ → List ℕ → Left (Unit {0})
 injectLeft l t room chip bytes = injecting (holdsMesh l) t same (meshOf l) room chip bytes tt

@@ -19,8 +19,7 @@ ghost use mathlib.Core.Path.{_≡_};
 ghost use lib.ListN.{length, getD};
 ghost use Prim.Native.Nat.{_≤_};
 ghost use Rattle.mesh.specs.Steps.{tablesOf};
-ghost use Rattle.mesh.specs.Calls.{addedOf, loggedOn};
-ghost use Rattle.buffer.specs.Leaving.{Leaves, injectLeft, roundLeft, overWords};
+ghost use Rattle.buffer.specs.Leaving.{Moves, injectLeft, roundLeft, overWords};
 ghost use Rattle.buffer.specs.Testing.{testedOf};
 ghost use Rattle.links.specs.Offsets.{elapsedAt, headerLong};
 
@@ -35,9 +34,7 @@ pub fn inject(
     starts: &[u32],
     codes: &[u8],
 ) -> Added
-    ensures { λ r. ⌜ r ≡ addedOf (injectLeft (now (mesh .entry)) (tablesOf (now (rows .entry)) (now (starts .entry)) (now (codes .entry))) (length (now (log .entry))) chip (now (bytes .entry))) ⌝ }
-    ensures { λ r. ⌜ Leaves (now (mesh .entry)) (now (mesh .exit)) (injectLeft (now (mesh .entry)) (tablesOf (now (rows .entry)) (now (starts .entry)) (now (codes .entry))) (length (now (log .entry))) chip (now (bytes .entry))) ⌝ }
-    ensures { λ r. ⌜ now (log .exit) ≡ loggedOn (injectLeft (now (mesh .entry)) (tablesOf (now (rows .entry)) (now (starts .entry)) (now (codes .entry))) (length (now (log .entry))) chip (now (bytes .entry)) .log) (now (log .entry)) ⌝ }
+    ensures { λ r. ⌜ Moves (now (mesh .entry)) (now (log .entry)) (injectLeft (now (mesh .entry)) (tablesOf (now (rows .entry)) (now (starts .entry)) (now (codes .entry))) (length (now (log .entry))) chip (now (bytes .entry))) r (now (mesh .exit)) (now (log .exit)) ⌝ }
 {
     let tested = test(mesh, rows, starts, codes);
     inject_tested(mesh, log, chip, bytes, rows, starts, codes, tested)
@@ -46,9 +43,7 @@ pub fn inject(
 // Passes all that is in flight; then, after each F rounds, the phase steps on. Refusals, the first that applies: 8 no mesh,
 // 5 rows, 11 codes, 10 log.
 pub fn round(mesh: &mut [u32], log: &mut [u32], rows: &[u32], starts: &[u32], codes: &[u8]) -> Added
-    ensures { λ r. ⌜ r ≡ addedOf (roundLeft (now (mesh .entry)) (tablesOf (now (rows .entry)) (now (starts .entry)) (now (codes .entry))) (length (now (log .entry)))) ⌝ }
-    ensures { λ r. ⌜ Leaves (now (mesh .entry)) (now (mesh .exit)) (roundLeft (now (mesh .entry)) (tablesOf (now (rows .entry)) (now (starts .entry)) (now (codes .entry))) (length (now (log .entry)))) ⌝ }
-    ensures { λ r. ⌜ now (log .exit) ≡ loggedOn (roundLeft (now (mesh .entry)) (tablesOf (now (rows .entry)) (now (starts .entry)) (now (codes .entry))) (length (now (log .entry))) .log) (now (log .entry)) ⌝ }
+    ensures { λ r. ⌜ Moves (now (mesh .entry)) (now (log .entry)) (roundLeft (now (mesh .entry)) (tablesOf (now (rows .entry)) (now (starts .entry)) (now (codes .entry))) (length (now (log .entry)))) r (now (mesh .exit)) (now (log .exit)) ⌝ }
 {
     let tested = test(mesh, rows, starts, codes);
     round_tested(mesh, log, rows, starts, codes, tested)
@@ -66,9 +61,7 @@ pub fn inject_tested(
     tested: Tested,
 ) -> Added
     requires { ⌜ tested ≡ testedOf (now mesh) (tablesOf (now rows) (now starts) (now codes)) ⌝ }
-    ensures { λ r. ⌜ r ≡ addedOf (injectLeft (now (mesh .entry)) (tablesOf (now (rows .entry)) (now (starts .entry)) (now (codes .entry))) (length (now (log .entry))) chip (now (bytes .entry))) ⌝ }
-    ensures { λ r. ⌜ Leaves (now (mesh .entry)) (now (mesh .exit)) (injectLeft (now (mesh .entry)) (tablesOf (now (rows .entry)) (now (starts .entry)) (now (codes .entry))) (length (now (log .entry))) chip (now (bytes .entry))) ⌝ }
-    ensures { λ r. ⌜ now (log .exit) ≡ loggedOn (injectLeft (now (mesh .entry)) (tablesOf (now (rows .entry)) (now (starts .entry)) (now (codes .entry))) (length (now (log .entry))) chip (now (bytes .entry)) .log) (now (log .entry)) ⌝ }
+    ensures { λ r. ⌜ Moves (now (mesh .entry)) (now (log .entry)) (injectLeft (now (mesh .entry)) (tablesOf (now (rows .entry)) (now (starts .entry)) (now (codes .entry))) (length (now (log .entry))) chip (now (bytes .entry))) r (now (mesh .exit)) (now (log .exit)) ⌝ }
 {
     let refusal = inject_refusal(mesh, tested, log.len(), chip, bytes);
     if refusal != 0 {
@@ -93,9 +86,7 @@ pub fn round_tested(
     tested: Tested,
 ) -> Added
     requires { ⌜ tested ≡ testedOf (now mesh) (tablesOf (now rows) (now starts) (now codes)) ⌝ }
-    ensures { λ r. ⌜ r ≡ addedOf (roundLeft (now (mesh .entry)) (tablesOf (now (rows .entry)) (now (starts .entry)) (now (codes .entry))) (length (now (log .entry)))) ⌝ }
-    ensures { λ r. ⌜ Leaves (now (mesh .entry)) (now (mesh .exit)) (roundLeft (now (mesh .entry)) (tablesOf (now (rows .entry)) (now (starts .entry)) (now (codes .entry))) (length (now (log .entry)))) ⌝ }
-    ensures { λ r. ⌜ now (log .exit) ≡ loggedOn (roundLeft (now (mesh .entry)) (tablesOf (now (rows .entry)) (now (starts .entry)) (now (codes .entry))) (length (now (log .entry))) .log) (now (log .entry)) ⌝ }
+    ensures { λ r. ⌜ Moves (now (mesh .entry)) (now (log .entry)) (roundLeft (now (mesh .entry)) (tablesOf (now (rows .entry)) (now (starts .entry)) (now (codes .entry))) (length (now (log .entry)))) r (now (mesh .exit)) (now (log .exit)) ⌝ }
 {
     let refusal = round_refusal(mesh, tested, log.len());
     if refusal != 0 {

@@ -26,8 +26,8 @@ use Rattle.buffer.specs.Layout.{meshOf, wordsFor, wordsOf}
 use Rattle.buffer.specs.Opening.{sizeOf, openRefusals, opening}
 use Rattle.buffer.specs.Holding.{holdsMesh}
 use Rattle.mesh.specs.Sound.{SoundLine}
-use Rattle.mesh.specs.Calls.{Left, addedOf, loggedOn, many, chipOf, lineOf, registersRead, countRead, meshRead, linkRead, flightRead}
-use Rattle.buffer.specs.Leaving.{Leaves, linkLeft}
+use Rattle.mesh.specs.Calls.{Left, many, chipOf, lineOf, registersRead, countRead, meshRead, linkRead, flightRead}
+use Rattle.buffer.specs.Leaving.{Leaves, Moves, linkLeft}
 use Rattle.trace.specs.declared.Call.{Call}
 use Rattle.trace.specs.declared.Written.{Written}
 use Rattle.trace.specs.declared.Record.{Record}
@@ -72,12 +72,7 @@ pub left-determined : (before a b : List ℕ) (r : Left (Unit {0})) → Leaves b
 left-determined before a b r x y =
     record { refused = λ some. x .refused some ∙ sym (y .refused some); mesh = λ none. x .mesh none ∙ sym (y .mesh none); past = x .past ∙ sym (y .past) }
 
--- What an injection or a round may give by its contract, where r is what it leaves by the definition: an answer, a buffer, a log.
-pub record Moves (before log : List ℕ) (r : Left (Unit {0})) (answer : Added) (after written : List ℕ) : Type 0 where
-  pub answered : answer ≡ addedOf r
-  pub buffer : Leaves before after r
-  pub logged : written ≡ loggedOn (r .log) log
-
+-- An injection or a round.
 pub moves-determined : (before log : List ℕ) (r : Left (Unit {0})) (x y : Added) (a b l k : List ℕ) → Moves before log r x a l → Moves before log r y b k
     → (x ≡ y) × (SameLeft before a b r × (l ≡ k))
 moves-determined before log r x y a b l k m n =

@@ -10,8 +10,7 @@ use Rattle.packet.specs.Refusal.{firstOf}
 use Rattle.mesh.specs.Mesh.{Mesh}
 use Rattle.buffer.specs.Layout.{meshOf}
 use Rattle.mesh.specs.Steps.{Tables, same}
-use Rattle.buffer.specs.Leaving.{Leaves}
-use Rattle.mesh.specs.Calls.{loggedOn}
+use Rattle.buffer.specs.Leaving.{Gives}
 use Rattle.buffer.specs.Opening.{openRefusals, opening}
 use Rattle.trace.specs.declared.Call.{Call as KeptCall}
 use Rattle.trace.specs.declared.Replayed.{Replayed}
@@ -98,10 +97,8 @@ addedIn (ofRegisters r) = 0
 addedIn (ofLook x) = 0
 
 -- A call on a buffer that holds a mesh, by its contract: the buffer before and after, the log as it was lent and as it came back, and the answer.
-pub record Called (before after lent written : List ℕ) (answer : Answer) (c : Call) : Type 0 where
-  pub buffer : Leaves before after (leftBy same tt (meshOf before) c)
-  pub answered : answer ≡ answerOf same tt (meshOf before) c
-  pub logged : written ≡ loggedOn (leftBy same tt (meshOf before) c .log) lent
+abbrev pub Called : List ℕ → List ℕ → List ℕ → List ℕ → Answer → Call → Type 0
+Called before after lent written answer c = Gives Answer (answerOf same tt (meshOf before) c) before lent (leftBy same tt (meshOf before) c) answer after written
 
 -- A buffer before, some steps, and, each by its contract: the buffer that they may leave, the records that they may add to their logs, joined, and what they may answer.
 pub data Run : List ℕ → List Step → List ℕ → List ℕ → List Reply → Type 0 where

@@ -11,13 +11,14 @@ use Rattle.mesh.specs.declared.Added.{Added}
 use Rattle.buffer.specs.Layout.{meshOf}
 use Rattle.buffer.specs.Holding.{holdsMesh}
 use Rattle.mesh.specs.Steps.{Tables, same}
+use Rattle.buffer.specs.Leaving.{Moves}
 use Rattle.mesh.specs.Calls.{Left, loggedOn}
 use Rattle.trace.specs.declared.Call.{Call}
 use Rattle.trace.specs.declared.Replayed.{Replayed}
 use Rattle.trace.specs.Replay.{Trace, refused, then, madeLeft, Replay, stopped, behind, replaying}
 use Rattle.trace.specs.Directly.{Made, injected, rounded, changed, emptied, Directly, done, unread, stops, goes, AsDirectly, OneReplay}
 use Rattle.trace.proofs.KeptSizes.{Keeps, keeps-made}
-use Rattle.trace.proofs.MadeCalls.{Gives, made-injection, made-round, made-change, made-read}
+use Rattle.trace.proofs.MadeCalls.{made-injection, made-round, made-change, made-read}
 
 -- what a run leaves, where x is what it is to leave
 record Left-by (l log l₁ log₁ : List ℕ) (r : Replayed) (x : Replay) : Type 0 where
@@ -27,9 +28,9 @@ record Left-by (l log l₁ log₁ : List ℕ) (r : Replayed) (x : Replay) : Type
   pub holds : holdsMesh l₁ ≡ holdsMesh l
 
 -- a call made by itself gives what the kept call gives
-gives : (t : Tables) (l log : List ℕ) (c : Call) {a : Added} {l₁ log₁ : List ℕ} → Made t l log c a l₁ log₁ → Gives t l log a l₁ log₁ (madeLeft l t (length log) c)
-gives t l log c (injected k x y z) = made-injection t l log c _ _ _ k (x, (y, z))
-gives t l log c (rounded k x y z) = made-round t l log c _ _ _ k (x, (y, z))
+gives : (t : Tables) (l log : List ℕ) (c : Call) {a : Added} {l₁ log₁ : List ℕ} → Made t l log c a l₁ log₁ → Moves l log (madeLeft l t (length log) c) a l₁ log₁
+gives t l log c (injected k x) = made-injection t l log c _ _ _ k x
+gives t l log c (rounded k x) = made-round t l log c _ _ _ k x
 gives t l log c (changed k x y) = made-change t l log c _ k _ x y
 gives t l log c (emptied k x y) = made-read t l log c _ (λ e. omega arith) (λ e. omega arith) (λ e. omega arith) _ x y
 
@@ -37,12 +38,12 @@ module _ (t : Tables) where
   abbrev onward : List ℕ → List ℕ → Trace → Replay
   onward l log tr = replaying (holdsMesh l) t (meshOf l) (length log) tr
 
-  module _ (l log l₁ log₁ : List ℕ) (c : Call) (n : ℕ) (rest : Trace) (a : Added) (m : Gives t l log a l₁ log₁ (madeLeft l t (length log) c)) where
+  module _ (l log l₁ log₁ : List ℕ) (c : Call) (n : ℕ) (rest : Trace) (a : Added) (m : Moves l log (madeLeft l t (length log) c) a l₁ log₁) where
     abbrev x : Left (Unit {0})
     x = madeLeft l t (length log) c
 
     number : a .refusal ≡ madeLeft l t (length log) c .refusal
-    number = ap (λ (b : Added). b .refusal) (m .0)
+    number = ap (λ (b : Added). b .refusal) (m .answered)
 
     keeps : Keeps (holdsMesh l) (meshOf l) (madeLeft l t (length log) c)
     keeps = keeps-made (holdsMesh l) t same tt (meshOf l) (length log) c
@@ -55,10 +56,10 @@ module _ (t : Tables) where
     left-stops some =
         let none : x .refusal ≡ 0 → ⊥ = λ z. some (number ∙ z) in
         let e : onward l log (then c n rest) ≡ stopped (x .refusal) (meshOf l) = ap choice (ne-eqb (x .refusal) 0 none) in
-        let kept : l₁ ≡ l = m .1 .0 .refused none in
+        let kept : l₁ ≡ l = m .buffer .refused none in
         record {
           answered = (λ i. record { refusal = number i; at = 0; added = 0 }) ∙ sym (ap (λ (y : Replay). record { refusal = y .refusal; at = y .at; added = length (y .log) / 6 }) e);
-          logged = m .1 .1 ∙ ap (λ (y : List ℕ). loggedOn y log) (keeps .none none) ∙ sym (ap (λ (y : Replay). loggedOn (y .log) log) e);
+          logged = m .logged ∙ ap (λ (y : List ℕ). loggedOn y log) (keeps .none none) ∙ sym (ap (λ (y : Replay). loggedOn (y .log) log) e);
           mesh = ap meshOf kept ∙ sym (ap (λ (y : Replay). y .mesh) e);
           holds = ap holdsMesh kept;
         }
@@ -68,22 +69,22 @@ module _ (t : Tables) where
       fine = sym number ∙ none
 
       size : a .added * 6 ≡ length (x .log)
-      size = omega (arith, ap (λ (b : Added). b .added) (m .0), keeps .sixes)
+      size = omega (arith, ap (λ (b : Added). b .added) (m .answered), keeps .sixes)
 
       told : take (a .added * 6) log₁ ≡ x .log
-      told = ap (take (a .added * 6)) (m .1 .1) ∙ take-at (x .log) (drop (length (x .log)) log) (a .added * 6) (sym size)
+      told = ap (take (a .added * 6)) (m .logged) ∙ take-at (x .log) (drop (length (x .log)) log) (a .added * 6) (sym size)
 
       untold : drop (a .added * 6) log₁ ≡ drop (length (x .log)) log
-      untold = ap (drop (a .added * 6)) (m .1 .1) ∙ drop-at (x .log) (drop (length (x .log)) log) (a .added * 6) (sym size)
+      untold = ap (drop (a .added * 6)) (m .logged) ∙ drop-at (x .log) (drop (length (x .log)) log) (a .added * 6) (sym size)
 
       left-goes : (l₂ log₂ : List ℕ) (r : Replayed) → Left-by l₁ (drop (a .added * 6) log₁) l₂ log₂ r (onward l₁ (drop (a .added * 6) log₁) rest)
           → Left-by l log l₂ (take (a .added * 6) log₁ ++ log₂) (record { refusal = r .refusal; at = n + r .at; added = a .added + r .added }) (onward l log (then c n rest))
       unfolding replaying
       left-goes l₂ log₂ r h =
           let y = onward l₁ (drop (a .added * 6) log₁) rest in
-          let held : holdsMesh l₁ ≡ holdsMesh l = m .1 .0 .holds fine ∙ sym (keeps .there fine) in
+          let held : holdsMesh l₁ ≡ holdsMesh l = m .buffer .holds fine ∙ sym (keeps .there fine) in
           let room : length (drop (a .added * 6) log₁) ≡ length log - length (x .log) = ap length untold ∙ length-drop (length (x .log)) log in
-          let mesh : meshOf l₁ ≡ x .mesh = m .1 .0 .mesh fine in
+          let mesh : meshOf l₁ ≡ x .mesh = m .buffer .mesh fine in
           let e : onward l log (then c n rest) ≡ behind n (x .log) y =
           ap choice (eq-eqb (x .refusal) 0 fine) ∙ sym (λ i. behind n (x .log) (replaying (held i) t (mesh i) (room i) rest)) in
           let count : a .added + r .added ≡ length (x .log ++ y .log) / 6 =

@@ -11,12 +11,11 @@ use Rattle.mesh.specs.declared.Added.{Added}
 use Rattle.buffer.specs.Layout.{meshOf}
 use Rattle.mesh.specs.Steps.{Tables}
 use Rattle.mesh.specs.Calls.{Left, loggedOn}
-use Rattle.buffer.specs.Leaving.{Leaves}
+use Rattle.buffer.specs.Leaving.{Leaves, Moves}
 use Rattle.trace.specs.declared.Call.{Call}
 use Rattle.trace.specs.declared.Record.{Record}
 use Rattle.trace.specs.Records.{bodyLength, readRefusals, chipAt, fiveAt, nineAt, callOf, recordRead}
 use Rattle.trace.specs.Replay.{madeLeft, oneLeft, OneDone}
-use Rattle.trace.proofs.MadeCalls.{Gives}
 
 -- a packet that is read has at most nine bytes
 pub read-packet : (s : List ℕ) → recordRead s .call .length ≤ 9
@@ -59,16 +58,16 @@ module _ (t : Tables) (s l log : List ℕ) (r : Record) (read : r ≡ recordRead
         logged = sym (ap (λ (x : Left (Unit {0})). loggedOn (x .log) log) e);
       }
 
-  pub record-made : r .refusal ≡ 0 → (a : Added) (l₁ log₁ : List ℕ) → Gives t l log a l₁ log₁ (madeLeft l t (length log) (r .call))
+  pub record-made : r .refusal ≡ 0 → (a : Added) (l₁ log₁ : List ℕ) → Moves l log (madeLeft l t (length log) (r .call)) a l₁ log₁
       → OneDone t s l log l₁ log₁ (record { refusal = a .refusal; length = r .length; added = a .added })
   record-made none a l₁ log₁ h =
       let e : oneLeft t s l (length log) ≡ madeLeft l t (length log) (r .call) =
       ap choice (eq-eqb (recordRead s .refusal) 0 (sym refusal ∙ none)) ∙ ap (λ (x : Record). madeLeft l t (length log) (x .call)) (sym read) in
-      let g = subst (Gives t l log a l₁ log₁) (sym e) h in
+      let g = subst (λ (x : Left (Unit {0})). Moves l log x a l₁ log₁) (sym e) h in
       record {
-        refusal = ap (λ (x : Added). x .refusal) (g .0);
+        refusal = ap (λ (x : Added). x .refusal) (g .answered);
         bytes = λ z. ap (λ (x : Record). x .length) read;
-        added = ap (λ (x : Added). x .added) (g .0);
-        buffer = g .1 .0;
-        logged = g .1 .1;
+        added = ap (λ (x : Added). x .added) (g .answered);
+        buffer = g .buffer;
+        logged = g .logged;
       }

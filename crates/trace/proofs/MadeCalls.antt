@@ -14,7 +14,7 @@ use Rattle.buffer.specs.Layout.{meshOf}
 use Rattle.buffer.specs.Holding.{holdsMesh}
 use Rattle.mesh.specs.Steps.{Tables, Going, setOut}
 use Rattle.mesh.specs.Calls.{Left, many, unless, chipRefusals, linkRefusals, withLink, withEmpty, addedOf, loggedOn, registersRead}
-use Rattle.buffer.specs.Leaving.{Leaves, injectLeft, roundLeft, linkLeft, registersLeft}
+use Rattle.buffer.specs.Leaving.{Leaves, Moves, injectLeft, roundLeft, linkLeft, registersLeft}
 use Rattle.trace.specs.declared.Call.{Call}
 use Rattle.trace.specs.Records.{packetOf}
 use Rattle.trace.specs.Replay.{madeLeft}
@@ -38,12 +38,13 @@ module _ {A : Type 0} (n : ℕ) (m : Mesh A) (g : Going A) where
       go false e = refl
 
 module _ (t : Tables) (l log : List ℕ) where
-  -- answer, buffer and log of a call that leaves x
-  abbrev pub Gives : Added → List ℕ → List ℕ → Left (Unit {0}) → Type 0
-  Gives r l₁ log₁ x = (r ≡ addedOf x) × (Leaves l l₁ x × (log₁ ≡ loggedOn (x .log) log))
-
-  quiet : (r : Added) (l₁ : List ℕ) (x : Left (Unit {0})) → x .log ≡ [] → r ≡ record { refusal = x .refusal; added = 0 } → Leaves l l₁ x → Gives r l₁ log x
-  quiet r l₁ x none e h = (e ∙ sym (ap (λ (z : List ℕ). addedOf (record { refusal = x .refusal; mesh = x .mesh; log = z })) none), (h, sym (ap (λ (z : List ℕ). loggedOn z log) none)))
+  quiet : (r : Added) (l₁ : List ℕ) (x : Left (Unit {0})) → x .log ≡ [] → r ≡ record { refusal = x .refusal; added = 0 } → Leaves l l₁ x → Moves l log x r l₁ log
+  quiet r l₁ x none e h =
+      record {
+        answered = e ∙ sym (ap (λ (z : List ℕ). addedOf (record { refusal = x .refusal; mesh = x .mesh; log = z })) none);
+        buffer = h;
+        logged = sym (ap (λ (z : List ℕ). loggedOn z log) none);
+      }
 
   module _ (c : Call) (r : Added) (l₁ log₁ : List ℕ) where
     abbrev a : Left (Unit {0})
@@ -58,28 +59,28 @@ module _ (t : Tables) (l log : List ℕ) where
     abbrev e : Left (Unit {0})
     e = registersLeft l (c .chip)
 
-    pub made-injection : c .kind ≡ 1 → Gives r l₁ log₁ (injectLeft l t (length log) (c .chip) (packetOf c)) → Gives r l₁ log₁ (madeLeft l t (length log) c)
-    made-injection k h = subst (Gives r l₁ log₁) (sym (by-1 a b d e (c .kind) k)) h
+    pub made-injection : c .kind ≡ 1 → Moves l log (injectLeft l t (length log) (c .chip) (packetOf c)) r l₁ log₁ → Moves l log (madeLeft l t (length log) c) r l₁ log₁
+    made-injection k h = subst (λ (x : Left (Unit {0})). Moves l log x r l₁ log₁) (sym (by-1 a b d e (c .kind) k)) h
 
-    pub made-round : c .kind ≡ 2 → Gives r l₁ log₁ (roundLeft l t (length log)) → Gives r l₁ log₁ (madeLeft l t (length log) c)
-    made-round k h = subst (Gives r l₁ log₁) (sym (by-2 a b d e (c .kind) k)) h
+    pub made-round : c .kind ≡ 2 → Moves l log (roundLeft l t (length log)) r l₁ log₁ → Moves l log (madeLeft l t (length log) c) r l₁ log₁
+    made-round k h = subst (λ (x : Left (Unit {0})). Moves l log x r l₁ log₁) (sym (by-2 a b d e (c .kind) k)) h
 
   module _ (c : Call) (l₁ : List ℕ) where
     pub made-change : c .kind ≡ 3 → (n : ℕ) → n ≡ linkLeft l (c .chip) (c .link) (eqb (c .up) 1) .refusal → Leaves l l₁ (linkLeft l (c .chip) (c .link) (eqb (c .up) 1))
-        → Gives (record { refusal = n; added = 0 }) l₁ log (madeLeft l t (length log) c)
+        → Moves l log (madeLeft l t (length log) c) (record { refusal = n; added = 0 }) l₁ log
     made-change k n number h =
         let x = linkLeft l (c .chip) (c .link) (eqb (c .up) 1) in
         let none = unless-quiet (firstOf (linkRefusals (holdsMesh l) (many (meshOf l)) (c .chip) (c .link))) (meshOf l) (setOut (withLink (meshOf l) (c .chip) (c .link) (eqb (c .up) 1))) refl in
-        subst (Gives (record { refusal = n; added = 0 }) l₁ log) (sym (by-3 (a c (record { refusal = n; added = 0 }) l₁ log) (b c (record { refusal = n; added = 0 }) l₁ log) x (registersLeft l (c .chip)) (c .kind) k))
+        subst (λ (y : Left (Unit {0})). Moves l log y (record { refusal = n; added = 0 }) l₁ log) (sym (by-3 (a c (record { refusal = n; added = 0 }) l₁ log) (b c (record { refusal = n; added = 0 }) l₁ log) x (registersLeft l (c .chip)) (c .kind) k))
         (quiet (record { refusal = n; added = 0 }) l₁ x none (λ i. record { refusal = number i; added = 0 }) h)
 
     pub made-read : (c .kind ≡ 1 → ⊥) → (c .kind ≡ 2 → ⊥) → (c .kind ≡ 3 → ⊥) → (r : RegistersRead) → r ≡ registersRead (holdsMesh l) (meshOf l) (c .chip)
         → Leaves l l₁ (registersLeft l (c .chip))
-        → Gives (record { refusal = r .refusal; added = 0 }) l₁ log (madeLeft l t (length log) c)
+        → Moves l log (madeLeft l t (length log) c) (record { refusal = r .refusal; added = 0 }) l₁ log
     made-read x y z r read h =
         let n = firstOf (chipRefusals (holdsMesh l) (many (meshOf l)) (c .chip)) in
         let g = setOut (withEmpty (meshOf l) (c .chip)) in
         let number : r .refusal ≡ registersLeft l (c .chip) .refusal = ap (λ (q : RegistersRead). q .refusal) read ∙ sym (unless-number n (meshOf l) g) in
         let answer : Added = record { refusal = r .refusal; added = 0 } in
-        subst (Gives answer l₁ log) (sym (by-else (a c answer l₁ log) (b c answer l₁ log) (linkLeft l (c .chip) (c .link) (eqb (c .up) 1)) (registersLeft l (c .chip)) (c .kind) x y z))
+        subst (λ (y : Left (Unit {0})). Moves l log y answer l₁ log) (sym (by-else (a c answer l₁ log) (b c answer l₁ log) (linkLeft l (c .chip) (c .link) (eqb (c .up) 1)) (registersLeft l (c .chip)) (c .kind) x y z))
         (quiet answer l₁ (registersLeft l (c .chip)) (unless-quiet n (meshOf l) g refl) (λ i. record { refusal = number i; added = 0 }) h)

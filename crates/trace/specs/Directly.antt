@@ -9,8 +9,8 @@ use Rattle.mesh.specs.declared.RegistersRead.{RegistersRead}
 use Rattle.buffer.specs.Layout.{meshOf, wordsOf}
 use Rattle.buffer.specs.Holding.{holdsMesh}
 use Rattle.mesh.specs.Steps.{Tables}
-use Rattle.mesh.specs.Calls.{addedOf, loggedOn, registersRead}
-use Rattle.buffer.specs.Leaving.{Leaves, injectLeft, roundLeft, linkLeft, registersLeft}
+use Rattle.mesh.specs.Calls.{registersRead}
+use Rattle.buffer.specs.Leaving.{Leaves, Moves, injectLeft, roundLeft, linkLeft, registersLeft}
 use Rattle.trace.specs.declared.Call.{Call}
 use Rattle.trace.specs.declared.Replayed.{Replayed}
 use Rattle.trace.specs.Records.{packetOf}
@@ -19,12 +19,9 @@ use Rattle.trace.specs.Replay.{Trace, over, refused, then, traceOf, repl
 -- One kept call made by itself, by the contract of the call that it is: injection, round, link change, read of registers. The last two are lent no log
 -- and add no record.
 pub data Made (t : Tables) (before log : List ℕ) (c : Call) : Added → List ℕ → List ℕ → Type 0 where
-  injected : {answer : Added} {after written : List ℕ} → c .kind ≡ 1 → answer ≡ addedOf (injectLeft before t (length log) (c .chip) (packetOf c))
-      → Leaves before after (injectLeft before t (length log) (c .chip) (packetOf c))
-      → written ≡ loggedOn (injectLeft before t (length log) (c .chip) (packetOf c) .log) log
+  injected : {answer : Added} {after written : List ℕ} → c .kind ≡ 1 → Moves before log (injectLeft before t (length log) (c .chip) (packetOf c)) answer after written
       → Made t before log c answer after written
-  rounded : {answer : Added} {after written : List ℕ} → c .kind ≡ 2 → answer ≡ addedOf (roundLeft before t (length log)) → Leaves before after (roundLeft before t (length log))
-      → written ≡ loggedOn (roundLeft before t (length log) .log) log
+  rounded : {answer : Added} {after written : List ℕ} → c .kind ≡ 2 → Moves before log (roundLeft before t (length log)) answer after written
       → Made t before log c answer after written
   changed : {number : ℕ} {after : List ℕ} → c .kind ≡ 3 → number ≡ linkLeft before (c .chip) (c .link) (eqb (c .up) 1) .refusal
       → Leaves before after (linkLeft before (c .chip) (c .link) (eqb (c .up) 1))

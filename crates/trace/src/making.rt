@@ -10,8 +10,7 @@ ghost use mathlib.Core.Path.{_≡_};
 ghost use lib.ListN.{length};
 ghost use Prim.Native.Nat.{_≤_};
 ghost use Rattle.mesh.specs.Steps.{tablesOf};
-ghost use Rattle.mesh.specs.Calls.{addedOf, loggedOn};
-ghost use Rattle.buffer.specs.Leaving.{Leaves};
+ghost use Rattle.buffer.specs.Leaving.{Moves};
 ghost use Rattle.buffer.specs.Testing.{testedOf};
 ghost use Rattle.trace.specs.Replay.{madeLeft};
 
@@ -25,9 +24,7 @@ pub fn make(
     tested: Tested,
 ) -> Added
     requires { ⌜ (call .length ≤ 9) × (tested ≡ testedOf (now mesh) (tablesOf (now rows) (now starts) (now codes))) ⌝ }
-    ensures { λ r. ⌜ r ≡ addedOf (madeLeft (now (mesh .entry)) (tablesOf (now (rows .entry)) (now (starts .entry)) (now (codes .entry))) (length (now (log .entry))) call) ⌝ }
-    ensures { λ r. ⌜ Leaves (now (mesh .entry)) (now (mesh .exit)) (madeLeft (now (mesh .entry)) (tablesOf (now (rows .entry)) (now (starts .entry)) (now (codes .entry))) (length (now (log .entry))) call) ⌝ }
-    ensures { λ r. ⌜ now (log .exit) ≡ loggedOn (madeLeft (now (mesh .entry)) (tablesOf (now (rows .entry)) (now (starts .entry)) (now (codes .entry))) (length (now (log .entry))) call .log) (now (log .entry)) ⌝ }
+    ensures { λ r. ⌜ Moves (now (mesh .entry)) (now (log .entry)) (madeLeft (now (mesh .entry)) (tablesOf (now (rows .entry)) (now (starts .entry)) (now (codes .entry))) (length (now (log .entry))) call) r (now (mesh .exit)) (now (log .exit)) ⌝ }
 {
     let kind = call.kind;
     match kind {

@@ -29,8 +29,8 @@ ghost use Rattle.buffer.specs.Opening.{sizeOf, openRefusals, opening};
 ghost use Rattle.buffer.specs.Layout.{meshOf};
 ghost use Rattle.buffer.specs.Holding.{holdsMesh};
 ghost use Rattle.mesh.specs.Steps.{tablesOf};
-ghost use Rattle.mesh.specs.Calls.{addedOf, loggedOn, registersRead, countRead, meshRead, linkRead, flightRead};
-ghost use Rattle.buffer.specs.Leaving.{Leaves, injectLeft, roundLeft, linkLeft, registersLeft};
+ghost use Rattle.mesh.specs.Calls.{registersRead, countRead, meshRead, linkRead, flightRead};
+ghost use Rattle.buffer.specs.Leaving.{Leaves, Moves, injectLeft, roundLeft, linkLeft, registersLeft};
 ghost use Rattle.trace.specs.Records.{recordRead, writtenOf, writtenOn};
 ghost use Rattle.trace.specs.Replay.{replayOf, Replays};
 ghost use Rattle.yagbolshen.specs.Settings.{settingOf};
@@ -118,9 +118,7 @@ pub extern "C" fn yagbolshen_inject(
     starts: &[u32],
     codes: &[u8],
 ) -> Added
-    ensures { λ r. ⌜ r ≡ addedOf (injectLeft (now (mesh .entry)) (tablesOf (now (rows .entry)) (now (starts .entry)) (now (codes .entry))) (length (now (log .entry))) chip (now (packet .entry))) ⌝ }
-    ensures { λ r. ⌜ Leaves (now (mesh .entry)) (now (mesh .exit)) (injectLeft (now (mesh .entry)) (tablesOf (now (rows .entry)) (now (starts .entry)) (now (codes .entry))) (length (now (log .entry))) chip (now (packet .entry))) ⌝ }
-    ensures { λ r. ⌜ now (log .exit) ≡ loggedOn (injectLeft (now (mesh .entry)) (tablesOf (now (rows .entry)) (now (starts .entry)) (now (codes .entry))) (length (now (log .entry))) chip (now (packet .entry)) .log) (now (log .entry)) ⌝ }
+    ensures { λ r. ⌜ Moves (now (mesh .entry)) (now (log .entry)) (injectLeft (now (mesh .entry)) (tablesOf (now (rows .entry)) (now (starts .entry)) (now (codes .entry))) (length (now (log .entry))) chip (now (packet .entry))) r (now (mesh .exit)) (now (log .exit)) ⌝ }
 {
     buffer::moving::inject(mesh, log, chip, packet, rows, starts, codes)
 }
@@ -134,9 +132,7 @@ pub extern "C" fn yagbolshen_round(
     starts: &[u32],
     codes: &[u8],
 ) -> Added
-    ensures { λ r. ⌜ r ≡ addedOf (roundLeft (now (mesh .entry)) (tablesOf (now (rows .entry)) (now (starts .entry)) (now (codes .entry))) (length (now (log .entry)))) ⌝ }
-    ensures { λ r. ⌜ Leaves (now (mesh .entry)) (now (mesh .exit)) (roundLeft (now (mesh .entry)) (tablesOf (now (rows .entry)) (now (starts .entry)) (now (codes .entry))) (length (now (log .entry)))) ⌝ }
-    ensures { λ r. ⌜ now (log .exit) ≡ loggedOn (roundLeft (now (mesh .entry)) (tablesOf (now (rows .entry)) (now (starts .entry)) (now (codes .entry))) (length (now (log .entry))) .log) (now (log .entry)) ⌝ }
+    ensures { λ r. ⌜ Moves (now (mesh .entry)) (now (log .entry)) (roundLeft (now (mesh .entry)) (tablesOf (now (rows .entry)) (now (starts .entry)) (now (codes .entry))) (length (now (log .entry)))) r (now (mesh .exit)) (now (log .exit)) ⌝ }
 {
     buffer::moving::round(mesh, log, rows, starts, codes)
 }
