@@ -20,7 +20,7 @@ inject-requires : tie.Need-inject-requires
 inject-requires c κs = search needs
 
 returns : tie.Need-returns
-returns c = ap (λ (r : Added). r .added) (c .inject .ensures .0)
+returns c = ap (λ (r : Added). r .added) (c .inject .ensures .answered)
 
 pub send-spec : {M : Type 1} → statement M
 send-spec =

@@ -17,7 +17,7 @@ round-requires : tie.Need-round-requires
 round-requires c κs = search needs
 
 returns : tie.Need-returns
-returns c = ap (λ (r : Added). r .added) (c .round .ensures .0)
+returns c = ap (λ (r : Added). r .added) (c .round .ensures .answered)
 
 pub turn-spec : {M : Type 1} → statement M
 turn-spec =

@@ -36,10 +36,10 @@ returns c =
     let called = c .before .before .before .before .before .before .before in
     let a = called .before .before .before .before .before .before .args in
     let e = called .round .ensures in
-    let held = round-held (a .mesh .now) (called .round .last .0) (e .1 .0) in
+    let held = round-held (a .mesh .now) (called .round .last .0) (e .buffer) in
     let flies = c .before .before .in-flight .ensures ∙ ap flight held in
-    let old = c .too-old .ensures ∙ ap (λ (log : List ℕ). tooOld log (a .chip)) (e .1 .1) in
-    (λ i. eqb (e .0 i .refusal) 0 && eqb (e .0 i .added) 1 && eqb (flies i) 0 && old i, held)
+    let old = c .too-old .ensures ∙ ap (λ (log : List ℕ). tooOld log (a .chip)) (e .logged) in
+    (λ i. eqb (e .answered i .refusal) 0 && eqb (e .answered i .added) 1 && eqb (flies i) 0 && old i, held)
 
 pub ends-spec : {M : Type 1} → statement M
 ends-spec =

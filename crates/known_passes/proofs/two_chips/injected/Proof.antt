@@ -30,7 +30,7 @@ returns c =
     let called = c .before .before .before in
     let a = called .before .before .before .before .before .before .before .args in
     let e = called .inject .ensures in
-    (λ i. eqb (e .0 i .refusal) 0 && eqb (e .0 i .added) 0, inject-held (a .mesh .now) _ (a .chip) (e .1 .0))
+    (λ i. eqb (e .answered i .refusal) 0 && eqb (e .answered i .added) 0, inject-held (a .mesh .now) _ (a .chip) (e .buffer))
 
 pub injected-spec : {M : Type 1} → statement M
 injected-spec =

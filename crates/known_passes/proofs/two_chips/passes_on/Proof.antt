@@ -31,9 +31,9 @@ returns c =
     let called = c .before .before .before .before .before in
     let a = called .before .before .before .before .before .before .args in
     let e = called .round .ensures in
-    let held = round-held (a .mesh .now) (called .round .last .0) (e .1 .0) in
+    let held = round-held (a .mesh .now) (called .round .last .0) (e .buffer) in
     let flies = c .in-flight .ensures ∙ ap flight held in
-    (λ i. eqb (e .0 i .refusal) 0 && eqb (e .0 i .added) 0 && eqb (flies i) (a .flying), held)
+    (λ i. eqb (e .answered i .refusal) 0 && eqb (e .answered i .added) 0 && eqb (flies i) (a .flying), held)
 
 pub passes-on-spec : {M : Type 1} → statement M
 passes-on-spec =
