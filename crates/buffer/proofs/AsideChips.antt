@@ -11,19 +11,19 @@ use Rattle.links.specs.Offsets.{stateAt, chipLong, chipPlace}
 use Rattle.links.specs.Words.{lineIn, asideIn}
 use Rattle.buffer.specs.Layout.{registersIn}
 use Rattle.lists.specs.Lists.{putBack}
-use Rattle.buffer.specs.Chips.{lineWords, Upto}
+use Rattle.buffer.specs.Chips.{lineWords, ChangedBut, from}
 use Rattle.buffer.specs.Passing.{chipWords}
 use Rattle.buffer.specs.Aside.{asideOn, ChipAside, AsideUpto}
 use Rattle.buffer.specs.Held.{Few}
 use Rattle.lists.proofs.Parts.{length-back, part-same, part-before, part-behind, take-before, drop-behind}
 use Rattle.buffer.proofs.ChipParts.{order}
-use Rattle.buffer.proofs.Upto.{line-long}
+use Rattle.buffer.proofs.LinksChanged.{line-long}
 use Rattle.buffer.proofs.Asides.{line-aside, aside-held, state-aside}
 
-pub chip-set-aside : (l k : List ℕ) → Few l → Upto asideOn 6 l k → ChipAside l k
+pub chip-set-aside : (l k : List ℕ) → Few l → ChangedBut asideOn (from 6) l k → ChipAside l k
 chip-set-aside l k h u =
     let line : (j : ℕ) → j < 6 → lineIn (lineWords j k) ≡ emptied (lineIn (lineWords j l)) =
-    λ j hj. ap lineIn (u .done j hj) ∙ line-aside (lineWords j l) (line-long j l hj (h .long)) (h .few j hj) in
+    λ j hj. ap lineIn (u .done j hj (λ h. omega arith)) ∙ line-aside (lineWords j l) (line-long j l hj (h .long)) (h .few j hj) in
     record {
       long = u .long;
       chip = λ i. record {
@@ -31,8 +31,8 @@ chip-set-aside l k h u =
         counters = record { count = u .counters i };
         lines = line 0 (lit< tt) i ∷ line 1 (lit< tt) i ∷ line 2 (lit< tt) i ∷ line 3 (lit< tt) i ∷ line 4 (lit< tt) i ∷ line 5 (lit< tt) i ∷ [];
       };
-      aside = λ j hj. ap asideIn (u .done j hj) ∙ aside-held (lineWords j l) (line-long j l hj (h .long)) (h .few j hj);
-      states = λ j hj. ap (λ (w : List ℕ). getD w stateAt 0) (u .done j hj) ∙ state-aside (lineWords j l) (line-long j l hj (h .long)) (h .few j hj);
+      aside = λ j hj. ap asideIn (u .done j hj (λ h. omega arith)) ∙ aside-held (lineWords j l) (line-long j l hj (h .long)) (h .few j hj);
+      states = λ j hj. ap (λ (w : List ℕ). getD w stateAt 0) (u .done j hj (λ h. omega arith)) ∙ state-aside (lineWords j l) (line-long j l hj (h .long)) (h .few j hj);
     }
 
 -- ---- chip after chip

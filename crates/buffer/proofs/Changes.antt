@@ -26,7 +26,7 @@ use Rattle.lists.proofs.Parts.{length-back, part-same, part-before, part-behind
 use Rattle.buffer.proofs.ChipParts.{order, words-other, words-same, chip-line}
 use Rattle.buffer.proofs.MeshParts.{mesh-chip, mesh-put}
 use Rattle.buffer.proofs.StepAt.{chip-long}
-use Rattle.buffer.proofs.Upto.{line-long}
+use Rattle.buffer.proofs.LinksChanged.{line-long}
 use Rattle.buffer.proofs.Headers.{head-same}
 use Rattle.mesh.proofs.SoundChanges.{sound-linked}
 use Rattle.buffer.proofs.Counts.{words-enough}

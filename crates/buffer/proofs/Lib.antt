@@ -11,6 +11,7 @@ pub mod Headers
 pub mod InjectCall
 pub mod Leaving
 pub mod LinkWords
+pub mod LinksChanged
 pub mod Logs
 pub mod Looks
 pub mod LooksAtFlights
@@ -20,7 +21,7 @@ pub mod Refusals
 pub mod RegistersCall
 pub mod RoundCall
 pub mod RoundWords
+pub mod Sending
 pub mod SoundWords
 pub mod StepAt
 pub mod Takes
-pub mod Upto

@@ -39,7 +39,9 @@ module _ (p : Packet) (s : ℕ) (tables : ChipTables) (t : Setting) (h : Checked
       let o = outcome-sets p s tables t in
       record {
         long = long;
+        sent = o .sent;
         dropped = o .dropped;
+        legSent = o .leg;
         lost = o .lost;
         room = λ i hi. (λ sent. ready-room l i hi (by-ready i (sends-ready p s tables t h from i hi sent)), λ leg. ready-room l i hi (by-ready i (legs-ready p s tables t h from i hi leg)));
         right = λ i hi sent. sent-right p s tables t h from (sent-no-error p s tables t h from i hi sent) i;

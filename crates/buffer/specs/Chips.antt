@@ -28,7 +28,9 @@ lineWords j l = part (linePlace j) lineLong l
 -- What a pass may ask of a chip: it sends only where there is room, and only packets whose length is right.
 pub record Takes (l : List ℕ) (o : Outcome) : Type 0 where
   pub long : length l ≡ chipLong
+  pub sent : o .sent < 64
   pub dropped : o .dropped < 64
+  pub legSent : o .«leg_sent» < 64
   pub lost : o .«leg_dropped» < 64
   pub room : (i : ℕ) → i < 6 → Room (lineWords i l) o i
   pub right : (i : ℕ) → i < 6 → has (o .sent) i ≡ true → Right (packetOn o i)
@@ -40,13 +42,20 @@ pub record ChipStep (before after : List ℕ) (o : Outcome) : Type 0 where
   pub chip : chipIn after ≡ chipAfter o tt (chipIn before)
   pub still : (j : ℕ) → j < 6 → still (lineWords j after) ≡ still (lineWords j before)
 
--- A chip's words before and after the words of its links below k were changed by f: all else is as it was.
-pub record Upto (f : ℕ → List ℕ → List ℕ) (k : ℕ) (before after : List ℕ) : Type 0 where
+-- A chip's words before and after the words of its links, all but the rest, were changed by f: all else is as it was.
+pub record ChangedBut (f : ℕ → List ℕ → List ℕ) (rest : ℕ → Type 0) (before after : List ℕ) : Type 0 where
   pub long : length after ≡ chipLong
   pub registers : part 0 registersLong after ≡ part 0 registersLong before
   pub counters : part countersAt countersLong after ≡ part countersAt countersLong before
-  pub done : (j : ℕ) → j < k → lineWords j after ≡ f j (lineWords j before)
-  pub todo : (j : ℕ) → k ≤ j → j < 6 → lineWords j after ≡ lineWords j before
+  pub done : (j : ℕ) → j < 6 → (rest j → ⊥) → lineWords j after ≡ f j (lineWords j before)
+  pub todo : (j : ℕ) → j < 6 → rest j → lineWords j after ≡ lineWords j before
+
+-- The rest where links are gone through by number and k is next; and by a set of those that are left.
+abbrev pub from : ℕ → ℕ → Type 0
+from k j = k ≤ j
+
+abbrev pub among : ℕ → ℕ → Type 0
+among set j = has set j ≡ true
 
 -- What a pass makes of a link's words.
 abbrev pub sending : Outcome → ℕ → List ℕ → List ℕ

@@ -29,7 +29,7 @@ ghost use Rattle.links.specs.Offsets.{lineLong, chipLong, linePlace};
 ghost use Rattle.links.specs.Lines.{Room};
 ghost use Rattle.links.specs.Line.{readyLinks};
 ghost use Rattle.buffer.specs.Layout.{registersIn, chipIn};
-ghost use Rattle.buffer.specs.Chips.{registerWords, changedOn, sending, Takes, ChipStep, Upto};
+ghost use Rattle.buffer.specs.Chips.{registerWords, changedOn, sending, Takes, ChipStep, ChangedBut, among};
 
 // The links that are ready now.
 pub fn ready_of(chip: &[u32]) -> u32
@@ -54,14 +54,16 @@ pub fn after(chip: &mut [u32], o: Outcome)
     send_all(chip, o);
 }
 
+// Only the links that send are gone through, lowest first.
 fn send_all(chip: &mut [u32], o: Outcome)
     requires { ⌜ Takes (now chip) o ⌝ }
-    ensures { λ _. ⌜ Upto (sending o) 6 (now (chip .entry)) (now (chip .exit)) ⌝ }
+    ensures { λ _. ⌜ ChangedBut (sending o) (among 0) (now (chip .entry)) (now (chip .exit)) ⌝ }
 {
-    let mut i = 0;
-    while i < 6 {
+    let mut rest = o.sent | o.leg_sent;
+    while rest != 0 {
+        let i = u32::trailing_zeros(rest);
         send_on(chip, o, i);
-        i += 1;
+        rest = rest & (rest - 1);
     }
 }
 

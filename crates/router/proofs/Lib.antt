@@ -1,3 +1,3 @@
 pub mod Inputs
-pub mod LowestFirst
 pub mod Shown
+pub mod ShownSoFar

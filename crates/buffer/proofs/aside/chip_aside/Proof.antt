@@ -6,9 +6,9 @@ use Prim.Native.Nat.{ℕ, suc, _+_, _*_, _-_, _≤_, _<_}
 use mathlib.Core.List.{List}
 use lib.ListN.{getD}
 use Rattle.lists.specs.Lists.{putBack}
-use Rattle.buffer.specs.Chips.{lineWords, Upto}
+use Rattle.buffer.specs.Chips.{lineWords, ChangedBut, from}
 use Rattle.buffer.specs.Aside.{asideOn}
-use Rattle.buffer.proofs.Upto.{begin, next, line-long}
+use Rattle.buffer.proofs.LinksChanged.{by-number, begin, next, line-long}
 use Rattle.buffer.proofs.Asides.{length-aside}
 use Rattle.buffer.proofs.AsideChips.{chip-set-aside}
 use Rattle.buffer.proofs.aside.chip_aside.Statement.{statement}
@@ -16,13 +16,13 @@ use Rattle.buffer.proofs.aside.chip_aside.Tie as tie
 use Rattle.links.specs.Offsets.{heldAt, lineLong, linesAt}
 
 abbrev Inv-loop : tie.InvT-loop
-Inv-loop chip₀ i₀ chip i = (i ≤ 6) × Upto asideOn i chip₀ chip
+Inv-loop chip₀ i₀ chip i = (i ≤ 6) × ChangedBut asideOn (from i) chip₀ chip
 
 abbrev μ-loop : tie.MeasureT-loop
 μ-loop chip₀ i₀ chip i = 6 - i
 
 loop-holds : tie.Need-loop-holds Inv-loop μ-loop
-loop-holds c = (omega arith, begin asideOn _ (c .before .pre .long))
+loop-holds c = (omega arith, begin asideOn (from 0) _ (c .before .pre .long) (λ j hj out. absurd (out (omega arith))))
 
 mul-at : tie.Need-mul-at Inv-loop μ-loop
 mul-at c = omega arith
@@ -52,7 +52,7 @@ line-aside-requires c κs =
     let u = at .inv .1 in
     let hi : i < 6 = c .before .loop-test .taken in
     rw (add-sub-cancel-left (linesAt + i * lineLong) lineLong)
-    (line-long i (at .chip) hi (u .long), subst (λ (w : List ℕ). getD w heldAt 0 ≤ 8) (sym (u .todo i (omega arith) hi)) (c .before .before .before .before .pre .few i hi))
+    (line-long i (at .chip) hi (u .long), subst (λ (w : List ℕ). getD w heldAt 0 ≤ 8) (sym (u .todo i hi (omega arith))) (c .before .before .before .before .pre .few i hi))
 
 add-i : tie.Need-add-i Inv-loop μ-loop
 add-i c = omega arith
@@ -70,8 +70,8 @@ loop-again c =
     let sized = length-aside (lineWords i l) (line-long i l hi (pre .long)) (pre .few i hi) in (
       omega arith,
       rw (add-sub-cancel-left (linesAt + i * lineLong) lineLong, add-one)
-          (subst (λ (ys : List ℕ). Upto asideOn (suc i) l (putBack (linesAt + i * lineLong) lineLong ys (at .chip))) (sym (rw (add-sub-cancel-left (linesAt + i * lineLong) lineLong) at (c .before .before .line-aside .ensures)))
-          (next asideOn i l (at .chip) hi sized (at .inv .1))),
+          (subst (λ (ys : List ℕ). ChangedBut asideOn (from (suc i)) l (putBack (linesAt + i * lineLong) lineLong ys (at .chip))) (sym (rw (add-sub-cancel-left (linesAt + i * lineLong) lineLong) at (c .before .before .line-aside .ensures)))
+          (next asideOn (from i) (from (suc i)) i l (at .chip) hi (by-number i) sized (at .inv .1))),
     )
 
 same-length : tie.Need-same-length Inv-loop μ-loop

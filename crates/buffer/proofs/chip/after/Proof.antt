@@ -1,7 +1,7 @@
 use borrow.Author.Needs.{needs}
 use mathlib.Core.Path.{_≡_, ap}
 use lib.ListN.{length}
-use Rattle.buffer.proofs.Upto.{takes-on, finish}
+use Rattle.buffer.proofs.LinksChanged.{takes-on, finish}
 use Rattle.buffer.proofs.chip.after.Statement.{statement}
 use Rattle.buffer.proofs.chip.after.Tie as tie
 

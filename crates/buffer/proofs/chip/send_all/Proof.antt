@@ -1,50 +1,52 @@
 use mathlib.Core.Path.{_≡_, sym, _∙_, subst}
 use native.Mathlib.Omega.{arith}
-use Prim.Native.Nat.{_≤_, _-_}
-use native.Mathlib.Numerals.{add-one}
 use mathlib.Core.List.{List}
-use Prim.Native.Nat.{ℕ}
-use Rattle.buffer.proofs.Upto.{begin, next, sends-long}
-use Rattle.buffer.specs.Chips.{sending, Upto}
+use Prim.Native.Nat.{ℕ, _<_}
+use lib.Bits.{or-lt}
+use lib.Count.{trailingZeros}
 use Rattle.links.specs.Lines.{Room}
+use Rattle.steps.proofs.LowestFirst.{lowest-link}
+use Rattle.buffer.specs.Chips.{sending, ChangedBut, among}
+use Rattle.buffer.proofs.LinksChanged.{begin, next, sends-long}
+use Rattle.buffer.proofs.Sending.{sends-nothing, by-lowest}
 use Rattle.buffer.proofs.chip.send_all.Statement.{statement}
 use Rattle.buffer.proofs.chip.send_all.Tie as tie
 
 abbrev Inv-loop : tie.InvT-loop
-Inv-loop chip₀ o i₀ chip i = (i ≤ 6) × Upto (sending o) i chip₀ chip
+Inv-loop chip₀ o rest₀ chip rest = (rest < 64) × ChangedBut (sending o) (among rest) chip₀ chip
 
 abbrev μ-loop : tie.MeasureT-loop
-μ-loop chip₀ o i₀ chip i = 6 - i
+μ-loop chip₀ o rest₀ chip rest = rest
 
 loop-holds : tie.Need-loop-holds Inv-loop μ-loop
-loop-holds c = (omega arith, begin _ _ (c .before .pre .long))
+loop-holds c = (or-lt 6 _ _ (c .before .before .pre .sent) (c .before .before .pre .legSent), begin (sending (c .before .before .args .o)) (among _) _ (c .before .before .pre .long) (λ j hj out. sends-nothing (c .before .before .args .o) j _ out))
 
 send-on-requires : tie.Need-send-on-requires Inv-loop μ-loop
 send-on-requires c κs =
     let at = c .before .before .loop in
-    let i = at .i in
-    let u = at .inv .1 in
-    let hi = c .before .loop-test .taken in
-    (u .long, (hi, subst (λ (w : List ℕ). Room w (c .before .before .before .before .args .o) i) (sym (u .todo i (omega arith) hi)) (c .before .before .before .before .pre .room i hi)))
+    let low = lowest-link (at .rest) (at .inv .0) (c .before .loop-test .taken) in
+    let s = c .before .before .before .before .before in
+    let i = trailingZeros 32 (at .rest) in
+    (at .inv .1 .long, (low .below, subst (λ (w : List ℕ). Room w (s .args .o) i) (sym (at .inv .1 .todo i (low .below) (low .there))) (s .pre .room i (low .below))))
 
-add-i : tie.Need-add-i Inv-loop μ-loop
-add-i c = omega arith
+sub-rest : tie.Need-sub-rest Inv-loop μ-loop
+sub-rest c = omega (arith, lowest-link (c .before .before .before .before .before .loop .rest) (c .before .before .before .before .before .loop .inv .0) (c .before .before .before .before .loop-test .taken) .less)
 
 loop-less : tie.Need-loop-less Inv-loop μ-loop
-loop-less c = omega arith
+loop-less c = lowest-link (c .before .before .before .before .before .loop .rest) (c .before .before .before .before .before .loop .inv .0) (c .before .before .before .before .loop-test .taken) .less
 
 loop-again : tie.Need-loop-again Inv-loop μ-loop
 loop-again c =
     let at = c .before .before .before .before .before .loop in
-    let i = at .i in
-    let hi = c .before .before .before .before .loop-test .taken in
-    (omega arith, rw (c .before .before .send-on .ensures, add-one) (next _ i _ _ hi (sends-long i _ _ hi (c .before .before .before .before .before .before .before .pre)) (at .inv .1)))
+    let low = lowest-link (at .rest) (at .inv .0) (c .before .before .before .before .loop-test .taken) in
+    let s = c .before .before .before .before .before .before .before .before in
+    (omega (arith, low .less, at .inv .0), rw (c .before .before .send-on .ensures) (next (sending (s .args .o)) (among (at .rest)) (among _) _ (s .args .chip .now) (at .chip) (low .below) (by-lowest _ _ _ low) (sends-long _ _ _ (low .below) (s .pre)) (at .inv .1)))
 
 same-length : tie.Need-same-length Inv-loop μ-loop
-same-length c = c .before .loop .inv .1 .long ∙ sym (c .before .before .before .pre .long)
+same-length c = c .before .loop .inv .1 .long ∙ sym (c .before .before .before .before .pre .long)
 
 returns : tie.Need-returns Inv-loop μ-loop
-returns c = let e : c .before .loop .i ≡ 6 = omega arith in rw e at (c .before .loop .inv .1)
+returns c = let e : c .before .loop .rest ≡ 0 = c .loop-test .left in rw e at (c .before .loop .inv .1)
 
 pub send-all-spec : {M : Type 1} → statement M
 send-all-spec =
@@ -54,7 +56,7 @@ send-all-spec =
     μ-loop
     loop-holds
     send-on-requires
-    add-i
+    sub-rest
     loop-less
     loop-again
     same-length

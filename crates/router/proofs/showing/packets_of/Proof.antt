@@ -8,7 +8,8 @@ use lib.Count.{trailingZeros}
 use lib.Dec.{eqb}
 use lib.ListN.{set, replicate}
 use Rattle.steps.specs.Links.{has}
-use Rattle.router.proofs.LowestFirst.{shownBut, none-yet, all-shown, lowest-link, step}
+use Rattle.steps.proofs.LowestFirst.{lowest-link}
+use Rattle.router.proofs.ShownSoFar.{shownBut, none-yet, all-shown, step}
 use Rattle.router.proofs.showing.packets_of.Statement.{statement}
 use Rattle.router.proofs.showing.packets_of.Tie as tie
 

@@ -1,6 +1,6 @@
--- A chip's words while its links are being changed, one after the other; and what the chip is once a pass has been put into all six. Assumes
--- nothing.
+-- A chip's words while its links are being changed, one after the other; and what the chip is once a pass has been put into all six.
 use mathlib.Core.Path.{_≡_, refl, sym, ap, _∙_, subst}
+use mathlib.Core.Bool.{not, false≢true}
 use mathlib.Core.Logic.{_⊎_, inl, inr}
 use mathlib.Core.List.{List, [], _∷_}
 use Prim.Native.Nat.{ℕ, suc, _+_, _≤_, _<_}
@@ -8,7 +8,9 @@ use native.Mathlib.Omega.{arith}
 use lib.ListN.{length, drop, length-drop}
 use lib.Seq.{length-take-le}
 use lib.Dec.{lit<}
+use Rattle.packet.proofs.Small.{every, at}
 use Rattle.steps.specs.declared.Outcome.{Outcome}
+use Rattle.steps.specs.Links.{has}
 use Rattle.kept.specs.Keeping.{keptOf}
 use Rattle.kept.specs.Counting.{countedOf}
 use Rattle.links.specs.Offsets.{headerLong, lineLong, registersLong, countersLong, countersAt, chipLong, linePlace}
@@ -18,7 +20,7 @@ use Rattle.links.specs.Words.{lineIn}
 use Rattle.links.specs.Lines.{sentWords, Room, still}
 use Rattle.mesh.specs.Steps.{linesAfter}
 use Rattle.buffer.specs.Layout.{registersIn}
-use Rattle.buffer.specs.Chips.{changedOn, sending, registerWords, lineWords, Takes, ChipStep, Upto}
+use Rattle.buffer.specs.Chips.{changedOn, sending, registerWords, lineWords, Takes, ChipStep, ChangedBut, from, among}
 use Rattle.lists.proofs.Parts.{length-back, part-same, part-before, part-behind}
 use Rattle.buffer.proofs.ChipParts.{order, words-other, words-same}
 use Rattle.links.proofs.Places.{line-sent, still-sent, length-sent}
@@ -26,24 +28,39 @@ use Rattle.links.proofs.Places.{line-sent, still-sent, length-sent}
 pub line-long : (j : ℕ) (l : List ℕ) → j < 6 → length l ≡ chipLong → length (lineWords j l) ≡ lineLong
 line-long j l h k = length-take-le lineLong (drop (linePlace j) l) (simp length-drop (omega arith))
 
+-- of two rests, the second is the first without k
+pub record Without (rest : ℕ → Type 0) (k : ℕ) (rest′ : ℕ → Type 0) : Type 0 where
+  pub there : rest k
+  pub others : (j : ℕ) → j < 6 → rest′ j → rest j × (j ≡ k → ⊥)
+  pub gone : (j : ℕ) → j < 6 → (rest′ j → ⊥) → (j ≡ k → ⊥) → rest j → ⊥
+
+-- no link is in the empty set
+none-among : (j : ℕ) → j < 6 → among 0 j → ⊥
+unfolding every
+none-among j h e = false≢true (ap not (sym e) ∙ at 6 (λ i. not (has 0 i)) refl j h)
+
+pub by-number : (k : ℕ) → Without (from k) k (from (suc k))
+by-number k = record { there = omega arith; others = λ j hj h. (omega arith, λ e. omega arith); gone = λ j hj out ne h. out (omega arith) }
+
 module _ (f : ℕ → List ℕ → List ℕ) where
-  -- no link yet
-  pub begin : (l : List ℕ) → length l ≡ chipLong → Upto f 0 l l
-  begin l h = record { long = h; registers = refl; counters = refl; done = λ j f. absurd (omega arith); todo = λ j f hj. refl }
+  -- no link yet: those that are not in the rest have nothing to change
+  pub begin : (rest : ℕ → Type 0) (l : List ℕ) → length l ≡ chipLong → ((j : ℕ) → j < 6 → (rest j → ⊥) → f j (lineWords j l) ≡ lineWords j l) → ChangedBut f rest l l
+  begin rest l h same = record { long = h; registers = refl; counters = refl; done = λ j hj out. sym (same j hj out); todo = λ j hj g. refl }
 
   -- one link more
-  pub next : (k : ℕ) (before l : List ℕ) → k < 6 → length (f k (lineWords k before)) ≡ lineLong → Upto f k before l → Upto f (suc k) before (changedOn f l k)
-  next k before l hk sized u =
+  pub next : (rest rest′ : ℕ → Type 0) (k : ℕ) (before l : List ℕ) → k < 6 → Without rest k rest′ → length (f k (lineWords k before)) ≡ lineLong → ChangedBut f rest before l
+      → ChangedBut f rest′ before (changedOn f l k)
+  next rest rest′ k before l hk w sized u =
       record {
         long = length-back (linePlace k) lineLong ys l fits long ∙ u .long;
         registers = part-before (linePlace k) lineLong ys l fits long 0 6 (omega arith) ∙ u .registers;
         counters = part-before (linePlace k) lineLong ys l fits long 6 10 (omega arith) ∙ u .counters;
         done = finished;
-        todo = λ j h hj. words-other k hk ys l (u .long) long j (λ e. omega arith) ∙ u .todo j (omega arith) hj;
+        todo = λ j hj h. words-other k hk ys l (u .long) long j (λ e. w .others j hj h .1 (sym e)) ∙ u .todo j hj (w .others j hj h .0);
       }
     where
       same : lineWords k l ≡ lineWords k before
-      same = u .todo k (omega arith) hk
+      same = u .todo k hk (w .there)
 
       ys : List ℕ
       ys = f k (lineWords k l)
@@ -54,14 +71,17 @@ module _ (f : ℕ → List ℕ → List ℕ) where
       fits : linePlace k + lineLong ≤ length l
       fits = omega (arith, u .long)
 
-      finished : (j : ℕ) → j < suc k → lineWords j (changedOn f l k) ≡ f j (lineWords j before)
-      finished j h = go (order k j)
+      finished : (j : ℕ) → j < 6 → (rest′ j → ⊥) → lineWords j (changedOn f l k) ≡ f j (lineWords j before)
+      finished j hj out = go (order k j)
         where
+          other : (j ≡ k → ⊥) → lineWords j (changedOn f l k) ≡ f j (lineWords j before)
+          other ne = words-other k hk ys l (u .long) long j (λ e. ne (sym e)) ∙ u .done j hj (w .gone j hj out ne)
+
           go : (k < j) ⊎ ((k ≡ j) ⊎ (j < k)) → lineWords j (changedOn f l k) ≡ f j (lineWords j before)
-          go (inl g) = absurd (omega arith)
+          go (inl g) = other (λ e. omega arith)
           go (inr (inl e)) = subst (λ (m : ℕ). lineWords m (changedOn f l k) ≡ f m (lineWords m before)) e
               (words-same k hk ys l (u .long) long ∙ ap (f k) same)
-          go (inr (inr g)) = words-other k hk ys l (u .long) long j (λ e. omega arith) ∙ u .done j g
+          go (inr (inr g)) = other (λ e. omega arith)
 
 -- what a pass sends fits
 pub sends-long : (k : ℕ) (l : List ℕ) (o : Outcome) → k < 6 → Takes l o → length (sending o k (lineWords k l)) ≡ lineLong
@@ -89,7 +109,9 @@ module _ (l ws cs : List ℕ) (o : Outcome) (h : length l ≡ chipLong) (lw : le
   takes-on t =
       record {
         long = after-long;
+        sent = t .sent;
         dropped = t .dropped;
+        legSent = t .legSent;
         lost = t .lost;
         room = λ i hi. subst (λ (w : List ℕ). Room w o i) (sym (untouched i)) (t .room i hi);
         right = t .right;
@@ -97,7 +119,7 @@ module _ (l ws cs : List ℕ) (o : Outcome) (h : length l ≡ chipLong) (lw : le
       }
 
   pub finish : ws ≡ registerWords (keptOf (registersIn (part 0 registersLong l)) o) → cs ≡ countedOf (record { count = part countersAt countersLong (putBack 0 registersLong ws l) }) o .count → Takes l o
-      → (k : List ℕ) → Upto (sending o) 6 (putBack 6 10 cs (putBack 0 registersLong ws l)) k → ChipStep l k o
+      → (k : List ℕ) → ChangedBut (sending o) (among 0) (putBack 6 10 cs (putBack 0 registersLong ws l)) k → ChipStep l k o
   unfolding linesAfter
   finish ew ec t k u =
       let r : part 0 registersLong k ≡ registerWords (keptOf (registersIn (part 0 registersLong l)) o) =
@@ -106,7 +128,7 @@ module _ (l ws cs : List ℕ) (o : Outcome) (h : length l ≡ chipLong) (lw : le
       u .counters ∙ part-same 6 10 cs (putBack 0 registersLong ws l) fits₁ lc ∙ ec
       ∙ ap (λ (w : List ℕ). countedOf (record { count = w }) o .count) (part-behind 0 6 ws l fits₀ lw 6 10 (omega arith)) in
       let words : (j : ℕ) → j < 6 → lineWords j k ≡ sentWords (lineWords j l) o j =
-      λ j hj. u .done j hj ∙ ap (λ (w : List ℕ). sentWords w o j) (untouched j) in
+      λ j hj. u .done j hj (none-among j hj) ∙ ap (λ (w : List ℕ). sentWords w o j) (untouched j) in
       let line : (j : ℕ) → j < 6 → lineIn (lineWords j k) ≡ lineAfter o tt j (lineIn (lineWords j l)) =
       λ j hj. ap lineIn (words j hj) ∙ line-sent (lineWords j l) o j (line-long j l hj h) (t .room j hj) (t .right j hj) (t .leg j hj) in
       record {
