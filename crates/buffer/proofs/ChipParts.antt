@@ -8,13 +8,14 @@ use native.Mathlib.Decide.{decLt}
 use lib.ListN.{length, getD, set, length-set}
 use lib.Dec.{lit<}
 use lib.Seq.{getD-set-same, getD-set-other}
+use Rattle.kept.specs.declared.Registers.{Registers}
 use Rattle.lists.proofs.Six.{six}
 use Rattle.links.specs.Offsets.{widthAt, heightAt, roundsAt, monitorAt, phaseAt, elapsedAt, lineLong, registersLong, countersLong, countersAt, chipLong, linePlace}
 use Rattle.links.specs.Line.{Line, idle}
 use Rattle.lists.specs.Lists.{part, putBack}
 use Rattle.links.specs.Words.{lineIn}
 use Rattle.mesh.specs.Mesh.{Chip}
-use Rattle.buffer.specs.Layout.{registersIn, chipIn}
+use Rattle.buffer.specs.Layout.{registersIn, registerWords, chipIn}
 use Rattle.buffer.specs.Chips.{lineWords}
 use Rattle.lists.proofs.Parts.{part-same, part-before, part-behind}
 
@@ -22,6 +23,10 @@ abbrev pub withLine : Chip (Unit {0}) → ℕ → Line (Unit {0}) → Chip (Unit
 withLine c i x = record { registers = c .registers; counters = c .counters; lines = set (c .lines) i x }
 
 -- two numbers, one below the other or equal
+-- registers put into words are there
+pub registers-back : (r : Registers) → registersIn (registerWords r) ≡ r
+registers-back r = refl
+
 pub order : (i j : ℕ) → (i < j) ⊎ ((i ≡ j) ⊎ (j < i))
 order i j = go (decLt i j) (decLt j i)
   where

@@ -19,10 +19,10 @@ use Rattle.lists.specs.Lists.{part, putBack}
 use Rattle.links.specs.Words.{lineIn}
 use Rattle.links.specs.Lines.{sentWords, Room, still}
 use Rattle.mesh.specs.Steps.{linesAfter}
-use Rattle.buffer.specs.Layout.{registersIn}
-use Rattle.buffer.specs.Chips.{changedOn, sending, registerWords, lineWords, Takes, ChipStep, ChangedBut, from, among}
+use Rattle.buffer.specs.Layout.{registersIn, registerWords}
+use Rattle.buffer.specs.Chips.{changedOn, sending, lineWords, Takes, ChipStep, ChangedBut, from, among}
 use Rattle.lists.proofs.Parts.{length-back, part-same, part-before, part-behind}
-use Rattle.buffer.proofs.ChipParts.{order, words-other, words-same}
+use Rattle.buffer.proofs.ChipParts.{registers-back, order, words-other, words-same}
 use Rattle.links.proofs.Places.{line-sent, still-sent, length-sent}
 
 pub line-long : (j : ℕ) (l : List ℕ) → j < 6 → length l ≡ chipLong → length (lineWords j l) ≡ lineLong
@@ -134,7 +134,7 @@ module _ (l ws cs : List ℕ) (o : Outcome) (h : length l ≡ chipLong) (lw : le
       record {
         long = u .long;
         chip = λ i. record {
-          registers = registersIn (r i);
+          registers = (ap registersIn r ∙ registers-back _) i;
           counters = record { count = c i };
           lines = line 0 (lit< tt) i ∷ line 1 (lit< tt) i ∷ line 2 (lit< tt) i ∷ line 3 (lit< tt) i ∷ line 4 (lit< tt) i ∷ line 5 (lit< tt) i ∷ [];
         };

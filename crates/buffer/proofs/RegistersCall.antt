@@ -1,11 +1,11 @@
 -- A chip's registers read, on a mesh's words: handed over and emptied.
-use mathlib.Core.Path.{_≡_, sym, ap, _∙_, subst}
+use mathlib.Core.Path.{_≡_, refl, sym, ap, _∙_, subst}
 use mathlib.Core.Bool.{Bool, cond}
-use mathlib.Core.List.{List, [], _∷_, _++_}
+use mathlib.Core.List.{List, [], _∷_}
 use Prim.Native.Nat.{ℕ, _+_, _≤_}
 use native.Mathlib.Omega.{arith}
-use lib.ListN.{length, getD, drop, replicate, length-append, length-drop}
-use lib.Seq.{take-take, length-take-le}
+use lib.ListN.{length, getD, drop}
+use lib.Seq.{take-take}
 use borrow.Author.Tests.{eq-eqb, ne-eqb}
 use Rattle.packet.specs.Refusal.{firstOf}
 use Rattle.kept.specs.declared.Registers.{Registers}
@@ -14,7 +14,7 @@ use Rattle.mesh.specs.Mesh.{Chip}
 use Rattle.lists.specs.Lists.{part, putBack}
 use Rattle.links.specs.Offsets.{stateAt, lineLong, registersLong, countersLong, countersAt, chipLong, chipPlace, linePlace}
 use Rattle.links.specs.Words.{lineIn}
-use Rattle.buffer.specs.Layout.{registersIn, chipIn, meshOf, chipsOf}
+use Rattle.buffer.specs.Layout.{registersIn, registerWords, chipIn, meshOf, chipsOf}
 use Rattle.mesh.specs.Steps.{withChip}
 use Rattle.buffer.specs.Holding.{holdsMesh}
 use Rattle.buffer.specs.Chips.{lineWords}
@@ -22,6 +22,7 @@ use Rattle.buffer.specs.Passing.{chipWords}
 use Rattle.mesh.specs.Calls.{chipRefusals, chipOf, withEmpty, registersRead}
 use Rattle.buffer.specs.Leaving.{Leaves, registersLeft}
 use Rattle.lists.proofs.Parts.{length-back, part-same, part-behind}
+use Rattle.buffer.proofs.ChipParts.{registers-back}
 use Rattle.buffer.proofs.MeshParts.{mesh-chip, mesh-put}
 use Rattle.buffer.proofs.StepAt.{chip-long}
 use Rattle.mesh.proofs.SoundChanges.{sound-emptied}
@@ -30,30 +31,23 @@ use Rattle.buffer.proofs.Leaving.{refused-leaves}
 use Rattle.buffer.proofs.Looks.{chip-there}
 use Rattle.buffer.proofs.Changes.{chip-leaves}
 
--- six zeros in the place of the registers
-abbrev zeros : List ℕ → List ℕ
-zeros w = replicate registersLong 0 ++ drop registersLong (part 0 registersLong w)
-
 module _ (w : List ℕ) (long : length w ≡ chipLong) where
-  sized : length (zeros w) ≡ 6
-  sized = simp (length-append, length-drop) (omega (arith, length-take-le 6 w (omega arith)))
-
   fits : 0 + registersLong ≤ length w
   fits = omega arith
 
-  behind : (b k : ℕ) → registersLong ≤ b → part b k (putBack 0 registersLong (zeros w) w) ≡ part b k w
-  behind b k h = part-behind 0 6 (zeros w) w fits sized b k (omega arith)
+  behind : (b k : ℕ) → registersLong ≤ b → part b k (putBack 0 registersLong (registerWords empty) w) ≡ part b k w
+  behind b k h = part-behind 0 6 (registerWords empty) w fits refl b k (omega arith)
 
-  emptied-long : length (putBack 0 registersLong (zeros w) w) ≡ chipLong
-  emptied-long = length-back 0 6 (zeros w) w fits sized ∙ long
+  emptied-long : length (putBack 0 registersLong (registerWords empty) w) ≡ chipLong
+  emptied-long = length-back 0 6 (registerWords empty) w fits refl ∙ long
 
-  line-kept : (j : ℕ) → lineWords j (putBack 0 registersLong (zeros w) w) ≡ lineWords j w
+  line-kept : (j : ℕ) → lineWords j (putBack 0 registersLong (registerWords empty) w) ≡ lineWords j w
   line-kept j = behind (linePlace j) lineLong (omega arith)
 
-  chip-emptied : chipIn (putBack 0 registersLong (zeros w) w) ≡ record { registers = empty; counters = chipIn w .counters; lines = chipIn w .lines }
+  chip-emptied : chipIn (putBack 0 registersLong (registerWords empty) w) ≡ record { registers = empty; counters = chipIn w .counters; lines = chipIn w .lines }
   chip-emptied =
       λ i. record {
-        registers = registersIn (part-same 0 6 (zeros w) w fits sized i);
+        registers = (ap registersIn (part-same 0 6 (registerWords empty) w fits refl) ∙ registers-back empty) i;
         counters = record { count = behind countersAt countersLong (omega arith) i };
         lines = lineIn (line-kept 0 i) ∷ lineIn (line-kept 1 i) ∷ lineIn (line-kept 2 i) ∷ lineIn (line-kept 3 i) ∷ lineIn (line-kept 4 i) ∷ lineIn (line-kept 5 i) ∷ [];
       }
@@ -69,14 +63,14 @@ module _ (l : List ℕ) (chip r : ℕ) (e : r ≡ firstOf (chipRefusals (holdsMe
 
   pub registers-leave : r ≡ 0 → (found : Registers) → found ≡ registersIn (part (chipPlace chip) 6 l)
       → (record { refusal = 0; registers = found } ≡ registersRead (holdsMesh l) (meshOf l) chip)
-      × Leaves l (putBack (chipPlace chip) chipLong (putBack 0 registersLong (replicate registersLong 0 ++ drop registersLong (part 0 registersLong (chipWords chip l))) (chipWords chip l)) l) (registersLeft l chip)
+      × Leaves l (putBack (chipPlace chip) chipLong (putBack 0 registersLong (registerWords empty) (chipWords chip l)) l) (registersLeft l chip)
   unfolding meshOf
   registers-leave none found f =
       let off : firstOf (chipRefusals (holdsMesh l) (chipsOf l) chip) ≡ 0 = sym e ∙ none in
       let h = chip-there l chip off in
       let w = chipWords chip l in
       let whole : length w ≡ chipLong = chip-long l chip (h .fits) in
-      let ys = putBack 0 registersLong (zeros w) w in
+      let ys = putBack 0 registersLong (registerWords empty) w in
       let mesh : meshOf (putBack (chipPlace chip) chipLong ys l) ≡ withEmpty (meshOf l) chip =
       mesh-put chip ys l (h .fits) (emptied-long w whole) (h .near) ∙ ap (withChip (meshOf l) chip) (chip-emptied w whole)
       ∙ ap (λ (c : Chip (Unit {0})). withChip (meshOf l) chip (record { registers = empty; counters = c .counters; lines = c .lines })) (sym (mesh-chip l chip (h .near))) in

@@ -16,7 +16,6 @@ use Rattle.links.specs.Offsets.{heldAt, chipLong}
 use Rattle.links.specs.Line.{isReady, idle, readyLinks}
 use Rattle.links.specs.Words.{lineIn}
 use Rattle.links.proofs.Places.{length-places}
-use Rattle.mesh.specs.Mesh.{readyOf}
 use Rattle.mesh.proofs.Fitting.{sends-ready, legs-ready, sent-right, leg-right, sent-no-error, leg-no-error}
 use Rattle.buffer.specs.Layout.{chipIn}
 use Rattle.buffer.specs.Chips.{lineWords, Takes}

@@ -2,10 +2,9 @@
 use Prim.Native.Nat.{ℕ, _≤_, _<_}
 use mathlib.Core.Path.{_≡_}
 use mathlib.Core.Bool.{true}
-use mathlib.Core.List.{List, [], _∷_}
+use mathlib.Core.List.{List}
 use lib.ListN.{length}
 use Rattle.steps.specs.declared.Outcome.{Outcome}
-use Rattle.kept.specs.declared.Registers.{Registers}
 use Rattle.steps.specs.Links.{has}
 use Rattle.steps.specs.Deciding.{packetOn, legPacket}
 use Rattle.lists.specs.Lists.{part, putBack}
@@ -13,9 +12,6 @@ use Rattle.links.specs.Offsets.{lineLong, registersLong, countersLong, counters
 use Rattle.links.specs.Lines.{sentWords, Room, still, Right}
 use Rattle.buffer.specs.Layout.{chipIn}
 use Rattle.mesh.specs.Steps.{chipAfter}
-
-abbrev pub registerWords : Registers → List ℕ
-registerWords r = r .control ∷ r .word ∷ r .payload ∷ r .link ∷ r .leg ∷ r .more ∷ []
 
 -- The words of link i changed by f.
 abbrev pub changedOn : (ℕ → List ℕ → List ℕ) → List ℕ → ℕ → List ℕ

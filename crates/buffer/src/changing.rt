@@ -1,9 +1,9 @@
 // The calls that change one thing: a link's state, a chip's registers.
 use super::holding::holds;
-use super::holding::registers_at;
-use super::opening::clear;
 use super::refusing::chip_refusal;
 use super::refusing::number_refusal;
+use super::registers::put_registers;
+use super::registers::registers_at;
 use kept::keeping::empty_registers;
 use links::line::set_state;
 use links::offsets::CHIP;
@@ -13,11 +13,11 @@ use links::offsets::LINES_AT;
 use links::offsets::REGISTERS;
 use mesh::RegistersRead;
 ghost use mathlib.Core.Path.{_≡_};
-ghost use mathlib.Core.List.{_++_};
-ghost use lib.ListN.{length, drop, replicate};
+ghost use lib.ListN.{length};
 ghost use Prim.Native.Nat.{_<_};
-ghost use Rattle.lists.specs.Lists.{part, putBack};
-ghost use Rattle.buffer.specs.Layout.{meshOf};
+ghost use Rattle.kept.specs.Keeping.{empty};
+ghost use Rattle.lists.specs.Lists.{putBack};
+ghost use Rattle.buffer.specs.Layout.{meshOf, registerWords};
 ghost use Rattle.buffer.specs.Holding.{holdsMesh};
 ghost use Rattle.buffer.specs.Chips.{changedOn};
 ghost use Rattle.mesh.specs.Calls.{registersRead};
@@ -87,7 +87,7 @@ fn link_on_chip(chip: &mut [u32], link: usize, up: bool)
 
 fn empty_chip(chip: &mut [u32])
     requires { ⌜ length (now chip) ≡ chipLong ⌝ }
-    ensures { λ _. ⌜ now (chip .exit) ≡ putBack 0 registersLong (replicate registersLong 0 ++ drop registersLong (part 0 registersLong (now (chip .entry)))) (now (chip .entry)) ⌝ }
+    ensures { λ _. ⌜ now (chip .exit) ≡ putBack 0 registersLong (registerWords empty) (now (chip .entry)) ⌝ }
 {
-    clear(&mut chip[0..REGISTERS], REGISTERS);
+    put_registers(&mut chip[0..REGISTERS], empty_registers());
 }

@@ -1,6 +1,7 @@
 // One chip, as the words that hold it: registers, counters, six links.
+use super::registers::put_registers;
+use super::registers::registers_at;
 use kept::Counters;
-use kept::Registers;
 use kept::counting::counted_of;
 use kept::keeping::kept_of;
 use links::line::is_ready;
@@ -28,8 +29,8 @@ ghost use Rattle.lists.specs.Lists.{part};
 ghost use Rattle.links.specs.Offsets.{lineLong, chipLong, linePlace};
 ghost use Rattle.links.specs.Lines.{Room};
 ghost use Rattle.links.specs.Line.{readyLinks};
-ghost use Rattle.buffer.specs.Layout.{registersIn, chipIn};
-ghost use Rattle.buffer.specs.Chips.{registerWords, changedOn, sending, Takes, ChipStep, ChangedBut, among};
+ghost use Rattle.buffer.specs.Layout.{registersIn, registerWords, chipIn};
+ghost use Rattle.buffer.specs.Chips.{changedOn, sending, Takes, ChipStep, ChangedBut, among};
 
 // The links that are ready now.
 pub fn ready_of(chip: &[u32]) -> u32
@@ -84,21 +85,8 @@ fn keep(words: &mut [u32], o: Outcome)
     if (o.dropped == 0) & (o.leg_dropped == 0) {
         return;
     }
-    let r = Registers {
-        control: words[0],
-        word: words[1],
-        payload: words[2],
-        link: words[3],
-        leg: words[4],
-        more: words[5],
-    };
-    let k = kept_of(r, o);
-    words[0] = k.control;
-    words[1] = k.word;
-    words[2] = k.payload;
-    words[3] = k.link;
-    words[4] = k.leg;
-    words[5] = k.more;
+    let k = kept_of(registers_at(words), o);
+    put_registers(words, k);
 }
 
 // Counts a pass in the ten words of the counters.

@@ -1,6 +1,7 @@
 // Whether a buffer holds a mesh.
 use super::opening::rounds_fine;
 use super::opening::words_for;
+use super::registers::registers_at;
 use kept::Registers;
 use links::line::packet_at;
 use links::offsets::CHIP;
@@ -31,25 +32,9 @@ use tables::size::size_fine;
 ghost use mathlib.Core.Path.{_≡_};
 ghost use lib.ListN.{length, drop};
 ghost use Prim.Native.Nat.{_+_, _*_, _≤_};
-ghost use Rattle.buffer.specs.Layout.{registersIn};
 ghost use Rattle.mesh.specs.Sound.{packetFine, registersFine};
 ghost use Rattle.buffer.specs.Holding.{placesFine, lineFine, chipFine, chipsFine, headFine, holdsMesh};
 ghost use Rattle.links.specs.Offsets.{headerLong, placesAt, placeLong, lineLong, chipLong};
-
-// The error registers in their six words.
-pub fn registers_at(words: &[u32]) -> Registers
-    requires { ⌜ length (now words) ≡ 6 ⌝ }
-    ensures { λ r. ⌜ r ≡ registersIn (now (words .entry)) ⌝ }
-{
-    Registers {
-        control: words[0],
-        word: words[1],
-        payload: words[2],
-        link: words[3],
-        leg: words[4],
-        more: words[5],
-    }
-}
 
 // Whether the buffer is long enough and every stored number is in range.
 pub fn holds(mesh: &[u32]) -> bool

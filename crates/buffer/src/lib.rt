@@ -12,4 +12,5 @@ pub mod moving;
 pub mod opening;
 mod passing;
 mod refusing;
+mod registers;
 pub mod testing;

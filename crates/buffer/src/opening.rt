@@ -81,7 +81,7 @@ pub fn rounds_fine(rounds: u32) -> bool
 }
 
 // Zeros in the first words.
-pub fn clear(mesh: &mut [u32], count: usize)
+fn clear(mesh: &mut [u32], count: usize)
     requires { ⌜ count ≤ length (now mesh) ⌝ }
     ensures { λ _. ⌜ now (mesh .exit) ≡ replicate count 0 ++ drop count (now (mesh .entry)) ⌝ }
 {

@@ -1,0 +1,31 @@
+// The error registers to and from their six words.
+use kept::Registers;
+ghost use mathlib.Core.Path.{_≡_};
+ghost use lib.ListN.{length};
+ghost use Rattle.buffer.specs.Layout.{registersIn, registerWords};
+
+pub fn registers_at(words: &[u32]) -> Registers
+    requires { ⌜ length (now words) ≡ 6 ⌝ }
+    ensures { λ r. ⌜ r ≡ registersIn (now (words .entry)) ⌝ }
+{
+    Registers {
+        control: words[0],
+        word: words[1],
+        payload: words[2],
+        link: words[3],
+        leg: words[4],
+        more: words[5],
+    }
+}
+
+pub fn put_registers(words: &mut [u32], r: Registers)
+    requires { ⌜ length (now words) ≡ 6 ⌝ }
+    ensures { λ _. ⌜ now (words .exit) ≡ registerWords r ⌝ }
+{
+    words[0] = r.control;
+    words[1] = r.word;
+    words[2] = r.payload;
+    words[3] = r.link;
+    words[4] = r.leg;
+    words[5] = r.more;
+}
