@@ -1,4 +1,4 @@
-// What was set aside arrives: chips by number, arrival links 0 to 5, oldest first.
+// All passes of a round, one after the other: what was set aside, chips by number, arrival links 0 to 5, oldest first.
 use super::going::pass_one;
 use links::across::aside_place;
 use links::line::packet_at;

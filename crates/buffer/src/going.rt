@@ -1,4 +1,4 @@
-// Passes one after the other, each at a chip with its own tables and with its record in the log.
+// One pass and what goes with it: the chip's own tables out of all that are lent, and its record in the log.
 use super::logging::write_record;
 use super::passing::pass_at;
 use links::offsets::HEIGHT;

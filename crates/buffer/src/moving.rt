@@ -1,4 +1,5 @@
-// The calls that move packets: injection and round.
+// The two calls that move packets, injection and round: whether they are refused, and else their passes, one (`going`) or all of
+// a round (`arriving`).
 use super::arriving::pass_chips;
 use super::aside::set_aside;
 use super::going::pass_one;

@@ -1,4 +1,4 @@
-// One pass at a chip of the mesh: that of the router, with the chip's own ready set.
+// One pass alone, at a chip of the mesh with its tables: that of the router, with the chip's own ready set.
 use super::chip::after;
 use super::chip::ready_of;
 use links::offsets::CHIP;
