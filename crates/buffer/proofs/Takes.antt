@@ -11,6 +11,8 @@ use Rattle.steps.specs.declared.Setting.{Setting}
 use Rattle.steps.specs.Links.{has}
 use Rattle.steps.specs.Deciding.{outcomeOf, Source, Checked}
 use Rattle.steps.proofs.Bounds.{outcome-sets}
+use Rattle.steps.proofs.SentBy.{sends-ready, legs-ready, sent-no-error, leg-no-error}
+use Rattle.steps.proofs.SentPackets.{sent-right, leg-right}
 use Rattle.steps.proofs.Sets.{has-set}
 use Rattle.links.specs.Offsets.{heldAt, chipLong}
 use Rattle.links.specs.Line.{isReady, idle, readyLinks}

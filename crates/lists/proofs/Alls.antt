@@ -10,6 +10,12 @@ module _ {X : Type 0} (P : X → Type 0) where
   unfolding All
   all-nil = tt
 
+  -- of every element, where it holds of anything
+  pub all-any : ((x : X) → P x) → (xs : List X) → All P xs
+  unfolding All
+  all-any h [] = tt
+  all-any h (x ∷ xs) = (h x, all-any h xs)
+
   pub all-append : (xs ys : List X) → All P xs → All P ys → All P (xs ++ ys)
   unfolding All
   all-append [] ys a b = b
@@ -30,6 +36,13 @@ module _ {X : Type 0} (P : X → Type 0) where
   all-getD [] i d a h = absurd (omega arith)
   all-getD (x ∷ xs) zero d a h = a .0
   all-getD (x ∷ xs) (suc i) d a h = all-getD xs i d (a .1) (omega arith)
+
+  -- of an element, or of what stands for one that is not there
+  pub all-or : (xs : List X) (i : ℕ) (d : X) → All P xs → P d → P (getD xs i d)
+  unfolding All
+  all-or [] i d a h = h
+  all-or (x ∷ xs) zero d a h = a .0
+  all-or (x ∷ xs) (suc i) d a h = all-or xs i d (a .1) h
 
   pub all-set : (xs : List X) (i : ℕ) (x : X) → All P xs → P x → All P (set xs i x)
   unfolding All

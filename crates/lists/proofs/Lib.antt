@@ -1,4 +1,5 @@
 pub mod Alls
+pub mod Changed
 pub mod Parts
 pub mod Six
 pub mod Sums

@@ -1,11 +1,12 @@
--- A part of a list put back after a change: what stands in it, before it and behind it.
-use mathlib.Core.Path.{_≡_, sym, ap, _∙_}
-use mathlib.Core.List.{List, [], _∷_, _++_}
+-- Parts of a list: one put back after a change, what stands in it, before it and behind it; one copied number by number.
+use mathlib.Core.Path.{_≡_, refl, sym, ap, _∙_}
+use mathlib.Core.List.{List, [], _∷_, _++_, append-assoc}
 use Prim.Native.Nat.{ℕ, zero, suc, _+_, _-_, _≤_, _<_}
 use native.Mathlib.Nat.{zero-add, suc-add}
+use native.Mathlib.Numerals.{add-one}
 use native.Mathlib.Omega.{arith}
-use lib.ListN.{length, getD, take, drop, length-take, length-drop, length-append}
-use lib.Seq.{length-take-le, take-append-le, take-at, drop-at, drop-drop, take-take, take-nil, getD-take}
+use lib.ListN.{length, getD, set, take, drop, length-take, length-drop, length-append}
+use lib.Seq.{length-take-le, take-append-le, take-at, drop-at, drop-drop, take-take, take-nil, take-suc, drop-cons, set-at, getD-take}
 use Rattle.lists.specs.Lists.{part, putBack}
 
 -- a part is the end of a beginning
@@ -13,6 +14,23 @@ pub take-drop : (b k : ℕ) (l : List ℕ) → take k (drop b l) ≡ drop b (tak
 take-drop zero k l = ap (λ (m : ℕ). take m l) (sym (zero-add k))
 take-drop (suc b) k [] = take-nil k ∙ sym (ap (λ (m : ℕ). drop (suc b) (take m [])) (suc-add b k))
 take-drop (suc b) k (x ∷ l) = take-drop b k l ∙ ap (λ (m : ℕ). drop (suc b) (take m (x ∷ l))) (sym (suc-add b k))
+
+-- nothing is left behind a list's end
+pub drop-past : (n : ℕ) (l : List ℕ) → length l ≤ n → drop n l ≡ []
+drop-past zero [] h = refl
+drop-past zero (x ∷ l) h = absurd (omega arith)
+drop-past (suc n) [] h = refl
+drop-past (suc n) (x ∷ l) h = drop-past n l (omega arith)
+
+-- one number more of s copied over d
+pub copy-more : (d s : List ℕ) (j : ℕ) → j < length d → j < length s → set (take j s ++ drop j d) j (getD s j 0) ≡ take (j + 1) s ++ drop (j + 1) d
+copy-more d s j hd hs =
+    let v = getD s j 0 in
+    ap (λ (r : List ℕ). set (take j s ++ r) j v) (drop-cons d j 0 hd)
+    ∙ set-at (take j s) (getD d j 0) (drop (suc j) d) v j (length-take-le j s (omega arith))
+    ∙ sym (append-assoc (take j s) (v ∷ []) (drop (suc j) d))
+    ∙ ap (λ (r : List ℕ). r ++ drop (suc j) d) (sym (take-suc s j 0 hs))
+    ∙ ap (λ (k : ℕ). take k s ++ drop k d) (sym (add-one j))
 
 module _ (a n : ℕ) (ys l : List ℕ) (fits : a + n ≤ length l) (long : length ys ≡ n) where
   front : length (take a l) ≡ a

@@ -1,4 +1,4 @@
--- What `total` says of lists joined, mapped, counted, and changed at one place.
+-- What `total` says of lists joined, mapped, counted, and changed at one place, and of two functions.
 use mathlib.Core.Path.{_≡_, refl, ap}
 use mathlib.Core.List.{List, [], _∷_, _++_, map}
 use Prim.Native.Nat.{ℕ, zero, suc, _+_, _*_, _≤_, _<_}
@@ -21,6 +21,17 @@ pub total-map : {X Y : Type 0} (w : Y → ℕ) (f : X → Y) (l : List X) → to
 unfolding total
 total-map w f [] = refl
 total-map w f (x ∷ l) = ap (λ (n : ℕ). w (f x) + n) (total-map w f l)
+
+-- by two functions that agree on every element
+pub total-same : {X : Type 0} (f g : X → ℕ) (P : X → Type 0) → ((x : X) → P x → f x ≡ g x) → (l : List X) → All P l → total f l ≡ total g l
+unfolding total All
+total-same f g P e [] h = refl
+total-same f g P e (x ∷ l) h = omega (arith, e x (h .0), total-same f g P e l (h .1))
+
+pub total-none : {X : Type 0} (f : X → ℕ) → ((x : X) → f x ≡ 0) → (l : List X) → total f l ≡ 0
+unfolding total
+total-none f e [] = refl
+total-none f e (x ∷ l) = omega (arith, e x, total-none f e l)
 
 -- each element counted once
 pub total-ones : {X : Type 0} (l : List X) → total (λ (x : X). 1) l ≡ length l

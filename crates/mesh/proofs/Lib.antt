@@ -1,5 +1,4 @@
 pub mod Accepts
-pub mod Fitting
 pub mod SoundAfter
 pub mod SoundArrivals
 pub mod SoundChanges

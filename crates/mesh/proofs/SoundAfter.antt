@@ -20,7 +20,7 @@ use Rattle.lists.specs.Lists.{All}
 use Rattle.mesh.specs.Sound.{Passable, SoundPacket, SoundLine, SoundChip}
 use Rattle.lists.proofs.Alls.{all-append, all-getD}
 use Rattle.steps.proofs.Sets.{has-set}
-use Rattle.mesh.proofs.Fitting.{sends-ready, legs-ready}
+use Rattle.steps.proofs.SentBy.{sends-ready, legs-ready}
 use Rattle.mesh.proofs.SoundSends.{sends-sound, legs-sound}
 use Rattle.mesh.proofs.SoundRegisters.{registers-kept}
 use Rattle.tables.specs.Tables.{ChipTables}

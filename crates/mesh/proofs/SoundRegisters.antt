@@ -1,27 +1,24 @@
 -- A chip's registers stay in range: what a pass drops has no error, so that its packet has odd parity and its control byte, word and payload
 -- are not all 0.
 use mathlib.Core.Path.{_≡_, refl, sym, _∙_}
-use mathlib.Core.Bool.{Bool, true, false, cond, _&&_, not, and-eq-true-iff, false≢true}
-use mathlib.Core.List.{List}
+use mathlib.Core.Bool.{Bool, true, false, cond, _&&_, and-eq-true-iff, false≢true}
 use Prim.Native.Nat.{ℕ, _+_, _≤_, _<_, _%_}
 use native.Mathlib.Omega.{arith}
 use lib.Count.{ones}
 use lib.Dec.{eqb, ltb, lit<}
-use borrow.Author.Tests.{eqb-true, eqb-false, lt-ltb, le-leb, ne-eqb}
+use borrow.Author.Tests.{eqb-true, eqb-false, lt-ltb, le-leb}
 use Rattle.packet.specs.declared.Packet.{Packet}
 use Rattle.packet.specs.Parity.{isOdd}
-use Rattle.packet.specs.Types.{isMarked}
 use Rattle.steps.specs.declared.Outcome.{Outcome}
 use Rattle.kept.specs.declared.Registers.{Registers}
 use Rattle.steps.specs.declared.Setting.{Setting}
-use Rattle.steps.specs.Links.{has, setOf}
-use Rattle.steps.specs.Detour.{drops}
-use Rattle.steps.specs.Errors.{errorsOf, stampedOf}
-use Rattle.steps.specs.Deciding.{legSet, decided, outcomeOf, Source, Checked}
+use Rattle.steps.specs.Links.{has}
+use Rattle.steps.specs.Errors.{errorsOf}
+use Rattle.steps.specs.Deciding.{outcomeOf, Source, Checked}
+use Rattle.steps.proofs.Stamping.{stamped-odd}
 use Rattle.kept.specs.Keeping.{isEmpty, dropCount, lowest, firstDrop, withMore, keptOf}
-use Rattle.kept.proofs.OnePass as pass
+use Rattle.kept.proofs.OnePass.{error-drops-none}
 use Rattle.mesh.specs.Sound.{registersFine, Passable}
-use Rattle.mesh.proofs.Fitting.{no-link-wanted}
 use Rattle.mesh.proofs.SoundSends.{stamped-passable}
 use Rattle.tables.specs.Tables.{ChipTables}
 
@@ -76,21 +73,6 @@ more-fine r fine some =
     simp (t .0 .0 .0 .0, t .0 .0 .0 .1, t .0 .0 .1, some)
 
 module _ (p : Packet) (s : ℕ) (tables : ChipTables) (t : Setting) (h : Checked p s tables t) (from : Source s) where
-  -- a packet in error is dropped nowhere
-  pub error-drops-none : (errorsOf p s (t .phase) ≡ 0 → ⊥) → dropCount (outcomeOf p s tables t) ≡ 0
-  unfolding outcomeOf decided ones
-  error-drops-none some =
-      let e = errorsOf p s (t .phase) in
-      let q = stampedOf p s e (t .phase) in
-      let w = no-link-wanted p s tables t h from some in
-      let g : legSet e q s ≡ 0 = simp (ne-eqb _ _ some) in
-      (λ i. ones (cond (isMarked (q .control)) (setOf (drops (w i) (t .ready))) (setOf (λ j. has (w i) j && not (has (t .ready) j)))) + ones (setOf (λ j. has (g i) j && not (has (t .ready) j))))
-      ∙ none (isMarked (q .control))
-    where
-      none : (b : Bool) → ones (cond b (setOf (drops 0 (t .ready))) (setOf (λ j. has 0 j && not (has (t .ready) j)))) + ones (setOf (λ j. has 0 j && not (has (t .ready) j))) ≡ 0
-      none true = refl
-      none false = refl
-
   pub registers-kept : Passable p → (r : Registers) → registersFine r ≡ true → registersFine (keptOf r (outcomeOf p s tables t)) ≡ true
   registers-kept passable r fine = go (eqb (dropCount o) 0) refl (isEmpty r) refl
     where
@@ -99,12 +81,12 @@ module _ (p : Packet) (s : ℕ) (tables : ChipTables) (t : Setting) (h : Checked
 
       quiet : (b : Bool) → eqb (errorsOf p s (t .phase)) 0 ≡ b → eqb (dropCount (outcomeOf p s tables t)) 0 ≡ false → errorsOf p s (t .phase) ≡ 0
       quiet true z d = eqb-true _ _ z
-      quiet false z d = absurd (eqb-false _ _ d (error-drops-none (eqb-false _ _ z)))
+      quiet false z d = absurd (eqb-false _ _ d (error-drops-none p s tables t h from (eqb-false _ _ z)))
 
       go : (b : Bool) → eqb (dropCount (outcomeOf p s tables t)) 0 ≡ b → (c : Bool) → isEmpty r ≡ c
           → registersFine (cond b r (cond c (firstDrop (outcomeOf p s tables t)) (withMore r))) ≡ true
       go true d c e = fine
       go false d true e =
           first-fine o (stamped-passable p s tables t h from passable .control)
-          (pass.stamped-odd p s tables t h from (quiet (eqb (errorsOf p s (t .phase)) 0) refl d))
+          (stamped-odd p s tables t h from (quiet (eqb (errorsOf p s (t .phase)) 0) refl d))
       go false d false e = more-fine r fine e

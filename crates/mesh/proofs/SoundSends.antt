@@ -1,26 +1,25 @@
 -- What a pass sends is sound: of a used type, right in length and parity, not NN with T = 1.
-use mathlib.Core.Path.{_≡_, refl, sym, ap, _∙_, subst}
-use mathlib.Core.Bool.{Bool, true, false, cond, _&&_, _||_, and-eq-true-iff, false≢true}
-use mathlib.Core.List.{List}
-use Prim.Native.Nat.{ℕ, _<_, _^_, _+_}
+use mathlib.Core.Path.{_≡_, refl, sym, _∙_, subst}
+use mathlib.Core.Bool.{Bool, true, false, cond, _&&_, _||_, and-eq-true-iff}
+use Prim.Native.Nat.{ℕ, _<_}
 use native.Mathlib.Omega.{arith}
 use lib.Dec.{eqb}
 use borrow.Author.Tests.{eqb-false, lt-ltb, eq-eqb}
 use Rattle.packet.specs.declared.Packet.{Packet}
-use Rattle.packet.specs.Control.{markOf, isDirect}
+use Rattle.packet.specs.Control.{isDirect}
 use Rattle.packet.specs.Types.{isMarked, isStamped}
 use Rattle.packet.specs.Parity.{isOdd, withStamp}
 use Rattle.packet.proofs.Rewrite.{FieldSet, stamp-set}
 use Rattle.packet.proofs.Types.{same-stamped, marked-stamped, stamped-not-nn}
 use Rattle.steps.specs.declared.Setting.{Setting}
-use Rattle.steps.specs.Links.{has, link}
-use Rattle.steps.specs.Errors.{errorsOf, stampedOf}
-use Rattle.steps.specs.Deciding.{hasLeg, legSet, decided, outcomeOf, packetOn, legPacket, Source, Checked}
-use Rattle.kept.proofs.OnePass as pass
+use Rattle.steps.specs.Links.{has}
+use Rattle.steps.specs.Errors.{errorsOf}
+use Rattle.steps.specs.Deciding.{decided, outcomeOf, packetOn, legPacket, Source, Checked}
+use Rattle.steps.proofs.SentBy.{sent-no-error, leg-no-error, leg-marked}
+use Rattle.steps.proofs.SentPackets.{sent-marked, sent-plain, sent-leg, sent-right, leg-right}
+use Rattle.steps.proofs.Stamping.{stamped-odd, stamped-right}
 use Rattle.links.specs.Lines.{Right}
 use Rattle.mesh.specs.Sound.{Passable, SoundPacket}
-use Rattle.steps.proofs.Sets.{has-set}
-use Rattle.mesh.proofs.Fitting.{has-none, stamped-right, sent-right, leg-right, sent-no-error, leg-no-error}
 use Rattle.tables.specs.Tables.{ChipTables}
 
 -- a packet that may pass, right in length and parity, is sound
@@ -64,34 +63,17 @@ module _ (p : Packet) (s : ℕ) (tables : ChipTables) (t : Setting) (h : Checked
     where
       go : (b : Bool) → isMarked (outcomeOf p s tables t .packet .control) ≡ b → SoundPacket (packetOn (outcomeOf p s tables t) i)
       go true marked =
-          let f = pass.sent-marked p s tables t h from i marked in
+          let f = sent-marked p s tables t h from i marked in
           passable-sound _ (field-passable f (marked-stamped _ marked) stamped-passable) (f .odd) (sent-right p s tables t h from none i)
       go false other =
-          subst SoundPacket (sym (pass.sent-plain p s tables t h from i other))
-          (passable-sound _ stamped-passable (pass.stamped-odd p s tables t h from none) (stamped-right p s tables t h from none))
+          subst SoundPacket (sym (sent-plain p s tables t h from i other))
+          (passable-sound _ stamped-passable (stamped-odd p s tables t h from none) (stamped-right p s tables t h from none))
 
   pub sends-sound : (i : ℕ) → i < 6 → has (outcomeOf p s tables t .sent) i ≡ true → SoundPacket (packetOn (outcomeOf p s tables t) i)
   sends-sound i hi sent = sent-sound (sent-no-error p s tables t h from i hi sent) i
 
-  -- only a packet with a mark has a second leg
-  leg-marked : (i : ℕ) → i < 6 → has (outcomeOf p s tables t .«leg_sent») i ≡ true → isMarked (outcomeOf p s tables t .packet .control) ≡ true
-  unfolding outcomeOf decided
-  leg-marked i hi leg = go (hasLeg e q) refl
-    where
-      e : ℕ
-      e = errorsOf p s (t .phase)
-
-      q : Packet
-      q = stampedOf p s (errorsOf p s (t .phase)) (t .phase)
-
-      go : (b : Bool) → hasLeg e q ≡ b → isMarked (stampedOf p s (errorsOf p s (t .phase)) (t .phase) .control) ≡ true
-      go true z = and-eq-true-iff (eqb e 0) (isMarked (q .control)) .0 (and-eq-true-iff (eqb e 0 && isMarked (q .control)) (eqb (markOf (q .control)) 1 || eqb (markOf (q .control)) 2) .0 z .0) .1
-      go false z =
-          let none : legSet e q s ≡ 0 = ap (λ (b : Bool). cond b (2 ^ link (s + 5)) 0) z in
-          absurd (false≢true (sym (has-set (λ j. has (legSet e q s) j && has (t .ready) j) i hi ∙ ap (λ (k : ℕ). has k i && has (t .ready) i) none ∙ simp has-none) ∙ leg))
-
   pub legs-sound : (i : ℕ) → i < 6 → has (outcomeOf p s tables t .«leg_sent») i ≡ true → SoundPacket (legPacket (outcomeOf p s tables t))
   legs-sound i hi leg =
-      let f = pass.sent-leg p s tables t h from in
+      let f = sent-leg p s tables t h from in
       let none = leg-no-error p s tables t h from i hi leg in
-      passable-sound _ (field-passable f (marked-stamped _ (leg-marked i hi leg)) stamped-passable) (f .odd) (leg-right p s tables t h from none)
+      passable-sound _ (field-passable f (marked-stamped _ (leg-marked p s tables t h from i hi leg)) stamped-passable) (f .odd) (leg-right p s tables t h from none)

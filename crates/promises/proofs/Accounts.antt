@@ -16,7 +16,7 @@ use Rattle.router.proofs.Inputs as inputs
 use Rattle.kept.proofs.OnePass as pass
 use Rattle.links.specs.Line.{idle}
 use Rattle.mesh.specs.Mesh.{Chip, Mesh, fresh, opened}
-use Rattle.mesh.specs.Steps.{Tables, Arrival, Going, setOut, rowsAt, codesAt, settingAt, outcomeAt, withChip, emptied, emptiedChip, setAside, arrivals, passAt, tablesAt}
+use Rattle.mesh.specs.Steps.{Tables, Arrival, Going, setOut, settingAt, outcomeAt, withChip, emptied, emptiedChip, setAside, arrivals, passAt, tablesAt}
 use Rattle.mesh.specs.Calls.{chipOf, lineOf, withUp, withLink, withEmpty}
 use Rattle.lists.specs.Lists.{total, All}
 use Rattle.mesh.specs.Weights.{onLine, onChip, onMesh}
@@ -25,7 +25,7 @@ use Rattle.lists.proofs.Alls.{all-replicate}
 use Rattle.mesh.proofs.SoundArrivals.{sound-arrivals}
 use Rattle.mesh.proofs.SoundSteps.{CodesFor, checked, sound-aside, sound-pass}
 use Rattle.mesh.proofs.Torus.{arrivals-weigh}
-use Rattle.lists.proofs.Totals.{total-map, total-set}
+use Rattle.lists.proofs.Totals.{total-same, total-none, total-map, total-set}
 use Rattle.promises.specs.History.{Tag, State, Event, turned, passages, emptied as read}
 use Rattle.promises.specs.Told.{sumOf}
 use Rattle.promises.specs.Demand3.{Account}
@@ -35,19 +35,6 @@ use Rattle.mesh.proofs.SoundChanges.{chip-sound}
 use Rattle.promises.proofs.Histories.{Kept, always-kept}
 use Rattle.promises.proofs.Flights.{Arriving, each-any, each-arrival}
 use Rattle.promises.proofs.Weighs.{weighed, chip-weighs-sent}
-
--- ---- totals
-
-module _ {X : Type 0} where
-  total-same : (f g : X → ℕ) (P : X → Type 0) → ((x : X) → P x → f x ≡ g x) → (l : List X) → All P l → total f l ≡ total g l
-  unfolding total All
-  total-same f g P e [] h = refl
-  total-same f g P e (x ∷ l) h = omega (arith, e x (h .0), total-same f g P e l (h .1))
-
-  total-none : (f : X → ℕ) → ((x : X) → f x ≡ 0) → (l : List X) → total f l ≡ 0
-  unfolding total
-  total-none f e [] = refl
-  total-none f e (x ∷ l) = omega (arith, e x, total-none f e l)
 
 -- an open mesh has nothing in flight
 opened-weighs : (w h f monitor : ℕ) → onMesh weighed (opened {A = Tag} w h f monitor) ≡ 0

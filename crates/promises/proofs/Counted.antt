@@ -13,11 +13,12 @@ use Rattle.kept.specs.Counting.{countsOf, plus, added, zeros}
 use Rattle.mesh.specs.Mesh.{Chip, Mesh, fresh}
 use Rattle.mesh.specs.Steps.{Tables, Arrival, setOut, emptiedChip, passAt}
 use Rattle.mesh.specs.Sound.{SoundMesh}
+use Rattle.lists.proofs.Changed.{set-keeps}
 use Rattle.promises.specs.History.{Tag, Passage, Event, passed, emptied, turned}
 use Rattle.promises.specs.Told.{sumOf}
 use Rattle.promises.specs.Demand3.{Always}
 use Rattle.promises.proofs.Told.{sum-append}
-use Rattle.promises.proofs.Runs.{passage, always-steady, set-keeps}
+use Rattle.promises.proofs.Runs.{passage, always-steady}
 
 -- ten sums, one by one
 added-at : (l c : List ℕ) (k : ℕ) → k < 10 → getD (added l c) k 0 ≡ plus (getD l k 0) (getD c k 0)

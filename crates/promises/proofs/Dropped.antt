@@ -15,7 +15,7 @@ use Rattle.steps.specs.Links.{has}
 use Rattle.kept.specs.Keeping.{empty, isEmpty, dropCount, lowest, firstDrop, withMore, keptOf}
 use Rattle.steps.proofs.Bounds.{Sets}
 use Rattle.lists.specs.Lists.{All}
-use Rattle.lists.proofs.Alls.{all-append, all-map}
+use Rattle.lists.proofs.Alls.{all-any, all-append, all-map}
 use Rattle.promises.specs.Told.{unit, unitIf, unitsOf, droppedUnits, firstOfUnits}
 
 -- ---- the links of a set, lowest first
@@ -151,15 +151,9 @@ keeps-first o [] (w ∷ ws) n first h =
 keeps-first o (u ∷ []) (w ∷ ws) n first h = more o u (λ z. omega arith) (h .0)
 keeps-first o (u ∷ v ∷ us) (w ∷ ws) n first h = more o (withMore u) (λ z. omega arith) (h .0)
 
--- of every element, where it holds of anything
-all-of : {X : Type 0} (P : X → Type 0) (xs : List X) → ((x : X) → P x) → All P xs
-unfolding All
-all-of P [] h = tt
-all-of P (x ∷ xs) h = (h x, all-of P xs h)
-
 -- the units of a packet that is not all zeros
 pub all-some : (o : Outcome) → isEmpty (unit o 0 0) ≡ false → All Some (droppedUnits o)
 all-some o h = all-append Some (unitsOf o (o .dropped) 0) (unitsOf o (o .«leg_dropped») 1) (units (o .dropped) 0) (units (o .«leg_dropped») 1)
   where
     units : (links leg : ℕ) → All Some (unitsOf o links leg)
-    units links leg = rw (units-of o links leg) (all-map Some (λ j. unit o j leg) (linksIn links) (all-of (λ j. Some (unit o j leg)) (linksIn links) (λ j. h)))
+    units links leg = rw (units-of o links leg) (all-map Some (λ j. unit o j leg) (linksIn links) (all-any (λ j. Some (unit o j leg)) (λ j. h) (linksIn links)))

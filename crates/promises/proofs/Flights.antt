@@ -18,27 +18,11 @@ use Rattle.mesh.specs.Steps.{Tables, Arrival, Going, outcomeAt, linesAfter, emp
 use Rattle.mesh.specs.Calls.{chipOf, withLink, withEmpty}
 use Rattle.lists.specs.Lists.{All}
 use Rattle.mesh.specs.Sound.{Arrives, SoundChip, SoundMesh}
-use Rattle.lists.proofs.Alls.{all-nil, all-append, all-getD, all-set, all-map, all-weaken, all-replicate}
+use Rattle.lists.proofs.Alls.{all-nil, all-any, all-append, all-getD, all-or, all-set, all-map, all-weaken, all-replicate}
 use Rattle.mesh.proofs.SoundSteps.{CodesFor, sound-pass}
 use Rattle.promises.specs.History.{Tag, Passage, turned, passages}
 use Rattle.promises.specs.Told.{EachFlight, EachPass}
 use Rattle.promises.proofs.Runs.{passage}
-
--- ---- lists
-
-module _ {X : Type 0} (P : X → Type 0) where
-  -- of every element, where it holds of anything
-  all-any : ((x : X) → P x) → (xs : List X) → All P xs
-  unfolding All
-  all-any h [] = tt
-  all-any h (x ∷ xs) = (h x, all-any h xs)
-
-  -- of an element, or of what stands for one that is not there
-  all-or : (xs : List X) (i : ℕ) (d : X) → All P xs → P d → P (getD xs i d)
-  unfolding All
-  all-or [] i d a h = h
-  all-or (x ∷ xs) zero d a h = a .0
-  all-or (x ∷ xs) (suc i) d a h = all-or xs i d (a .1) h
 
 module _ {A : Type 0} (Q : Flight A → Type 0) where
   abbrev EachHeld : Line A → Type 0

@@ -25,7 +25,8 @@ use Rattle.mesh.specs.Asked.{Look, Call, inject, round, setLink, readRegisters,
 use Rattle.promises.specs.History.{Tag, turned, tagNow, accepted, after}
 use Rattle.promises.specs.Told.{plainFlight, plainLine, plainChip, plain, plainLeft}
 use Rattle.promises.specs.Demand3.{Forgetting, Program}
-use Rattle.promises.proofs.Plains.{map-set, plainGoing, plain-chip, plain-line, plain-ready, plain-flying, plain-with, plain-pass, plain-rounded}
+use Rattle.lists.proofs.Changed.{map-set}
+use Rattle.promises.proofs.Plains.{plainGoing, plain-chip, plain-line, plain-ready, plain-flying, plain-with, plain-pass, plain-rounded}
 
 module _ {A : Type 0} where
   plain-unless : (n : ℕ) (m : Mesh A) (g : Going A) → plainLeft (calls.unless n m g) ≡ calls.unless n (plain m) (plainGoing g)

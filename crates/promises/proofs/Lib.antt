@@ -19,7 +19,6 @@ pub mod Records
 pub mod Registered
 pub mod Runs
 pub mod Sequences
-pub mod Stamps
 pub mod Told
 pub mod Weighs
 pub mod WholeRuns

@@ -1,6 +1,6 @@
 -- What a pass adds to the counters is what the history counts itself.
 use mathlib.Core.Path.{_≡_, refl, sym, ap, _∙_}
-use mathlib.Core.Bool.{Bool, true, false, cond, _&&_, not, and-false, false≢true}
+use mathlib.Core.Bool.{Bool, true, false, cond, _&&_, and-false, false≢true}
 use mathlib.Core.List.{List, [], _∷_}
 use Prim.Native.Nat.{ℕ, _+_, _-_, _/_, _%_, _^_, _<_}
 use native.Mathlib.Omega.{arith}
@@ -10,7 +10,6 @@ use borrow.Author.Tests.{eqb-true}
 use Rattle.packet.specs.declared.Packet.{Packet}
 use Rattle.packet.specs.Control.{kindOf, markOf}
 use Rattle.packet.specs.Types.{isMc}
-use Rattle.packet.specs.Parity.{isOdd}
 use Rattle.packet.proofs.Types.{mc-marked}
 use Rattle.tables.specs.declared.Found.{Found}
 use Rattle.tables.specs.declared.Found.the-variants.{At, Nothing}
@@ -20,12 +19,12 @@ use Rattle.tables.specs.Shown.{foundShown}
 use Rattle.steps.specs.declared.Outcome.{Outcome}
 use Rattle.steps.specs.declared.Setting.{Setting}
 use Rattle.steps.specs.declared.Wanted.{Wanted}
-use Rattle.steps.specs.Errors.{flag, tooOld, wrongLength, badLocal, errorsOf}
+use Rattle.steps.specs.Errors.{flag, badLocal, errorsOf}
 use Rattle.steps.specs.Wants.{wantedOf, kindWanted, matchWanted}
 use Rattle.steps.specs.Deciding.{decided, outcomeOf}
 use Rattle.kept.specs.Keeping.{dropCount}
 use Rattle.kept.specs.Counting.{countsOf, sentCount, delivered, swallowed}
-use Rattle.kept.proofs.OnePass as pass
+use Rattle.steps.proofs.Flags.{error-flags, without-error}
 use Rattle.steps.specs.Links.{has}
 use Rattle.links.specs.Line.{idle, isReady}
 use Rattle.mesh.specs.Calls.{chipOf}
@@ -39,30 +38,6 @@ use Rattle.promises.proofs.Counted.{countedAt, counts-kept}
 use Rattle.promises.proofs.Records.{no-stale-block}
 use Rattle.promises.proofs.Runs.{left-after, always-each}
 use Rattle.promises.proofs.Weighs.{chip-holds-sent}
-
--- ---- the errors, one by one
-
-module _ (a b c d : Bool) where
-  abbrev four : ℕ
-  four = flag a 1 + flag b 2 + flag c 4 + flag d 8
-
-pub bits : (a b c d : Bool) → (four a b c d % 2 ≡ flag a 1) × (four a b c d / 2 % 2 ≡ flag b 1) × (four a b c d / 4 % 2 ≡ flag c 1) × (four a b c d / 8 % 2 ≡ flag d 1)
-bits false false false false = (refl, refl, refl, refl)
-bits false false false true = (refl, refl, refl, refl)
-bits false false true false = (refl, refl, refl, refl)
-bits false false true true = (refl, refl, refl, refl)
-bits false true false false = (refl, refl, refl, refl)
-bits false true false true = (refl, refl, refl, refl)
-bits false true true false = (refl, refl, refl, refl)
-bits false true true true = (refl, refl, refl, refl)
-bits true false false false = (refl, refl, refl, refl)
-bits true false false true = (refl, refl, refl, refl)
-bits true false true false = (refl, refl, refl, refl)
-bits true false true true = (refl, refl, refl, refl)
-bits true true false false = (refl, refl, refl, refl)
-bits true true false true = (refl, refl, refl, refl)
-bits true true true false = (refl, refl, refl, refl)
-bits true true true true = (refl, refl, refl, refl)
 
 -- ---- the local miss
 
@@ -88,7 +63,7 @@ module _ (q : Packet) (s : ℕ) (tables : ChipTables) (t : Setting) where
       go true e =
           let two : markOf (q .control) ≡ 2 = eqb-true _ _ mark in
           let bad : badLocal (q .control) s ≡ true = simp (e, mc-marked (q .control) mc, two) in
-          absurd (false≢true (sym (pass.right q s (t .phase) none .local) ∙ bad))
+          absurd (false≢true (sym (without-error q s (t .phase) none .local) ∙ bad))
 
   pub missed-own : wantedOf errors q s tables t .missed ≡ flag (eqb s 7 && isMc (q .control) && eqb errors 0 && eqb (foundShown (firstMatch (q .word) (rowsOf (tables .rows))) .number) 0) 1
   unfolding wantedOf
@@ -131,7 +106,7 @@ own p e more =
     let q = p .arrival .flight .packet in
     let s = p .arrival .source in
     let errors-are : p .outcome .errors ≡ errorsOf q s (p .setting .phase) = ap (λ (o : Outcome). o .errors) e in
-    let b = bits (not (isOdd q)) (tooOld (q .control) s (p .setting .phase)) (wrongLength q) (badLocal (q .control) s) in
+    let b = error-flags q s (p .setting .phase) in
     let miss : p .outcome .missed ≡ flag (isMiss p) 1 =
     ap (λ (o : Outcome). o .missed) e ∙ missed-own q s (p .tables) (p .setting)
     ∙ ap (λ (n : ℕ). flag (eqb s 7 && isMc (q .control) && eqb n 0 && eqb (foundShown (firstMatch (q .word) (rowsOf (p .tables .rows))) .number) 0) 1) (sym errors-are) in

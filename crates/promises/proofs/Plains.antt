@@ -5,7 +5,7 @@ use mathlib.Core.Bool.{Bool, true, false, _&&_}
 use mathlib.Core.List.{List, [], _∷_, _++_, map, foldl, map-map, map-append}
 use Prim.Native.Nat.{ℕ, zero, suc, _*_}
 use lib.Dec.{leb}
-use lib.ListN.{getD, set, length-map, List·getD-map}
+use lib.ListN.{getD, length-map, List·getD-map}
 use Rattle.packet.specs.declared.Packet.{Packet}
 use Rattle.steps.specs.declared.Outcome.{Outcome}
 use Rattle.steps.specs.Links.{has, setOf}
@@ -14,18 +14,13 @@ use Rattle.kept.specs.Keeping.{keptOf}
 use Rattle.kept.specs.Counting.{countedOf}
 use Rattle.links.specs.Line.{Flight, Line, idle, isReady, sent, lineAfter, readyLinks}
 use Rattle.links.specs.Across.{across, opposite}
-use Rattle.mesh.specs.Mesh.{Chip, Mesh, fresh, readyOf}
-use Rattle.mesh.specs.Steps.{Tables, Arrival, Going, rowsAt, codesAt, outcomeAt, logOf, linesAfter, chipAfter, withChips, withChip, emptied, emptiedChip, setAside, arrivingBy, arrivingAt, arrivingFrom, arrivals, roundOver, passAt, passed, rounded, same, setOut, tablesAt}
+use Rattle.mesh.specs.Mesh.{Chip, Mesh, fresh}
+use Rattle.mesh.specs.Steps.{Tables, Arrival, Going, outcomeAt, logOf, linesAfter, chipAfter, withChips, withChip, emptied, emptiedChip, setAside, arrivingBy, arrivingAt, arrivingFrom, arrivals, roundOver, passAt, passed, rounded, same, setOut, tablesAt}
 use Rattle.lists.specs.Lists.{total}
 use Rattle.mesh.specs.Weights.{onLine, onChip, inFlight}
+use Rattle.lists.proofs.Changed.{map-set}
 use Rattle.lists.proofs.Totals.{total-map, total-ones}
 use Rattle.promises.specs.Told.{plainFlight, plainLine, plainChip, plain}
-
--- an element changed, and then every element's image
-pub map-set : {X Y : Type 0} (f : X → Y) (l : List X) (i : ℕ) (x : X) → map f (set l i x) ≡ set (map f l) i (f x)
-map-set f [] i x = refl
-map-set f (y ∷ l) zero x = refl
-map-set f (y ∷ l) (suc i) x = ap (λ (k : List _). f y ∷ k) (map-set f l i x)
 
 module _ {A : Type 0} where
   abbrev pub plainArrival : Arrival A → Arrival (Unit {0})

@@ -15,20 +15,22 @@ use Rattle.steps.specs.Errors.{errorsOf}
 use Rattle.steps.specs.Deciding.{Source, Checked, outcomeOf}
 use Rattle.kept.specs.Keeping.{empty, dropCount, keptOf}
 use Rattle.steps.proofs.Bounds.{outcome-sets}
-use Rattle.kept.proofs.OnePass as pass
+use Rattle.steps.proofs.Stamping.{stamped-odd}
+use Rattle.kept.proofs.OnePass.{error-drops-none}
 use Rattle.mesh.specs.Mesh.{Chip, Mesh, fresh}
-use Rattle.mesh.specs.Steps.{Tables, Arrival, setOut, rowsAt, codesAt, settingAt, emptiedChip, passAt, tablesAt}
+use Rattle.mesh.specs.Steps.{Tables, Arrival, setOut, settingAt, emptiedChip, passAt, tablesAt}
 use Rattle.mesh.specs.Calls.{withEmpty}
 use Rattle.lists.specs.Lists.{All}
 use Rattle.mesh.specs.Sound.{Arrives, SoundMesh}
 use Rattle.lists.proofs.Alls.{all-nil, all-append}
-use Rattle.mesh.proofs.SoundRegisters.{odd-some, error-drops-none}
+use Rattle.mesh.proofs.SoundRegisters.{odd-some}
 use Rattle.mesh.proofs.SoundSteps.{CodesFor, checked}
+use Rattle.lists.proofs.Changed.{set-keeps}
 use Rattle.promises.specs.History.{Tag, Event, passed, emptied, turned}
 use Rattle.promises.specs.Told.{droppedUnits, noted, dropsSince, firstOfUnits}
 use Rattle.promises.specs.Demand3 as demand
 use Rattle.promises.proofs.Dropped.{length-dropped, first-dropped, Some, keeps-first, all-some}
-use Rattle.promises.proofs.Runs.{passage, always-steady, set-keeps}
+use Rattle.promises.proofs.Runs.{passage, always-steady}
 use Rattle.tables.specs.Tables.{ChipTables}
 
 none-some : (us : List Registers) → length us ≡ 0 → All Some us
@@ -43,7 +45,7 @@ drops-some p s tables t h from = go (eqb (dropCount (outcomeOf p s tables t)) 0)
     go : (b : Bool) → eqb (dropCount (outcomeOf p s tables t)) 0 ≡ b → (c : Bool) → eqb (errorsOf p s (t .phase)) 0 ≡ c → All Some (droppedUnits (outcomeOf p s tables t))
     go true d c e =
         none-some (droppedUnits (outcomeOf p s tables t)) (length-dropped (outcomeOf p s tables t) (outcome-sets p s tables t) ∙ eqb-true _ _ d)
-    go false d true e = all-some (outcomeOf p s tables t) (odd-some (outcomeOf p s tables t .packet) (pass.stamped-odd p s tables t h from (eqb-true _ _ e)))
+    go false d true e = all-some (outcomeOf p s tables t) (odd-some (outcomeOf p s tables t .packet) (stamped-odd p s tables t h from (eqb-true _ _ e)))
     go false d false e = absurd (eqb-false _ _ d (error-drops-none p s tables t h from (eqb-false _ _ e)))
 
 -- ---- one chip

@@ -4,12 +4,12 @@ use mathlib.Core.Path.{_≡_, refl, subst}
 use mathlib.Core.Logic.{inr}
 use mathlib.Core.Bool.{Bool}
 use mathlib.Core.List.{List, [], _∷_, _++_, foldl, append-nil, append-assoc}
-use Prim.Native.Nat.{ℕ, zero, suc, _*_, _<_}
+use Prim.Native.Nat.{ℕ, _*_, _<_}
 use native.Mathlib.Omega.{arith}
-use lib.ListN.{getD, set}
+use lib.ListN.{getD}
 use lib.Seq.{getD-set-same}
 use Rattle.mesh.specs.Mesh.{Mesh, fresh, opened}
-use Rattle.mesh.specs.Steps.{Tables, Arrival, Going, setOut, rowsAt, codesAt, settingAt, outcomeAt, logOf, chipAfter, setAside, arrivals, roundOver, passAt, tablesAt}
+use Rattle.mesh.specs.Steps.{Tables, Arrival, Going, setOut, settingAt, outcomeAt, logOf, chipAfter, setAside, arrivals, roundOver, passAt, tablesAt}
 use Rattle.mesh.specs.Calls.{withLink, withEmpty}
 use Rattle.lists.specs.Lists.{All}
 use Rattle.mesh.specs.Sound.{Arrives, SoundMesh}
@@ -103,13 +103,3 @@ always-each R shows =
       links = λ m chip link up es log p. p;
       reads = λ m chip es log sound h p. each-append R es (emptied chip ∷ []) p tt;
     })
-
--- ---- one chip
-
--- a part of a chip that a change at one place keeps
-pub set-keeps : {X Y : Type 0} (f : X → Y) (l : List X) (i j : ℕ) (x d : X) → f x ≡ f (getD l i d) → f (getD (set l i x) j d) ≡ f (getD l j d)
-set-keeps f [] i j x d e = refl
-set-keeps f (y ∷ l) zero zero x d e = e
-set-keeps f (y ∷ l) zero (suc j) x d e = refl
-set-keeps f (y ∷ l) (suc i) zero x d e = refl
-set-keeps f (y ∷ l) (suc i) (suc j) x d e = set-keeps f l i j x d e

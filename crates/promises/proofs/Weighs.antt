@@ -16,19 +16,19 @@ use Rattle.packet.proofs.Small.{every, at}
 use Rattle.steps.specs.declared.Outcome.{Outcome}
 use Rattle.steps.specs.declared.Setting.{Setting}
 use Rattle.steps.specs.Links.{has}
-use Rattle.steps.specs.Deciding.{decided, outcomeOf, markOn, packetOn, legPacket, Source, Checked}
+use Rattle.steps.specs.Deciding.{outcomeOf, markOn, packetOn, legPacket, Source, Checked}
 use Rattle.kept.specs.Counting.{sentCount}
 use Rattle.kept.specs.Units.{weight, overLinks, weightSent}
 use Rattle.steps.proofs.Bounds.{outcome-sets}
+use Rattle.steps.proofs.SentPackets.{sent-marked, sent-plain, sent-leg, no-detour}
+use Rattle.steps.proofs.Sets.{has-none}
 use Rattle.lists.proofs.Six.{six}
-use Rattle.kept.proofs.OnePass as pass
 use Rattle.links.specs.Line.{Flight, Line, idle, sent, lineAfter}
 use Rattle.mesh.specs.Mesh.{Chip}
 use Rattle.mesh.specs.Steps.{linesAfter, chipAfter}
 use Rattle.lists.specs.Lists.{total}
 use Rattle.mesh.specs.Weights.{onLine, onChip}
 use Rattle.lists.proofs.Totals.{total-append}
-use Rattle.mesh.proofs.Fitting.{has-none}
 use Rattle.tables.specs.Tables.{ChipTables}
 
 -- ---- a chip after a pass
@@ -78,22 +78,17 @@ weight-of : (q : Packet) (b : Bool) (m : ℕ) → isMarked (q .control) ≡ b �
 weight-of q b m eb em = λ i. cond (eb i && eqb (em i) 1) 2 1
 
 module _ (p : Packet) (s : ℕ) (tables : ChipTables) (t : Setting) (h : Checked p s tables t) (from : Source s) where
-  -- only a packet with a mark takes detours
-  no-detour : isMarked (outcomeOf p s tables t .packet .control) ≡ false → outcomeOf p s tables t .carried ≡ 0
-  unfolding outcomeOf decided
-  no-detour other = simp other
-
   on-weighs : (i : ℕ) → weight (packetOn (outcomeOf p s tables t) i) ≡ cond (eqb (markOn (outcomeOf p s tables t) i) 1) 2 1
   on-weighs i = go (isMarked (outcomeOf p s tables t .packet .control)) refl
     where
       go : (b : Bool) → isMarked (outcomeOf p s tables t .packet .control) ≡ b → weight (packetOn (outcomeOf p s tables t) i) ≡ cond (eqb (markOn (outcomeOf p s tables t) i) 1) 2 1
-      go true marked = let f = pass.sent-marked p s tables t h from i marked in weight-of (packetOn (outcomeOf p s tables t) i) true (markOn (outcomeOf p s tables t) i) (same-marked _ _ (f .kind) ∙ marked) (f .new)
+      go true marked = let f = sent-marked p s tables t h from i marked in weight-of (packetOn (outcomeOf p s tables t) i) true (markOn (outcomeOf p s tables t) i) (same-marked _ _ (f .kind) ∙ marked) (f .new)
       go false other =
-          let plain : markOn (outcomeOf p s tables t) i ≡ 0 = simp (no-detour other, has-none) in
-          ap weight (pass.sent-plain p s tables t h from i other) ∙ simp (other, plain)
+          let plain : markOn (outcomeOf p s tables t) i ≡ 0 = simp (no-detour p s tables t h from other, has-none) in
+          ap weight (sent-plain p s tables t h from i other) ∙ simp (other, plain)
 
   leg-weighs : weight (legPacket (outcomeOf p s tables t)) ≡ 1
-  leg-weighs = weight-of (legPacket (outcomeOf p s tables t)) _ 3 refl (pass.sent-leg p s tables t h from .new) ∙ simp and-false
+  leg-weighs = weight-of (legPacket (outcomeOf p s tables t)) _ 3 refl (sent-leg p s tables t h from .new) ∙ simp and-false
 
   sent-weighs : {A : Type 0} (tag : A) → overLinks (gained weighed (outcomeOf p s tables t) tag) ≡ weightSent (outcomeOf p s tables t)
   sent-weighs tag =

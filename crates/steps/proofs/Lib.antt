@@ -1,8 +1,12 @@
 pub mod Bounds
 pub mod ByRows
 pub mod BySource
+pub mod Flags
 pub mod LowestFirst
+pub mod SentBy
+pub mod SentPackets
 pub mod SentReady
 pub mod Sets
 pub mod Sources
+pub mod Stamping
 pub mod Ways

@@ -1,7 +1,8 @@
--- A set made of six tests has just the links that pass them.
+-- A set made of six tests has just the links that pass them; the empty set has none.
 use mathlib.Core.Path.{_≡_, refl, ap, _∙_}
 use mathlib.Core.Bool.{Bool, true, false, cond}
 use Prim.Native.Nat.{ℕ, zero, suc, _+_, _*_, _/_, _%_, _^_, _≤_, _<_}
+use native.Mathlib.Nat.{zero-div, zero-mod}
 use native.Mathlib.Omega.{arith}
 use lib.Dec.{eqb}
 use Rattle.steps.specs.Links.{has, setOf}
@@ -24,6 +25,9 @@ shown : (b : Bool) → eqb (bit b) 1 ≡ b
 unfolding bit
 shown true = refl
 shown false = refl
+
+pub has-none : (i : ℕ) → has 0 i ≡ false
+has-none i = ap (λ (n : ℕ). eqb n 1) (ap (λ (n : ℕ). n % 2) (zero-div (2 ^ i)) ∙ zero-mod 2)
 
 -- six bits, and one of them taken out
 digits : (a b c d e f : ℕ) → ℕ

@@ -1,11 +1,12 @@
 -- The turns of a replay: one record more, the first that is refused, the end.
 use mathlib.Core.Path.{_≡_, refl, sym, ap, _∙_, subst}
-use mathlib.Core.List.{List, [], _∷_, _++_, append-nil, append-assoc}
-use Prim.Native.Nat.{ℕ, zero, suc, _+_, _-_, _*_, _/_, _≤_, _<_}
+use mathlib.Core.List.{List, [], _++_, append-nil, append-assoc}
+use Prim.Native.Nat.{ℕ, _+_, _-_, _*_, _/_, _≤_, _<_}
 use native.Mathlib.Nat.{add-zero}
 use native.Mathlib.Omega.{arith}
 use lib.ListN.{length, take, drop, length-append, length-drop, take-append-drop}
-use lib.Seq.{drop-drop, length-take-le, take-at, drop-at}
+use lib.Seq.{take-all, drop-drop, length-take-le, take-at, drop-at}
+use Rattle.lists.proofs.Parts.{drop-past}
 use Rattle.mesh.specs.Mesh.{Mesh}
 use Rattle.buffer.specs.Layout.{meshOf, wordsFor}
 use Rattle.buffer.specs.Holding.{holdsMesh}
@@ -19,13 +20,6 @@ use Rattle.trace.proofs.KeptSizes.{Keeps}
 use Rattle.trace.proofs.Traces.{read-within, trace-over}
 use Rattle.trace.proofs.SoFar.{onward, accepted-record, keeps-one, onward-step, onward-stop, SoFar}
 
--- nothing is left behind a list's end
-drop-past : (n : ℕ) (l : List ℕ) → length l ≤ n → drop n l ≡ []
-drop-past zero [] h = refl
-drop-past zero (x ∷ l) h = absurd (omega arith)
-drop-past (suc n) [] h = refl
-drop-past (suc n) (x ∷ l) h = drop-past n l (omega arith)
-
 -- a log whose part from k on was lent and came back as w
 abbrev pub backIn : List ℕ → ℕ → List ℕ → List ℕ
 backIn log k w = take k log ++ (w ++ drop (length log - k) (drop k log))
@@ -35,13 +29,7 @@ back-in log k w = ap (λ (r : List ℕ). take k log ++ (w ++ r)) (drop-past (len
 
 -- all that is left of a list, as a part of it
 part-rest : (k : ℕ) (l : List ℕ) → take (length l - k) (drop k l) ≡ drop k l
-part-rest k l = go (length l - k) (drop k l) (simp length-drop (omega arith))
-  where
-    go : (n : ℕ) (r : List ℕ) → length r ≤ n → take n r ≡ r
-    go zero [] e = refl
-    go zero (x ∷ r) e = absurd (omega arith)
-    go (suc n) [] e = refl
-    go (suc n) (x ∷ r) e = ap (λ (q : List ℕ). x ∷ q) (go n r (omega arith))
+part-rest k l = take-all (length l - k) (drop k l) (simp length-drop (omega arith))
 
 module _ (t : Tables) (s l₀ log₀ l log : List ℕ) (at added : ℕ) (h : SoFar t s l₀ log₀ l log at added) where
   -- a record is lent the rest of the trace and the rest of the log

@@ -1,13 +1,10 @@
 -- The bytes that writing lays out begin with the record, and what is written where a call is refused or accepted.
-use mathlib.Core.Path.{_≡_, refl, sym, ap, _∙_}
+use mathlib.Core.Path.{_≡_, refl, ap, _∙_}
 use mathlib.Core.Logic.{inl, inr}
 use mathlib.Core.Bool.{true, false}
-use mathlib.Core.List.{List, [], _∷_, _++_, append-assoc}
-use Prim.Native.Nat.{ℕ, suc, _+_, _-_, _/_, _%_, _≤_, _<_}
-use native.Mathlib.Numerals.{add-one}
-use native.Mathlib.Omega.{arith}
-use lib.ListN.{length, getD, take, drop, set}
-use lib.Seq.{drop-cons, take-suc, set-at, length-take-le}
+use mathlib.Core.List.{List, [], _∷_, _++_}
+use Prim.Native.Nat.{ℕ, _+_, _-_, _/_, _%_, _≤_, _<_}
+use lib.ListN.{length, getD, take, drop}
 use borrow.Author.Tests.{lt-ltb, le-ltb}
 use Rattle.trace.specs.declared.Call.{Call}
 use Rattle.trace.specs.Records.{recordOf, keepable, writtenOf, writtenOn}
@@ -43,17 +40,6 @@ packet-laid c (injection k a b d (inr e)) other = of-written (Begins withPacket)
 packet-laid c (round k a b d e) other = of-written (Begins withPacket) c 2 (c .length) (c .bytes) k refl refl refl
 packet-laid c (change k a b d e) other = absurd (other k)
 packet-laid c (read k a b d e) other = of-written (Begins withPacket) c 4 (c .length) (c .bytes) k refl refl refl
-
--- ---- the copy
-
-pub copy-more : (d s : List ℕ) (j : ℕ) → j < length d → j < length s → set (take j s ++ drop j d) j (getD s j 0) ≡ take (j + 1) s ++ drop (j + 1) d
-copy-more d s j hd hs =
-    let v = getD s j 0 in
-    ap (λ (r : List ℕ). set (take j s ++ r) j v) (drop-cons d j 0 hd)
-    ∙ set-at (take j s) (getD d j 0) (drop (suc j) d) v j (length-take-le j s (omega arith))
-    ∙ sym (append-assoc (take j s) (v ∷ []) (drop (suc j) d))
-    ∙ ap (λ (r : List ℕ). r ++ drop (suc j) d) (sym (take-suc s j 0 hs))
-    ∙ ap (λ (k : ℕ). take k s ++ drop k d) (sym (add-one j))
 
 -- ---- what is answered
 

@@ -3,7 +3,7 @@ use native.Mathlib.Omega.{arith}
 use Prim.Native.Nat.{ℕ, _-_, _<_, _≤_}
 use mathlib.Core.List.{List, _++_}
 use lib.ListN.{length, getD, take, drop, set, length-set}
-use Rattle.trace.proofs.WriteRecords.{copy-more}
+use Rattle.lists.proofs.Parts.{copy-more}
 use Rattle.trace.proofs.writing.copy.Statement.{statement}
 use Rattle.trace.proofs.writing.copy.Tie as tie
 
