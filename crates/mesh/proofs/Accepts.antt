@@ -10,7 +10,7 @@ use borrow.Author.Tests.{ltb-true, ltb-false, eqb-true, not-false}
 use Rattle.packet.specs.Bytes.{wordAt, packetAt, rightLength, usedType}
 use Rattle.packet.specs.Control.{kindOf, isDirect}
 use Rattle.packet.specs.Refusal.{firstOf}
-use Rattle.packet.proofs.First.{none-applies}
+use Rattle.packet.proofs.First.{not-refused}
 use Rattle.tables.specs.Accept.{allCodes, routesFine, startsFine, codesFine}
 use Rattle.mesh.specs.Steps.{Tables}
 use Rattle.mesh.specs.Sound.{Passable}
@@ -30,11 +30,11 @@ pub record RoundGoes (held : Bool) (chips flying : ℕ) (t : Tables) (size : ℕ
 
 pub round-goes : (holds : Bool) (chips flying : ℕ) (t : Tables) (room : ℕ) → firstOf (roundRefusals holds chips flying t room) ≡ 0 → RoundGoes holds chips flying t room
 round-goes holds chips flying t room e =
-    let off = none-applies (roundRefusals holds chips flying t room) refl e in
+    let fine = not-refused (roundRefusals holds chips flying t room) refl e in
     record {
-      holds = not-false _ (off .0);
-      lent = lent-tables t chips (not-false _ (off .1 .0)) (not-false _ (off .1 .1 .0));
-      room = ltb-false _ _ (off .1 .1 .1 .0);
+      holds = not-false _ (fine 8);
+      lent = lent-tables t chips (not-false _ (fine 5)) (not-false _ (fine 11));
+      room = ltb-false _ _ (fine 10);
     }
 
 -- a packet that is accepted may pass
@@ -63,13 +63,13 @@ pub record InjectGoes (held : Bool) (chips chip : ℕ) (t : Tables) (size : ℕ)
 pub inject-goes : (holds : Bool) (chips chip : ℕ) (t : Tables) (room : ℕ) (bytes : List ℕ) → firstOf (injectRefusals holds chips chip t room bytes) ≡ 0
     → InjectGoes holds chips chip t room bytes
 inject-goes holds chips chip t room bytes e =
-    let off = none-applies (injectRefusals holds chips chip t room bytes) refl e in
+    let fine = not-refused (injectRefusals holds chips chip t room bytes) refl e in
     record {
-      holds = not-false _ (off .0);
-      there = ltb-true _ _ (not-false _ (off .1 .0));
-      lent = lent-tables t chips (not-false _ (off .1 .1 .0)) (not-false _ (off .1 .1 .1 .0));
-      room = ltb-false _ _ (off .1 .1 .1 .1 .0);
-      whole = not-false _ (off .1 .1 .1 .1 .1 .0);
-      used = not-false _ (off .1 .1 .1 .1 .1 .1 .0);
-      passable = passable-at bytes (not-false _ (off .1 .1 .1 .1 .1 .1 .0)) (off .1 .1 .1 .1 .1 .1 .1 .0);
+      holds = not-false _ (fine 8);
+      there = ltb-true _ _ (not-false _ (fine 9));
+      lent = lent-tables t chips (not-false _ (fine 5)) (not-false _ (fine 11));
+      room = ltb-false _ _ (fine 10);
+      whole = not-false _ (fine 2);
+      used = not-false _ (fine 3);
+      passable = passable-at bytes (not-false _ (fine 3)) (fine 4);
     }

@@ -2,6 +2,7 @@
 use mathlib.Core.Path.{_≡_, refl}
 use mathlib.Core.Bool.{Bool, true, false, cond, _&&_, and-eq-true-iff}
 use mathlib.Core.List.{List, [], _∷_, _++_}
+use Prim.Native.Nat.{ℕ}
 use native.Mathlib.Omega.{arith}
 use lib.Dec.{eqb, ltb}
 use borrow.Author.Tests.{ltb-true, ne-eqb}
@@ -44,3 +45,20 @@ none-applies [] p e = tt
 none-applies (r ∷ rs) p e =
     let h = first-none r rs p e in
     (h .0, none-applies rs (and-eq-true-iff (ltb 0 (r .number)) (positive rs) .0 p .1) (h .1))
+
+-- whether the refusal with number n applies
+abbrev pub whenOf : List Refusal → ℕ → Bool
+whenOf [] n = false
+whenOf (r ∷ rs) n = cond (eqb (r .number) n) (r .when) (whenOf rs n)
+
+-- so where a call is accepted, what refusal n says is known to be false
+pub not-refused : (rs : List Refusal) → positive rs ≡ true → firstOf rs ≡ 0 → (n : ℕ) → whenOf rs n ≡ false
+not-refused rs p e n = by-number rs (none-applies rs p e)
+  where
+    by-number : (rs : List Refusal) → Off rs → whenOf rs n ≡ false
+    by-number [] off = refl
+    by-number (r ∷ rs) off = go (eqb (r .number) n) (by-number rs (off .1))
+      where
+        go : (b : Bool) → whenOf rs n ≡ false → cond b (r .when) (whenOf rs n) ≡ false
+        go true later = off .0
+        go false later = later

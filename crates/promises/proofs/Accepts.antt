@@ -9,7 +9,7 @@ use lib.Dec.{eqb, ltb}
 use borrow.Author.Tests.{ltb-true, eqb-true, not-false}
 use Rattle.packet.specs.Bytes.{packetAt}
 use Rattle.packet.specs.Refusal.{firstOf}
-use Rattle.packet.proofs.First.{none-applies}
+use Rattle.packet.proofs.First.{not-refused}
 use Rattle.mesh.specs.Mesh.{Mesh}
 use Rattle.mesh.specs.Steps.{Tables, Arrival, Going, setOut, setAside, arrivals, injected, rounded}
 use Rattle.mesh.specs.Calls.{Left, many, unless, withLink, withEmpty, injectRefusals, roundRefusals, chipRefusals, linkRefusals}
@@ -50,11 +50,11 @@ module _ {A : Type 0} where
   round-accepts m flying t room e = round-goes true (many m) flying t room e .lent .codes
 
   pub chip-accepts : (m : Mesh A) (chip : ℕ) → firstOf (chipRefusals true (many m) chip) ≡ 0 → chip < m .height * m .width
-  chip-accepts m chip e = ltb-true _ _ (not-false _ (none-applies (chipRefusals true (many m) chip) refl e .1 .0))
+  chip-accepts m chip e = ltb-true _ _ (not-false _ (not-refused (chipRefusals true (many m) chip) refl e 9))
 
   pub link-accepts : (m : Mesh A) (chip link : ℕ) → firstOf (linkRefusals true (many m) chip link) ≡ 0 → (chip < m .height * m .width) × (link < 6)
   link-accepts m chip link e =
-      let both = and-eq-true-iff (ltb chip (many m)) (ltb link 6) .0 (not-false _ (none-applies (linkRefusals true (many m) chip link) refl e .1 .0)) in
+      let both = and-eq-true-iff (ltb chip (many m)) (ltb link 6) .0 (not-false _ (not-refused (linkRefusals true (many m) chip link) refl e 9)) in
       (ltb-true _ _ (both .0), ltb-true _ _ (both .1))
 
 -- ---- the state that is left

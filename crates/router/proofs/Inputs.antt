@@ -13,7 +13,7 @@ use Rattle.packet.specs.declared.Taken.{Taken}
 use Rattle.packet.specs.Bytes.{packetAt, notTaken, takenOf}
 use Rattle.packet.specs.Refusal.{firstOf, packetRefusals}
 use Rattle.packet.proofs.Refusals.{packet-first, take-refused}
-use Rattle.packet.proofs.First.{first-append, none-applies}
+use Rattle.packet.proofs.First.{first-append, not-refused}
 use Rattle.tables.specs.Accept.{rowsFine, codesFine, allCodes}
 use Rattle.steps.specs.declared.Setting.{Setting}
 use Rattle.steps.specs.Deciding.{Checked}
@@ -40,13 +40,13 @@ pub record Fine (source : ℕ) (tables : ChipTables) (t : Setting) : Type 0 wher
 
 pub fine : (source : ℕ) (tables : ChipTables) (t : Setting) → firstOf (settingRefusals source tables t) ≡ 0 → Fine source tables t
 fine source tables t e =
-    let off = none-applies (settingRefusals source tables t) refl e in
+    let fine = not-refused (settingRefusals source tables t) refl e in
     record {
-      sized = not-false _ (off .0);
-      setting = not-false _ (off .1 .0);
-      tabled = not-false _ (off .1 .1 .0);
-      coded = not-false _ (off .1 .1 .1 .0);
-      sourced = not-false _ (off .1 .1 .1 .1 .0);
+      sized = not-false _ (fine 7);
+      setting = not-false _ (fine 6);
+      tabled = not-false _ (fine 5);
+      coded = not-false _ (fine 11);
+      sourced = not-false _ (fine 1);
     }
 
 pub checked : (p : Packet) (source : ℕ) (tables : ChipTables) (t : Setting) → p .control < 256 → Fine source tables t → Checked p source tables t

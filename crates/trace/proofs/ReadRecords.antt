@@ -7,7 +7,7 @@ use lib.Dec.{eqb, ltb}
 use lib.ListN.{length, getD}
 use borrow.Author.Tests.{eq-eqb, ne-eqb, ltb-false, eqb-true, not-false}
 use Rattle.packet.specs.Refusal.{firstOf}
-use Rattle.packet.proofs.First.{none-applies}
+use Rattle.packet.proofs.First.{not-refused}
 use Rattle.trace.specs.declared.Call.{Call}
 use Rattle.trace.specs.declared.Record.{Record}
 use Rattle.trace.specs.Records.{bodyLength, bodyFine, Readable, readRefusals, callOf, callAt, recordRead}
@@ -23,12 +23,12 @@ or-false true b e = absurd (mathlib.Core.Bool.false≢true (sym e))
 
 pub reads : (s : List ℕ) → firstOf (readRefusals s) ≡ 0 → Reads s
 reads s e =
-    let off = none-applies (readRefusals s) refl e in
-    let long = or-false (ltb (length s) 2) (ltb (length s) (2 + bodyLength s)) (off .0) in
+    let well = not-refused (readRefusals s) refl e in
+    let long = or-false (ltb (length s) 2) (ltb (length s) (2 + bodyLength s)) (well 12) in
     record {
       there = record { two = ltb-false _ _ (long .0); whole = ltb-false _ _ (long .1) };
-      version = eqb-true _ _ (not-false _ (or-false (eqb (bodyLength s) 0) _ (off .1 .0) .1));
-      fine = not-false _ (off .1 .1 .0);
+      version = eqb-true _ _ (not-false _ (or-false (eqb (bodyLength s) 0) _ (well 13) .1));
+      fine = not-false _ (well 14);
     }
 
 module _ (s : List ℕ) where
