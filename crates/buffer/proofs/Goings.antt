@@ -1,18 +1,15 @@
 -- Passes one after the other: one is as the mesh's definition says, and some followed by others are all of them.
 use mathlib.Core.Path.{_≡_, refl, sym, ap, _∙_, subst}
-use mathlib.Core.Bool.{_&&_, and-eq-true-iff}
 use mathlib.Core.List.{List, [], _∷_, _++_, foldl}
 use Prim.Native.Nat.{ℕ, suc, _+_, _-_, _*_, _/_, _≤_, _<_}
 use native.Mathlib.Nat.{mul-le-mul, suc-mul, le-refl, le-trans, le-of-eq, add-sub-cancel-left}
 use native.Mathlib.Omega.{arith}
-use lib.Dec.{eqb, lit<}
+use lib.Dec.{lit<}
 use lib.ListN.{length, getD, take, drop, length-append, length-drop}
 use lib.Seq.{drop-drop, length-take-le}
-use borrow.Author.Tests.{eqb-true}
 use Rattle.steps.specs.declared.Outcome.{Outcome}
 use Rattle.steps.specs.Deciding.{outcomeOf}
-use Rattle.tables.specs.Accept.{climbs}
-use Rattle.tables.proofs.Starts.{start-below, start-end}
+use Rattle.tables.proofs.Starts.{starts-one-more, start-below, start-end}
 use Rattle.tables.specs.Tables.{chipTables}
 use Rattle.mesh.specs.Mesh.{Chip, fresh}
 use Rattle.links.specs.Offsets.{widthAt, heightAt, headerLong, chipLong, chipPlace, monitorAt, phaseAt}
@@ -38,9 +35,7 @@ module _ (t : Tables) (chips c : ℕ) (lent : Lent t chips) (below : c < chips) 
   rows-below = start-below (t .starts) chips (length (t .rows) / 3) c (lent .starts) below
 
   pub starts-long : length (t .starts) ≡ chips + 1
-  starts-long = eqb-true _ _ (and-eq-true-iff (eqb (length (t .starts)) (chips + 1)) (eqb (getD (t .starts) 0 0) 0) .0
-      (and-eq-true-iff (eqb (length (t .starts)) (chips + 1) && eqb (getD (t .starts) 0 0) 0) (eqb (getD (t .starts) chips 0) (length (t .rows) / 3)) .0
-      (and-eq-true-iff (eqb (length (t .starts)) (chips + 1) && eqb (getD (t .starts) 0 0) 0 && eqb (getD (t .starts) chips 0) (length (t .rows) / 3)) (climbs (t .starts)) .0 (lent .starts) .0) .0) .0)
+  starts-long = starts-one-more (t .starts) chips (length (t .rows) / 3) c (lent .starts)
 
   pub rows-end : getD (t .starts) (c + 1) 0 * 3 ≤ length (t .rows)
   rows-end = omega (arith, start-end (t .starts) chips (length (t .rows) / 3) (c + 1) (lent .starts) (omega arith))

@@ -1,7 +1,7 @@
 -- Where each chip's rows start, number by number: what the test of all of them says of each, and what is known of all from those that are still
 -- to come.
 use mathlib.Core.Path.{_≡_, refl, sym, ap, _∙_, subst}
-use mathlib.Core.Bool.{Bool, true, false, _&&_, and-comm, and-eq-true-iff}
+use mathlib.Core.Bool.{Bool, true, false, _&&_, and-comm, and-false, and-assoc, and-eq-true-iff}
 use mathlib.Core.List.{List, [], _∷_}
 use Prim.Native.Nat.{ℕ, zero, suc, _+_, _-_, _<_, _≤_}
 use native.Mathlib.Nat.{add-zero, suc-add, le-of-eq}
@@ -11,9 +11,26 @@ use lib.Dec.{eqb, leb}
 use lib.ListN.{length, getD, drop, drop-of-length-le}
 use lib.Seq.{drop-cons}
 use borrow.Author.Tests.{leb-true, leb-false, le-leb, lt-leb, eqb-true, eq-eqb}
-use Rattle.tables.specs.Accept.{climbs, startsFine}
+use Rattle.tables.specs.Accept.{neverFalling, startsRight, rowsFew, startsFine}
 
 -- ---- one number after another
+
+-- both tests of one number and the next, in one walk
+unfoldable pub climbs : List ℕ → Bool
+climbs [] = true
+climbs (a ∷ []) = true
+climbs (a ∷ b ∷ rest) = leb a b && leb (b - a) 1024 && climbs (b ∷ rest)
+
+climbs-apart : (s : List ℕ) → climbs s ≡ (neverFalling s && rowsFew s)
+unfolding climbs neverFalling rowsFew
+climbs-apart [] = refl
+climbs-apart (a ∷ []) = refl
+climbs-apart (a ∷ b ∷ rest) = go (leb a b) (leb (b - a) 1024) (neverFalling (b ∷ rest)) (rowsFew (b ∷ rest)) (climbs (b ∷ rest)) (climbs-apart (b ∷ rest))
+  where
+    go : (x y n f c : Bool) → c ≡ (n && f) → (x && y && c) ≡ ((x && n) && (y && f))
+    go true true n f c e = e
+    go true false n f c e = sym (and-false n)
+    go false y n f c e = refl
 
 -- a difference of at most 1,024, without taking the difference
 leb-room : (a b : ℕ) → leb (b - a) 1024 ≡ leb b (a + 1024)
@@ -64,7 +81,9 @@ starts-last s chips rows i end fine long at last e =
     let top = eqb (getD s chips 0) rows in
     (λ k. sym (climbs-last s i (first && climbs s) fine (omega arith) e) k && eqb (last k) rows)
     ∙ and-swap first top (climbs s)
-    ∙ ap (λ (t : Bool). t && first && top && climbs s) (sym (eq-eqb _ _ long))
+    ∙ ap (λ (t : Bool). first && top && t) (climbs-apart s)
+    ∙ sym (and-assoc (first && top) (neverFalling s) (rowsFew s))
+    ∙ ap (λ (t : Bool). t && first && top && neverFalling s && rowsFew s) (sym (eq-eqb _ _ long))
 
 -- ---- what holds of each
 
@@ -103,9 +122,13 @@ module _ (starts : List ℕ) (chips rows c : ℕ) (fine : startsFine starts chip
       let long = eqb (length starts) (chips + 1) in
       let first = eqb (getD starts 0 0) 0 in
       let last = eqb (getD starts chips 0) rows in
-      let t = and-eq-true-iff (long && first && last) (climbs starts) .0 fine in
+      let apart = and-eq-true-iff (startsRight starts chips rows) (rowsFew starts) .0 fine in
+      let t = and-eq-true-iff (long && first && last) (neverFalling starts) .0 (apart .0) in
       let u = and-eq-true-iff (long && first) last .0 (t .0) in
-      record { long = eqb-true _ _ (and-eq-true-iff long first .0 (u .0) .0); top = eqb-true _ _ (u .1); rising = t .1 }
+      record { long = eqb-true _ _ (and-eq-true-iff long first .0 (u .0) .0); top = eqb-true _ _ (u .1); rising = climbs-apart starts ∙ simp (t .1, apart .1) }
+
+  pub starts-one-more : length starts ≡ chips + 1
+  starts-one-more = parts .long
 
   -- a chip's rows end where the next one's start, and not before they start
   pub start-below : c < chips → getD starts c 0 ≤ getD starts (c + 1) 0

@@ -1,5 +1,5 @@
--- Which lent tables are acceptable. Refusal 5: "over 1,024 rows for a chip, route bit 26 to 31 set, bad starts"; 11: "P2P table of wrong size,
--- or a code above 7".
+-- Which lent tables are acceptable. Refusal 5: "over 1,024 rows for a chip, route bit 26 to 31 set, bad starts", a definition for each cause;
+-- 11: "P2P table of wrong size, or a code above 7".
 use Prim.Native.Nat.{ℕ, _+_, _-_, _*_, _/_, _%_, _^_, _<_}
 use mathlib.Core.Path.{_≡_}
 use mathlib.Core.Bool.{Bool, true, _&&_}
@@ -18,8 +18,13 @@ allRoutes (r ∷ rs) = ltb (r .route) 67108864 && allRoutes rs
 abbrev pub routesFine : List ℕ → Bool
 routesFine s = eqb (length s % 3) 0 && allRoutes (rowsOf s)
 
+-- "Over 1,024 rows for a chip" are too many.
+abbrev pub fewRows : ℕ → Bool
+fewRows n = leb n 1024
+
+-- One chip's rows.
 abbrev pub rowsFine : List ℕ → Bool
-rowsFine s = leb (length s / 3) 1024 && routesFine s
+rowsFine s = fewRows (length s / 3) && routesFine s
 
 unfoldable pub allCodes : List ℕ → Bool
 allCodes [] = true
@@ -37,11 +42,20 @@ aboveSeven = 17940362863843014904
 abbrev pub SideBySide : ℕ → List ℕ → ℕ → ℕ → Type 0
 SideBySide n codes i r = (r < 2 ^ (8 * n)) × (allCodes (drop i codes) ≡ (eqb (bitAnd r aboveSeven) 0 && allCodes (drop (i + n) codes)))
 
--- "First 0, never falling, last the number of rows, one more number than chips"; "over 1,024 rows for a chip" are too many.
-unfoldable pub climbs : List ℕ → Bool
-climbs [] = true
-climbs (a ∷ []) = true
-climbs (a ∷ b ∷ rest) = leb a b && leb (b - a) 1024 && climbs (b ∷ rest)
+-- "Where each chip's rows start": "first 0, never falling, last the number of rows, one more number than chips".
+unfoldable pub neverFalling : List ℕ → Bool
+neverFalling [] = true
+neverFalling (a ∷ []) = true
+neverFalling (a ∷ b ∷ rest) = leb a b && neverFalling (b ∷ rest)
+
+abbrev pub startsRight : List ℕ → ℕ → ℕ → Bool
+startsRight starts chips rows = eqb (length starts) (chips + 1) && eqb (getD starts 0 0) 0 && eqb (getD starts chips 0) rows && neverFalling starts
+
+-- Few rows for each chip, from its start to the next.
+unfoldable pub rowsFew : List ℕ → Bool
+rowsFew [] = true
+rowsFew (a ∷ []) = true
+rowsFew (a ∷ b ∷ rest) = fewRows (b - a) && rowsFew (b ∷ rest)
 
 abbrev pub startsFine : List ℕ → ℕ → ℕ → Bool
-startsFine starts chips rows = eqb (length starts) (chips + 1) && eqb (getD starts 0 0) 0 && eqb (getD starts chips 0) rows && climbs starts
+startsFine starts chips rows = startsRight starts chips rows && rowsFew starts

@@ -8,8 +8,7 @@ use borrow.Author.Needs.{needs}
 use borrow.Author.Tests.{ne-eqb}
 use lib.Dec.{eqb}
 use lib.ListN.{length, getD, drop}
-use Rattle.tables.specs.Accept.{climbs}
-use Rattle.tables.proofs.Starts.{starts-joined, starts-last}
+use Rattle.tables.proofs.Starts.{climbs, starts-joined, starts-last}
 use Rattle.tables.proofs.accept.starts_fine.Statement.{statement}
 use Rattle.tables.proofs.accept.starts_fine.Tie as tie
 
