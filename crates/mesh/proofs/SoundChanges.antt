@@ -1,30 +1,36 @@
--- A sound mesh stays sound over a link change and over a chip's registers being read.
-use mathlib.Core.Path.{refl, _∙_}
+-- A sound mesh stays sound where chips of it change to sound ones: over a link change and over a chip's registers being read.
+use mathlib.Core.Path.{_≡_, refl, _∙_}
 use mathlib.Core.Bool.{Bool}
+use mathlib.Core.List.{List}
 use Prim.Native.Nat.{ℕ, _*_, _<_}
 use native.Mathlib.Omega.{arith}
-use lib.ListN.{getD, length-set}
+use lib.ListN.{length, getD, length-set}
 use Rattle.links.specs.Line.{idle}
 use Rattle.mesh.specs.Mesh.{Chip, Mesh, fresh}
-use Rattle.mesh.specs.Steps.{withChip}
+use Rattle.mesh.specs.Steps.{withChips, withChip}
 use Rattle.mesh.specs.Calls.{withLink, withEmpty}
 use Rattle.mesh.specs.Sound.{SoundLine, SoundChip, SoundMesh}
+use Rattle.lists.specs.Lists.{All}
 use Rattle.lists.proofs.Alls.{all-getD, all-set}
 
--- a chip changed, all else as it was
-sound-chip : {A : Type 0} {m : Mesh A} (chip : ℕ) (c : Chip A) → SoundMesh m → SoundChip c → SoundMesh (withChip m chip c)
-sound-chip {m} chip c sound h =
-    record {
-      size = sound .size;
-      rounds = sound .rounds;
-      monitor = sound .monitor;
-      phase = sound .phase;
-      elapsed = sound .elapsed;
-      many = length-set (m .chips) chip c ∙ sound .many;
-      chips = all-set SoundChip (m .chips) chip c (sound .chips) h;
-    }
-
 module _ {A : Type 0} {m : Mesh A} (sound : SoundMesh m) where
+  -- other chips, all else as it was
+  pub sound-chips : (chips : List (Chip A)) → length chips ≡ length (m .chips) → All SoundChip chips → SoundMesh (withChips m chips)
+  sound-chips chips long fine =
+      record {
+        size = sound .size;
+        rounds = sound .rounds;
+        monitor = sound .monitor;
+        phase = sound .phase;
+        elapsed = sound .elapsed;
+        many = long ∙ sound .many;
+        chips = fine;
+      }
+
+  -- one chip changed
+  pub sound-chip : (chip : ℕ) (c : Chip A) → SoundChip c → SoundMesh (withChip m chip c)
+  sound-chip chip c h = sound-chips _ (length-set (m .chips) chip c) (all-set SoundChip (m .chips) chip c (sound .chips) h)
+
   pub chip-sound : (chip : ℕ) → chip < m .height * m .width → SoundChip (getD (m .chips) chip fresh)
   chip-sound chip h = all-getD SoundChip (m .chips) chip fresh (sound .chips) (omega (arith, sound .many))
 
@@ -32,7 +38,7 @@ module _ {A : Type 0} {m : Mesh A} (sound : SoundMesh m) where
   sound-linked chip link up h k =
       let c = chip-sound chip h in
       let l : SoundLine (getD (getD (m .chips) chip fresh .lines) link idle) = all-getD SoundLine (getD (m .chips) chip fresh .lines) link idle (c .lines) (omega (arith, c .six)) in
-      sound-chip chip _ sound
+      sound-chip chip _
       (record {
         six = length-set (getD (m .chips) chip fresh .lines) link _ ∙ c .six;
         registers = c .registers;
@@ -40,4 +46,4 @@ module _ {A : Type 0} {m : Mesh A} (sound : SoundMesh m) where
       })
 
   pub sound-emptied : (chip : ℕ) → chip < m .height * m .width → SoundMesh (withEmpty m chip)
-  sound-emptied chip h = let c = chip-sound chip h in sound-chip chip _ sound (record { six = c .six; registers = refl; lines = c .lines })
+  sound-emptied chip h = let c = chip-sound chip h in sound-chip chip _ (record { six = c .six; registers = refl; lines = c .lines })

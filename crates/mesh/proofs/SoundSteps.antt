@@ -1,5 +1,5 @@
 -- A sound mesh stays sound: over a pass, an injection, a round and each step of a round; and an open mesh is sound.
-use mathlib.Core.Path.{_≡_, refl, sym, _∙_, subst}
+use mathlib.Core.Path.{_≡_, refl, sym, _∙_}
 use mathlib.Core.Logic.{inr}
 use mathlib.Core.Bool.{Bool, true, false, cond, and-eq-true-iff}
 use mathlib.Core.List.{List, [], _∷_, foldl}
@@ -16,11 +16,12 @@ use Rattle.steps.proofs.Bounds.{set-small}
 use Rattle.links.specs.Line.{Flight, Line, idle, isReady}
 use Rattle.links.specs.Phase.{nextPhase}
 use Rattle.mesh.specs.Mesh.{Chip, Mesh, fresh, opened, roundsFine}
-use Rattle.mesh.specs.Steps.{Tables, Arrival, Going, rowsAt, codesAt, settingAt, emptied, emptiedChip, setAside, arrivals, roundOver, passAt, injected, passed, rounded, tablesAt}
+use Rattle.mesh.specs.Steps.{Tables, Arrival, Going, settingAt, emptied, emptiedChip, setAside, arrivals, roundOver, passAt, injected, passed, rounded, tablesAt}
 use Rattle.lists.specs.Lists.{All}
 use Rattle.mesh.specs.Sound.{Passable, Arrives, SoundLine, SoundChip, SoundMesh}
-use Rattle.lists.proofs.Alls.{all-nil, all-getD, all-set, all-map, all-weaken, all-replicate}
+use Rattle.lists.proofs.Alls.{all-nil, all-map, all-weaken, all-replicate}
 use Rattle.steps.proofs.Sources.{source-near}
+use Rattle.mesh.proofs.SoundChanges.{sound-chips, sound-chip, chip-sound}
 use Rattle.mesh.proofs.SoundAfter.{sound-after}
 use Rattle.tables.proofs.Sizes as sizes
 use Rattle.mesh.proofs.SoundArrivals.{sound-arrivals}
@@ -78,15 +79,7 @@ module _ {A : Type 0} where
 
   pub sound-aside : {m : Mesh A} → SoundMesh m → SoundMesh (setAside m)
   sound-aside {m} sound =
-      record {
-        size = sound .size;
-        rounds = sound .rounds;
-        monitor = sound .monitor;
-        phase = sound .phase;
-        elapsed = sound .elapsed;
-        many = length-map (m .chips) emptiedChip ∙ sound .many;
-        chips = all-map SoundChip emptiedChip (m .chips) (all-weaken SoundChip _ emptied-chip-sound (m .chips) (sound .chips));
-      }
+      sound-chips sound _ (length-map (m .chips) emptiedChip) (all-map SoundChip emptiedChip (m .chips) (all-weaken SoundChip _ emptied-chip-sound (m .chips) (sound .chips)))
 
   pub sound-over : {m : Mesh A} → SoundMesh m → SoundMesh (roundOver m)
   sound-over {m} sound =
@@ -138,18 +131,9 @@ module _ {A : Type 0} where
     pub sound-pass : (g : Going A) (a : Arrival A) → SoundMesh (g .mesh) → CodesFor t (g .mesh) → Arrives (g .mesh .height * g .mesh .width) a → SoundMesh (passAt t turn g a .mesh)
     sound-pass g a sound codes h =
         let m = g .mesh in
-        let here : SoundChip (getD (m .chips) (a .chip) fresh) = all-getD SoundChip (m .chips) (a .chip) fresh (sound .chips) (subst (λ (n : ℕ). a .chip < n) (sym (sound .many)) (h .there)) in
-        record {
-          size = sound .size;
-          rounds = sound .rounds;
-          monitor = sound .monitor;
-          phase = sound .phase;
-          elapsed = sound .elapsed;
-          many = length-set (m .chips) (a .chip) _ ∙ sound .many;
-          chips = all-set SoundChip (m .chips) (a .chip) _ (sound .chips)
-              (sound-after (getD (m .chips) (a .chip) fresh) (turn (a .flight .tag)) here (a .flight .packet) (a .source) (tablesAt t (m .height * m .width) (a .chip))
-              (settingAt m (a .chip)) refl (checked t m a sound codes h) (h .from) (h .passable));
-        }
+        sound-chip sound (a .chip) _
+        (sound-after (getD (m .chips) (a .chip) fresh) (turn (a .flight .tag)) (chip-sound sound (a .chip) (h .there)) (a .flight .packet) (a .source) (tablesAt t (m .height * m .width) (a .chip))
+        (settingAt m (a .chip)) refl (checked t m a sound codes h) (h .from) (h .passable))
 
     pub pass-head : (g : Going A) (a : Arrival A) → SameHead (g .mesh) (passAt t turn g a .mesh)
     pass-head g a =
