@@ -1,14 +1,14 @@
 -- A chip's registers stay in range: what a pass drops has no error, so that its packet has odd parity and its control byte, word and payload
 -- are not all 0.
-use mathlib.Core.Path.{_≡_, refl, sym, _∙_}
-use mathlib.Core.Bool.{Bool, true, false, cond, _&&_, and-eq-true-iff, false≢true}
-use Prim.Native.Nat.{ℕ, _+_, _≤_, _<_, _%_}
+use mathlib.Core.Path.{_≡_, refl}
+use mathlib.Core.Bool.{Bool, true, false, cond, and-eq-true-iff}
+use Prim.Native.Nat.{ℕ, _≤_, _<_}
 use native.Mathlib.Omega.{arith}
-use lib.Count.{ones}
 use lib.Dec.{eqb, ltb, lit<}
 use borrow.Author.Tests.{eqb-true, eqb-false, lt-ltb, le-leb}
 use Rattle.packet.specs.declared.Packet.{Packet}
 use Rattle.packet.specs.Parity.{isOdd}
+use Rattle.packet.proofs.Odd.{odd-some}
 use Rattle.steps.specs.declared.Outcome.{Outcome}
 use Rattle.kept.specs.declared.Registers.{Registers}
 use Rattle.steps.specs.declared.Setting.{Setting}
@@ -21,20 +21,6 @@ use Rattle.kept.proofs.OnePass.{error-drops-none}
 use Rattle.mesh.specs.Sound.{registersFine, Passable}
 use Rattle.mesh.proofs.SoundSends.{stamped-passable}
 use Rattle.tables.specs.Tables.{ChipTables}
-
--- a packet of odd parity is not all zeros
-pub odd-some : (q : Packet) → isOdd q ≡ true → (eqb (q .control) 0 && eqb (q .word) 0 && eqb (q .payload) 0) ≡ false
-unfolding ones
-odd-some q odd = go (eqb (q .control) 0 && eqb (q .word) 0 && eqb (q .payload) 0) refl
-  where
-    go : (b : Bool) → (eqb (q .control) 0 && eqb (q .word) 0 && eqb (q .payload) 0) ≡ b → (eqb (q .control) 0 && eqb (q .word) 0 && eqb (q .payload) 0) ≡ false
-    go true e =
-        let t : _ = simp and-eq-true-iff at e in
-        let c : q .control ≡ 0 = eqb-true _ _ (t .0 .0) in
-        let w : q .word ≡ 0 = eqb-true _ _ (t .0 .1) in
-        let p : q .payload ≡ 0 = eqb-true _ _ (t .1) in
-        absurd (false≢true (sym (λ i. eqb ((ones (c i) + ones (w i) + ones (p i)) % 2) 1) ∙ odd))
-    go false e = e
 
 lowest-link-below : (set : ℕ) → lowest set < 6
 lowest-link-below set = go (has set 0) (has set 1) (has set 2) (has set 3) (has set 4)

@@ -5,10 +5,11 @@ use mathlib.Core.List.{List, [], _∷_, _++_, foldl-append}
 use Prim.Native.Nat.{ℕ, _*_, _<_}
 use native.Mathlib.Omega.{arith}
 use lib.Dec.{eqb}
-use lib.ListN.{length, getD, getD-replicate, List·getD-map}
+use lib.ListN.{getD, getD-replicate, List·getD-map}
 use lib.Seq.{getD-set-same, getD-set-other}
 use borrow.Author.Tests.{eqb-true, eqb-false}
 use Rattle.packet.specs.declared.Packet.{Packet}
+use Rattle.packet.proofs.Odd.{odd-some}
 use Rattle.kept.specs.declared.Registers.{Registers}
 use Rattle.steps.specs.declared.Setting.{Setting}
 use Rattle.steps.specs.Errors.{errorsOf}
@@ -22,8 +23,7 @@ use Rattle.mesh.specs.Steps.{Tables, Arrival, setOut, settingAt, emptiedChip, p
 use Rattle.mesh.specs.Calls.{withEmpty}
 use Rattle.lists.specs.Lists.{All}
 use Rattle.mesh.specs.Sound.{Arrives, SoundMesh}
-use Rattle.lists.proofs.Alls.{all-nil, all-append}
-use Rattle.mesh.proofs.SoundRegisters.{odd-some}
+use Rattle.lists.proofs.Alls.{all-nil, all-empty, all-append}
 use Rattle.mesh.proofs.SoundSteps.{CodesFor, checked}
 use Rattle.lists.proofs.Changed.{set-keeps}
 use Rattle.promises.specs.History.{Tag, Event, passed, emptied, turned}
@@ -33,18 +33,13 @@ use Rattle.promises.proofs.Dropped.{length-dropped, first-dropped, Some
 use Rattle.promises.proofs.Runs.{passage, always-steady}
 use Rattle.tables.specs.Tables.{ChipTables}
 
-none-some : (us : List Registers) → length us ≡ 0 → All Some us
-unfolding All
-none-some [] e = tt
-none-some (u ∷ us) e = absurd (omega arith)
-
 -- what a pass drops holds something: a packet in error is dropped nowhere, and any other has odd parity
 drops-some : (p : Packet) (s : ℕ) (tables : ChipTables) (t : Setting) → Checked p s tables t → Source s → All Some (droppedUnits (outcomeOf p s tables t))
 drops-some p s tables t h from = go (eqb (dropCount (outcomeOf p s tables t)) 0) refl (eqb (errorsOf p s (t .phase)) 0) refl
   where
     go : (b : Bool) → eqb (dropCount (outcomeOf p s tables t)) 0 ≡ b → (c : Bool) → eqb (errorsOf p s (t .phase)) 0 ≡ c → All Some (droppedUnits (outcomeOf p s tables t))
     go true d c e =
-        none-some (droppedUnits (outcomeOf p s tables t)) (length-dropped (outcomeOf p s tables t) (outcome-sets p s tables t) ∙ eqb-true _ _ d)
+        all-empty Some (droppedUnits (outcomeOf p s tables t)) (length-dropped (outcomeOf p s tables t) (outcome-sets p s tables t) ∙ eqb-true _ _ d)
     go false d true e = all-some (outcomeOf p s tables t) (odd-some (outcomeOf p s tables t .packet) (stamped-odd p s tables t h from (eqb-true _ _ e)))
     go false d false e = absurd (eqb-false _ _ d (error-drops-none p s tables t h from (eqb-false _ _ e)))
 
