@@ -9,15 +9,15 @@ use lib.Seq.{getD-drop, drop-drop}
 use Rattle.packet.specs.declared.Packet.{Packet}
 use Rattle.links.specs.Offsets.{widthAt, heightAt, heldAt, placeLong, depth, asideAt, asidePlacesAt, chipPlace, linePlace}
 use Rattle.links.specs.Line.{Flight}
-use Rattle.links.specs.Across.{across, opposite, asidePlace}
-use Rattle.links.specs.Words.{packetIn, placesIn, asideIn}
-use Rattle.links.specs.Lines.{still}
+use Rattle.links.specs.Across.{across, opposite}
+use Rattle.links.specs.Words.{asidePlace, packetIn, placesIn, asideIn}
+use Rattle.links.specs.LineWords.{still}
 use Rattle.buffer.specs.Layout.{chipsOf, wordsOf}
 use Rattle.mesh.specs.Steps.{Tables, Arrival}
-use Rattle.buffer.specs.Chips.{lineWords}
+use Rattle.buffer.specs.ChipWords.{lineWords}
 use Rattle.buffer.specs.Passing.{chipWords}
 use Rattle.mesh.specs.Sound.{Arrives}
-use Rattle.buffer.specs.Going.{arrival, asideFor, asideBy, asideFrom, AsideFew, Due, DueAside, Passed}
+use Rattle.buffer.specs.PassesInTurn.{arrival, asideFor, asideBy, asideFrom, AsideFew, Due, DueAside, Passed}
 use Rattle.lists.specs.Lists.{upTo}
 use Rattle.lists.proofs.Alls.{all-left}
 use Rattle.links.proofs.Places.{length-places}

@@ -11,7 +11,7 @@ use Rattle.links.specs.Offsets.{stateAt, chipLong, chipPlace}
 use Rattle.links.specs.Words.{lineIn, asideIn}
 use Rattle.buffer.specs.Layout.{registersIn}
 use Rattle.lists.specs.Lists.{putBack}
-use Rattle.buffer.specs.Chips.{lineWords, ChangedBut, from}
+use Rattle.buffer.specs.ChipWords.{lineWords, ChangedBut, from}
 use Rattle.buffer.specs.Passing.{chipWords}
 use Rattle.buffer.specs.Aside.{asideOn, ChipAside, AsideUpto}
 use Rattle.buffer.specs.Held.{Few}

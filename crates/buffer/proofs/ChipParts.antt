@@ -16,7 +16,7 @@ use Rattle.lists.specs.Lists.{part, putBack}
 use Rattle.links.specs.Words.{lineIn}
 use Rattle.mesh.specs.Mesh.{Chip}
 use Rattle.buffer.specs.Layout.{registersIn, registerWords, chipIn}
-use Rattle.buffer.specs.Chips.{lineWords}
+use Rattle.buffer.specs.ChipWords.{lineWords}
 use Rattle.lists.proofs.Parts.{part-same, part-before, part-behind}
 
 abbrev pub withLine : Chip (Unit {0}) → ℕ → Line (Unit {0}) → Chip (Unit {0})

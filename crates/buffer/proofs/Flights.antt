@@ -11,13 +11,13 @@ use lib.Seq.{getD-take, getD-drop}
 use Rattle.links.specs.Offsets.{heldAt, placesAt, lineLong, linePlace}
 use Rattle.links.specs.Words.{lineIn}
 use Rattle.buffer.specs.Layout.{chipsIn, meshOf, chipsOf}
-use Rattle.buffer.specs.Chips.{lineWords}
+use Rattle.buffer.specs.ChipWords.{lineWords}
 use Rattle.buffer.specs.Passing.{chipWords}
 use Rattle.buffer.specs.Holding.{holdsMesh}
 use Rattle.lists.specs.Lists.{total}
 use Rattle.mesh.specs.Weights.{onLine, onChip, inFlight}
 use Rattle.buffer.specs.Held.{chipFlight, Few}
-use Rattle.buffer.proofs.Counts.{few-held}
+use Rattle.buffer.proofs.HoldsMesh.{few-held}
 use Rattle.links.proofs.Places.{length-places}
 use Rattle.lists.proofs.Totals.{total-ones}
 

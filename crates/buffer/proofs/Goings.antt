@@ -12,15 +12,15 @@ use Rattle.steps.specs.Deciding.{outcomeOf}
 use Rattle.tables.proofs.Starts.{starts-one-more, start-below, start-end}
 use Rattle.tables.specs.Tables.{chipTables}
 use Rattle.mesh.specs.Mesh.{Chip, fresh}
-use Rattle.links.specs.Offsets.{widthAt, heightAt, headerLong, chipLong, chipPlace, monitorAt, phaseAt}
-use Rattle.links.specs.Lines.{still}
+use Rattle.links.specs.Offsets.{widthAt, heightAt, monitorAt, phaseAt, chipLong, chipPlace}
+use Rattle.links.specs.LineWords.{still}
 use Rattle.links.specs.Line.{readyLinks}
 use Rattle.buffer.specs.Layout.{chipIn, meshOf, wordsFor, chipsOf, wordsOf}
-use Rattle.mesh.specs.Steps.{Tables, Arrival, Going, rowsAt, codesAt, logOf, outcomeAt, settingAt, chipAfter, withChip, passAt, same, tablesAt}
+use Rattle.mesh.specs.Steps.{Tables, Arrival, Going, codesAt, logOf, outcomeAt, chipAfter, withChip, passAt, same, tablesAt}
 use Rattle.buffer.specs.Passing.{chipWords, settingIn, CheckedAt, MeshStep}
 use Rattle.buffer.specs.Holding.{headFine}
 use Rattle.buffer.specs.Logs.{Logged}
-use Rattle.buffer.specs.Going.{goingIn, Due, Passed}
+use Rattle.buffer.specs.PassesInTurn.{goingIn, Due, Passed}
 use Rattle.mesh.specs.Calls.{Lent}
 use Rattle.lists.proofs.Alls.{all-right}
 use Rattle.buffer.proofs.Headers.{Head, head-range, head-same, head-fine-same}
@@ -59,7 +59,7 @@ module _ (t : Tables) (a : Arrival (Unit {0})) (l log : List ℕ) (n : ℕ) (d :
   head = head-range l (d .head)
 
   -- what the code computes with stays small
-  pub start-here : (a .chip < 144) × ((a .chip + 1 < length (t .starts)) × (n * 6 + headerLong ≤ length log))
+  pub start-here : (a .chip < 144) × ((a .chip + 1 < length (t .starts)) × (n * 6 + 6 ≤ length log))
   start-here =
       (omega (arith, arrives .there, head .few), (omega (arith, arrives .there, starts-long t (chipsOf l) (a .chip) (d .lent) (arrives .there)), omega (arith, d .room)))
 

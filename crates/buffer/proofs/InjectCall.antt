@@ -15,10 +15,10 @@ use Rattle.mesh.specs.Steps.{Tables, Going, injected, same}
 use Rattle.buffer.specs.Holding.{holdsMesh, StatesFine}
 use Rattle.lists.specs.Lists.{All}
 use Rattle.mesh.specs.Sound.{SoundMesh}
-use Rattle.buffer.specs.Going.{arrival, Due, Passed}
+use Rattle.buffer.specs.PassesInTurn.{arrival, Due, Passed}
 use Rattle.mesh.specs.Calls.{injectRefusals}
 use Rattle.buffer.specs.Leaving.{Moves, injectLeft}
-use Rattle.buffer.proofs.Counts.{holds-head, words-enough}
+use Rattle.buffer.proofs.HoldsMesh.{holds-head, words-enough}
 use Rattle.mesh.proofs.SoundSteps.{sound-injected}
 use Rattle.buffer.proofs.SoundWords.{holds-sound, holds-states, sound-holds}
 use Rattle.buffer.proofs.Headers.{head-same}

@@ -13,7 +13,6 @@ use Rattle.buffer.specs.Layout.{meshOf, wordsOf}
 use Rattle.buffer.specs.Holding.{holdsMesh}
 use Rattle.mesh.specs.Calls.{addedOf, loggedOn, unless}
 use Rattle.buffer.specs.Leaving.{Leaves, Moves}
-use Rattle.links.specs.Offsets.{headerLong}
 
 module _ (r : ℕ) (m : Mesh (Unit {0})) (g : Going (Unit {0})) where
   go-left : r ≡ 0 → unless r m g ≡ record { refusal = 0; mesh = g .mesh; log = g .log }
@@ -37,7 +36,7 @@ module _ (r : ℕ) (m : Mesh (Unit {0})) (g : Going (Unit {0})) where
   accepted-refusal none = rw (go-left none) refl
 
   -- and the records that it makes, n of them
-  pub accepted-log : r ≡ 0 → (log log′ : List ℕ) (n : ℕ) → take (n * 6) log′ ≡ g .log → drop (n * 6) log′ ≡ drop (n * 6) log → length log′ ≡ length log → n * headerLong ≤ length log
+  pub accepted-log : r ≡ 0 → (log log′ : List ℕ) (n : ℕ) → take (n * 6) log′ ≡ g .log → drop (n * 6) log′ ≡ drop (n * 6) log → length log′ ≡ length log → n * 6 ≤ length log
       → ((record { refusal = 0; added = n } ≡ addedOf (unless r m g)) × (log′ ≡ loggedOn (unless r m g .log) log))
   accepted-log none log log′ n front behind long fits =
       let size : length (g .log) ≡ n * 6 = ap length (sym front) ∙ length-take-le (n * 6) log′ (omega arith) in

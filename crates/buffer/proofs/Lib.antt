@@ -1,13 +1,12 @@
 pub mod Arrivals
 pub mod AsideChips
 pub mod Asides
-pub mod Changes
 pub mod ChipParts
-pub mod Counts
 pub mod FineSteps
 pub mod Flights
 pub mod Goings
 pub mod Headers
+pub mod HoldsMesh
 pub mod InjectCall
 pub mod Leaving
 pub mod LinkWords
@@ -16,6 +15,7 @@ pub mod Logs
 pub mod Looks
 pub mod LooksAtFlights
 pub mod MeshParts
+pub mod OneChipChanged
 pub mod Opened
 pub mod Refusals
 pub mod RegistersCall

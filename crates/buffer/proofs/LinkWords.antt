@@ -9,7 +9,7 @@ use Rattle.packet.specs.Control.{carriesOf}
 use Rattle.links.specs.Offsets.{placeLong, lineLong, chipLong, chipPlace, linePlace}
 use Rattle.links.specs.Line.{Flight}
 use Rattle.links.specs.Words.{packetIn, placesIn}
-use Rattle.buffer.specs.Chips.{lineWords}
+use Rattle.buffer.specs.ChipWords.{lineWords}
 use Rattle.buffer.specs.Passing.{chipWords}
 use Rattle.links.proofs.Places.{packet-at}
 

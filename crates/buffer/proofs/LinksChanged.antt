@@ -13,14 +13,14 @@ use Rattle.steps.specs.declared.Outcome.{Outcome}
 use Rattle.steps.specs.Links.{has}
 use Rattle.kept.specs.Keeping.{keptOf}
 use Rattle.kept.specs.Counting.{countedOf}
-use Rattle.links.specs.Offsets.{headerLong, lineLong, registersLong, countersLong, countersAt, chipLong, linePlace}
+use Rattle.links.specs.Offsets.{lineLong, registersLong, countersLong, countersAt, chipLong, linePlace}
 use Rattle.links.specs.Line.{lineAfter}
 use Rattle.lists.specs.Lists.{part, putBack}
 use Rattle.links.specs.Words.{lineIn}
-use Rattle.links.specs.Lines.{sentWords, Room, still}
+use Rattle.links.specs.LineWords.{sentWords, Room, still}
 use Rattle.mesh.specs.Steps.{linesAfter}
 use Rattle.buffer.specs.Layout.{registersIn, registerWords}
-use Rattle.buffer.specs.Chips.{changedOn, sending, lineWords, Takes, ChipStep, ChangedBut, from, among}
+use Rattle.buffer.specs.ChipWords.{changedOn, sending, lineWords, Takes, ChipStep, ChangedBut, from, among}
 use Rattle.lists.proofs.Parts.{length-back, part-same, part-before, part-behind}
 use Rattle.buffer.proofs.ChipParts.{registers-back, order, words-other, words-same}
 use Rattle.links.proofs.Places.{line-sent, still-sent, length-sent}
@@ -53,8 +53,8 @@ module _ (f : ℕ → List ℕ → List ℕ) where
   next rest rest′ k before l hk w sized u =
       record {
         long = length-back (linePlace k) lineLong ys l fits long ∙ u .long;
-        registers = part-before (linePlace k) lineLong ys l fits long 0 6 (omega arith) ∙ u .registers;
-        counters = part-before (linePlace k) lineLong ys l fits long 6 10 (omega arith) ∙ u .counters;
+        registers = part-before (linePlace k) lineLong ys l fits long 0 registersLong (omega arith) ∙ u .registers;
+        counters = part-before (linePlace k) lineLong ys l fits long countersAt countersLong (omega arith) ∙ u .counters;
         done = finished;
         todo = λ j hj h. words-other k hk ys l (u .long) long j (λ e. w .others j hj h .1 (sym e)) ∙ u .todo j hj (w .others j hj h .0);
       }
@@ -89,23 +89,23 @@ sends-long k l o hk t = length-sent (lineWords k l) o k (line-long k l hk (t .lo
 
 -- a chip after a pass: registers and counters first, then all six links
 module _ (l ws cs : List ℕ) (o : Outcome) (h : length l ≡ chipLong) (lw : length ws ≡ 6) (lc : length cs ≡ 10) where
-  fits₀ : 0 + headerLong ≤ length l
+  fits₀ : 0 + registersLong ≤ length l
   fits₀ = omega arith
 
   longer : length (putBack 0 registersLong ws l) ≡ chipLong
-  longer = length-back 0 6 ws l fits₀ lw ∙ h
+  longer = length-back 0 registersLong ws l fits₀ lw ∙ h
 
   fits₁ : countersAt + countersLong ≤ length (putBack 0 registersLong ws l)
   fits₁ = omega (arith, longer)
 
-  pub after-long : length (putBack 6 10 cs (putBack 0 registersLong ws l)) ≡ chipLong
-  after-long = length-back 6 10 cs (putBack 0 registersLong ws l) fits₁ lc ∙ longer
+  pub after-long : length (putBack countersAt countersLong cs (putBack 0 registersLong ws l)) ≡ chipLong
+  after-long = length-back countersAt countersLong cs (putBack 0 registersLong ws l) fits₁ lc ∙ longer
 
-  untouched : (j : ℕ) → lineWords j (putBack 6 10 cs (putBack 0 registersLong ws l)) ≡ lineWords j l
-  untouched j = part-behind 6 10 cs (putBack 0 registersLong ws l) fits₁ lc (linePlace j) lineLong (omega arith) ∙ part-behind 0 6 ws l fits₀ lw (linePlace j) lineLong (omega arith)
+  untouched : (j : ℕ) → lineWords j (putBack countersAt countersLong cs (putBack 0 registersLong ws l)) ≡ lineWords j l
+  untouched j = part-behind countersAt countersLong cs (putBack 0 registersLong ws l) fits₁ lc (linePlace j) lineLong (omega arith) ∙ part-behind 0 registersLong ws l fits₀ lw (linePlace j) lineLong (omega arith)
 
   -- what the pass asks of the chip it still asks of its links
-  pub takes-on : Takes l o → Takes (putBack 6 10 cs (putBack 0 registersLong ws l)) o
+  pub takes-on : Takes l o → Takes (putBack countersAt countersLong cs (putBack 0 registersLong ws l)) o
   takes-on t =
       record {
         long = after-long;
@@ -119,14 +119,14 @@ module _ (l ws cs : List ℕ) (o : Outcome) (h : length l ≡ chipLong) (lw : le
       }
 
   pub finish : ws ≡ registerWords (keptOf (registersIn (part 0 registersLong l)) o) → cs ≡ countedOf (record { count = part countersAt countersLong (putBack 0 registersLong ws l) }) o .count → Takes l o
-      → (k : List ℕ) → ChangedBut (sending o) (among 0) (putBack 6 10 cs (putBack 0 registersLong ws l)) k → ChipStep l k o
+      → (k : List ℕ) → ChangedBut (sending o) (among 0) (putBack countersAt countersLong cs (putBack 0 registersLong ws l)) k → ChipStep l k o
   unfolding linesAfter
   finish ew ec t k u =
       let r : part 0 registersLong k ≡ registerWords (keptOf (registersIn (part 0 registersLong l)) o) =
-      u .registers ∙ part-before 6 10 cs (putBack 0 registersLong ws l) fits₁ lc 0 6 (omega arith) ∙ part-same 0 6 ws l fits₀ lw ∙ ew in
+      u .registers ∙ part-before countersAt countersLong cs (putBack 0 registersLong ws l) fits₁ lc 0 registersLong (omega arith) ∙ part-same 0 registersLong ws l fits₀ lw ∙ ew in
       let c : part countersAt countersLong k ≡ countedOf (record { count = part countersAt countersLong l }) o .count =
-      u .counters ∙ part-same 6 10 cs (putBack 0 registersLong ws l) fits₁ lc ∙ ec
-      ∙ ap (λ (w : List ℕ). countedOf (record { count = w }) o .count) (part-behind 0 6 ws l fits₀ lw 6 10 (omega arith)) in
+      u .counters ∙ part-same countersAt countersLong cs (putBack 0 registersLong ws l) fits₁ lc ∙ ec
+      ∙ ap (λ (w : List ℕ). countedOf (record { count = w }) o .count) (part-behind 0 registersLong ws l fits₀ lw countersAt countersLong (omega arith)) in
       let words : (j : ℕ) → j < 6 → lineWords j k ≡ sentWords (lineWords j l) o j =
       λ j hj. u .done j hj (none-among j hj) ∙ ap (λ (w : List ℕ). sentWords w o j) (untouched j) in
       let line : (j : ℕ) → j < 6 → lineIn (lineWords j k) ≡ lineAfter o tt j (lineIn (lineWords j l)) =

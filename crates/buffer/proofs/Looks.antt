@@ -18,13 +18,13 @@ use Rattle.links.specs.Words.{lineIn}
 use Rattle.mesh.specs.Mesh.{Chip, fresh}
 use Rattle.buffer.specs.Layout.{meshOf, chipsOf}
 use Rattle.buffer.specs.Holding.{holdsMesh}
-use Rattle.buffer.specs.Chips.{lineWords}
+use Rattle.buffer.specs.ChipWords.{lineWords}
 use Rattle.buffer.specs.Passing.{chipWords}
 use Rattle.mesh.specs.Calls.{numberRefusals, chipRefusals, lineOf, countRead, meshRead, lineRead, linkRead}
 use Rattle.lists.proofs.Parts.{take-drop}
 use Rattle.buffer.proofs.ChipParts.{line-at}
 use Rattle.buffer.proofs.MeshParts.{mesh-chip}
-use Rattle.buffer.proofs.Counts.{words-enough}
+use Rattle.buffer.proofs.HoldsMesh.{words-enough}
 
 -- ---- where no refusal applies
 

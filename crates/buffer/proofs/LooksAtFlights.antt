@@ -17,7 +17,7 @@ use Rattle.links.proofs.Places.{length-places}
 use Rattle.buffer.specs.Layout.{meshOf, chipsOf}
 use Rattle.buffer.specs.Holding.{holdsMesh}
 use Rattle.mesh.specs.Calls.{numberRefusals, lineOf, noFlight, placeRead, flightRead}
-use Rattle.buffer.proofs.Counts.{held-few}
+use Rattle.buffer.proofs.HoldsMesh.{held-few}
 use Rattle.buffer.proofs.LinkWords.{places-at}
 use Rattle.buffer.proofs.Looks.{number-there, line-part, line-of}
 

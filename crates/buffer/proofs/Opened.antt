@@ -15,7 +15,7 @@ use Rattle.links.specs.Words.{placesIn}
 use Rattle.buffer.specs.Layout.{chipIn, chipsIn, meshOf, wordsFor}
 use Rattle.buffer.specs.Opening.{openRefusals, openedWords}
 use Rattle.buffer.specs.Holding.{holdsMesh, StatesFine}
-use Rattle.buffer.specs.Chips.{lineWords}
+use Rattle.buffer.specs.ChipWords.{lineWords}
 use Rattle.buffer.specs.Passing.{chipWords}
 use Rattle.mesh.specs.Sound.{SoundMesh}
 use Rattle.mesh.proofs.SoundSteps.{sound-opened}

@@ -17,7 +17,7 @@ use Rattle.links.specs.Words.{lineIn}
 use Rattle.buffer.specs.Layout.{registersIn, registerWords, chipIn, meshOf, chipsOf}
 use Rattle.mesh.specs.Steps.{withChip}
 use Rattle.buffer.specs.Holding.{holdsMesh}
-use Rattle.buffer.specs.Chips.{lineWords}
+use Rattle.buffer.specs.ChipWords.{lineWords}
 use Rattle.buffer.specs.Passing.{chipWords}
 use Rattle.mesh.specs.Calls.{chipRefusals, chipOf, withEmpty, registersRead}
 use Rattle.buffer.specs.Leaving.{Leaves, registersLeft}
@@ -29,7 +29,7 @@ use Rattle.mesh.proofs.SoundChanges.{sound-emptied}
 use Rattle.buffer.proofs.SoundWords.{holds-sound}
 use Rattle.buffer.proofs.Leaving.{refused-leaves}
 use Rattle.buffer.proofs.Looks.{chip-there}
-use Rattle.buffer.proofs.Changes.{chip-leaves}
+use Rattle.buffer.proofs.OneChipChanged.{chip-leaves}
 
 module _ (w : List ℕ) (long : length w ≡ chipLong) where
   fits : 0 + registersLong ≤ length w

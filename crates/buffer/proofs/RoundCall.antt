@@ -13,18 +13,18 @@ use Rattle.mesh.specs.Mesh.{Chip, Mesh, fresh}
 use Rattle.buffer.specs.Layout.{meshOf, wordsFor, chipsOf, wordsOf}
 use Rattle.mesh.specs.Steps.{Tables, Going, setAside, arrivals, passAt, roundOver, rounded, same}
 use Rattle.buffer.specs.Holding.{holdsMesh, StatesFine}
-use Rattle.buffer.specs.Chips.{lineWords}
+use Rattle.buffer.specs.ChipWords.{lineWords}
 use Rattle.buffer.specs.Passing.{chipWords}
 use Rattle.lists.specs.Lists.{All, upTo}
 use Rattle.mesh.specs.Sound.{Arrives, SoundLine, SoundChip, SoundMesh}
 use Rattle.mesh.specs.Weights.{onLine, onChip, inFlight}
 use Rattle.buffer.specs.Aside.{AsideUpto}
-use Rattle.buffer.specs.Going.{asideFrom, goingIn, DueAside, Passed}
+use Rattle.buffer.specs.PassesInTurn.{asideFrom, goingIn, DueAside, Passed}
 use Rattle.mesh.specs.Calls.{Lent, roundRefusals}
 use Rattle.buffer.specs.Leaving.{Moves, roundLeft, overWords}
 use Rattle.lists.proofs.Alls.{all-getD, all-weaken}
 use Rattle.lists.proofs.Totals.{total-ones, total-most}
-use Rattle.buffer.proofs.Counts.{holds-head, held-few, words-enough}
+use Rattle.buffer.proofs.HoldsMesh.{holds-head, held-few, words-enough}
 use Rattle.mesh.proofs.Torus.{arrivals-count}
 use Rattle.mesh.proofs.SoundArrivals.{sound-arrivals}
 use Rattle.mesh.proofs.SoundSteps.{sound-rounded}

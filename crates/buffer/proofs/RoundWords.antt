@@ -16,10 +16,10 @@ use Rattle.links.specs.Words.{asideIn}
 use Rattle.mesh.specs.Mesh.{Chip}
 use Rattle.buffer.specs.Layout.{chipIn, chipsIn, meshOf, chipsOf}
 use Rattle.mesh.specs.Steps.{emptiedChip, setAside, arrivingBy, arrivingAt, arrivingFrom, arrivals, roundOver}
-use Rattle.buffer.specs.Chips.{lineWords}
+use Rattle.buffer.specs.ChipWords.{lineWords}
 use Rattle.buffer.specs.Passing.{chipWords}
 use Rattle.buffer.specs.Aside.{AsideUpto}
-use Rattle.buffer.specs.Going.{asideBy, asideFrom, AsideFew}
+use Rattle.buffer.specs.PassesInTurn.{asideBy, asideFrom, AsideFew}
 use Rattle.lists.specs.Lists.{upTo}
 use Rattle.buffer.specs.Leaving.{overWords}
 use Rattle.buffer.proofs.ChipParts.{line-at}

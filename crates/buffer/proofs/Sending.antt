@@ -11,7 +11,7 @@ use borrow.Author.Tests.{eq-eqb, ne-eqb}
 use Rattle.steps.specs.declared.Outcome.{Outcome}
 use Rattle.steps.specs.Links.{has}
 use Rattle.steps.proofs.LowestFirst.{Lowest}
-use Rattle.buffer.specs.Chips.{sending, among}
+use Rattle.buffer.specs.ChipWords.{sending, among}
 use Rattle.buffer.proofs.LinksChanged.{Without}
 
 one-of : (x y : ℕ) → x < 2 → y < 2 → eqb (bitOr x y) 1 ≡ (eqb x 1 || eqb y 1)

@@ -13,7 +13,7 @@ use Rattle.links.specs.Line.{Flight, idle}
 use Rattle.lists.specs.Lists.{part, All}
 use Rattle.links.specs.Words.{packetIn, placesIn, lineIn}
 use Rattle.buffer.specs.Layout.{registersIn, chipIn, chipsIn, meshOf, chipsOf, wordsOf}
-use Rattle.buffer.specs.Chips.{lineWords}
+use Rattle.buffer.specs.ChipWords.{lineWords}
 use Rattle.buffer.specs.Passing.{chipWords}
 use Rattle.mesh.specs.Sound.{packetFine, registersFine, SoundPacket, SoundLine, SoundChip, SoundMesh}
 use Rattle.buffer.specs.Holding.{placesFine, lineFine, chipFine, chipsFine, headFine, holdsMesh, StatesFine}
@@ -21,7 +21,7 @@ use Rattle.mesh.specs.Mesh.{roundsFine}
 use Rattle.links.proofs.Places.{length-places}
 use Rattle.buffer.proofs.ChipParts.{line-at}
 use Rattle.lists.proofs.Alls.{all-getD}
-use Rattle.buffer.proofs.Counts.{holds-head, holds-chips, chip-held, line-held, registers-held}
+use Rattle.buffer.proofs.HoldsMesh.{holds-head, holds-chips, chip-held, line-held, registers-held}
 
 -- both tests hold
 and-true-true : {a b : Bool} → a ≡ true → b ≡ true → (a && b) ≡ true

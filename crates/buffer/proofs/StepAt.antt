@@ -4,20 +4,19 @@ use mathlib.Core.Logic.{_⊎_, inl, inr}
 use mathlib.Core.List.{List}
 use Prim.Native.Nat.{ℕ, _+_, _≤_, _<_}
 use native.Mathlib.Omega.{arith}
-use lib.ListN.{length, getD, drop}
+use lib.ListN.{length, getD, drop, length-drop}
 use lib.Seq.{length-take-le}
-use lib.ListN.{length-drop}
 use Rattle.packet.specs.declared.Packet.{Packet}
 use Rattle.steps.specs.declared.Outcome.{Outcome}
 use Rattle.steps.specs.Deciding.{Checked}
 use Rattle.steps.proofs.Bounds.{set-small}
 use Rattle.links.specs.Offsets.{chipLong, chipPlace}
 use Rattle.links.specs.Line.{isReady, idle}
-use Rattle.links.specs.Lines.{still}
+use Rattle.links.specs.LineWords.{still}
 use Rattle.buffer.specs.Layout.{chipIn, meshOf, chipsOf, wordsOf}
 use Rattle.mesh.specs.Steps.{withChip}
 use Rattle.lists.specs.Lists.{putBack}
-use Rattle.buffer.specs.Chips.{lineWords, ChipStep}
+use Rattle.buffer.specs.ChipWords.{lineWords, ChipStep}
 use Rattle.buffer.specs.Passing.{chipWords, settingIn, CheckedAt, MeshStep}
 use Rattle.lists.proofs.Parts.{length-back, part-same, part-before, part-behind, take-before, drop-behind}
 use Rattle.buffer.proofs.ChipParts.{order}

@@ -18,9 +18,8 @@ use Rattle.links.specs.Offsets.{heldAt, chipLong}
 use Rattle.links.specs.Line.{isReady, idle, readyLinks}
 use Rattle.links.specs.Words.{lineIn}
 use Rattle.links.proofs.Places.{length-places}
-use Rattle.mesh.proofs.Fitting.{sends-ready, legs-ready, sent-right, leg-right, sent-no-error, leg-no-error}
 use Rattle.buffer.specs.Layout.{chipIn}
-use Rattle.buffer.specs.Chips.{lineWords, Takes}
+use Rattle.buffer.specs.ChipWords.{lineWords, Takes}
 use Rattle.buffer.proofs.ChipParts.{line-at}
 use Rattle.tables.specs.Tables.{ChipTables}
 

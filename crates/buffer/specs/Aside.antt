@@ -8,7 +8,7 @@ use Rattle.links.specs.Offsets.{headerLong, stateAt, heldAt, placesAt, placeLon
 use Rattle.links.specs.Words.{lineIn, asideIn}
 use Rattle.mesh.specs.Steps.{emptiedChip}
 use Rattle.buffer.specs.Layout.{chipIn}
-use Rattle.buffer.specs.Chips.{lineWords}
+use Rattle.buffer.specs.ChipWords.{lineWords}
 use Rattle.buffer.specs.Passing.{chipWords}
 
 -- A link's words after what it holds was set aside: the packets' words behind their number, and none held.

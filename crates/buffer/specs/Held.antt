@@ -4,7 +4,7 @@ use mathlib.Core.Path.{_≡_}
 use mathlib.Core.List.{List}
 use lib.ListN.{length, getD}
 use Rattle.buffer.specs.Layout.{chipIn}
-use Rattle.buffer.specs.Chips.{lineWords}
+use Rattle.buffer.specs.ChipWords.{lineWords}
 use Rattle.mesh.specs.Weights.{onChip}
 use Rattle.links.specs.Offsets.{heldAt, chipLong}
 

@@ -10,7 +10,7 @@ use Rattle.lists.specs.Lists.{part}
 use Rattle.links.specs.Offsets.{widthAt, heightAt, roundsAt, monitorAt, phaseAt, elapsedAt, headerLong, stateAt, heldAt, placesAt, placeLong, lineLong, registersLong, chipLong, chipPlace, linePlace}
 use Rattle.links.specs.Words.{packetIn}
 use Rattle.buffer.specs.Layout.{registersIn, chipsOf, wordsOf}
-use Rattle.buffer.specs.Chips.{lineWords}
+use Rattle.buffer.specs.ChipWords.{lineWords}
 use Rattle.buffer.specs.Passing.{chipWords}
 use Rattle.mesh.specs.Mesh.{roundsFine}
 use Rattle.mesh.specs.Sound.{packetFine, registersFine}

@@ -9,7 +9,7 @@ use Rattle.buffer.specs.Layout.{meshOf, wordsOf}
 use Rattle.buffer.specs.Holding.{holdsMesh}
 use Rattle.links.specs.Offsets.{roundsAt, phaseAt, elapsedAt, stateAt}
 use Rattle.links.specs.Phase.{nextPhase}
-use Rattle.links.specs.Lines.{stateOf}
+use Rattle.links.specs.LineWords.{stateOf}
 use Rattle.mesh.specs.Steps.{Tables, same}
 use Rattle.mesh.specs.declared.Added.{Added}
 use Rattle.mesh.specs.Calls.{Left, addedOf, loggedOn, injecting, rounding, linking, emptying}

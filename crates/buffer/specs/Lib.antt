@@ -1,11 +1,11 @@
 pub mod Aside
-pub mod Chips
-pub mod Going
+pub mod ChipWords
 pub mod Held
 pub mod Holding
 pub mod Layout
 pub mod Leaving
 pub mod Logs
 pub mod Opening
+pub mod PassesInTurn
 pub mod Passing
 pub mod Testing

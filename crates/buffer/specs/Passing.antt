@@ -7,14 +7,13 @@ use lib.ListN.{length, getD, take, drop}
 use Rattle.packet.specs.declared.Packet.{Packet}
 use Rattle.steps.specs.declared.Outcome.{Outcome}
 use Rattle.steps.specs.declared.Setting.{Setting}
-use Rattle.mesh.specs.Mesh.{readyOf}
 use Rattle.lists.specs.Lists.{part}
 use Rattle.links.specs.Offsets.{widthAt, heightAt, monitorAt, phaseAt, headerLong, chipLong, chipPlace}
-use Rattle.links.specs.Lines.{still}
+use Rattle.links.specs.LineWords.{still}
 use Rattle.links.specs.Line.{readyLinks}
 use Rattle.buffer.specs.Layout.{chipIn, meshOf, chipsOf, wordsOf}
 use Rattle.mesh.specs.Steps.{chipAfter, withChip}
-use Rattle.buffer.specs.Chips.{lineWords}
+use Rattle.buffer.specs.ChipWords.{lineWords}
 
 -- the words of chip k
 abbrev pub chipWords : ℕ → List ℕ → List ℕ

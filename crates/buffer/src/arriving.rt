@@ -9,9 +9,9 @@ ghost use mathlib.Core.Path.{_≡_};
 ghost use lib.ListN.{getD};
 ghost use Prim.Native.Nat.{_≤_, _<_};
 ghost use Rattle.links.specs.Offsets.{widthAt, heightAt};
-ghost use Rattle.links.specs.Across.{asidePlace};
+ghost use Rattle.links.specs.Words.{asidePlace};
 ghost use Rattle.mesh.specs.Steps.{tablesOf};
-ghost use Rattle.buffer.specs.Going.{asideBy, asideFrom, DueAside, Passed};
+ghost use Rattle.buffer.specs.PassesInTurn.{asideBy, asideFrom, DueAside, Passed};
 ghost use Rattle.lists.specs.Lists.{upTo};
 ghost use Rattle.buffer.specs.Layout.{chipsOf};
 

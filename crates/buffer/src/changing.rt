@@ -19,7 +19,7 @@ ghost use Rattle.kept.specs.Keeping.{empty};
 ghost use Rattle.lists.specs.Lists.{putBack};
 ghost use Rattle.buffer.specs.Layout.{meshOf, registerWords};
 ghost use Rattle.buffer.specs.Holding.{holdsMesh};
-ghost use Rattle.buffer.specs.Chips.{changedOn};
+ghost use Rattle.buffer.specs.ChipWords.{changedOn};
 ghost use Rattle.mesh.specs.Calls.{registersRead};
 ghost use Rattle.buffer.specs.Leaving.{Leaves, linkLeft, registersLeft, stateOn};
 ghost use Rattle.links.specs.Offsets.{registersLong, chipLong};

@@ -24,13 +24,12 @@ ghost use lib.ListN.{length};
 ghost use Prim.Native.Nat.{_<_};
 ghost use Rattle.kept.specs.Keeping.{keptOf};
 ghost use Rattle.kept.specs.Counting.{countedOf};
-ghost use Rattle.mesh.specs.Mesh.{readyOf};
 ghost use Rattle.lists.specs.Lists.{part};
-ghost use Rattle.links.specs.Offsets.{lineLong, chipLong, linePlace};
-ghost use Rattle.links.specs.Lines.{Room};
+ghost use Rattle.links.specs.Offsets.{lineLong, registersLong, countersLong, chipLong, linePlace};
+ghost use Rattle.links.specs.LineWords.{Room};
 ghost use Rattle.links.specs.Line.{readyLinks};
 ghost use Rattle.buffer.specs.Layout.{registersIn, registerWords, chipIn};
-ghost use Rattle.buffer.specs.Chips.{changedOn, sending, Takes, ChipStep, ChangedBut, among};
+ghost use Rattle.buffer.specs.ChipWords.{changedOn, sending, Takes, ChipStep, ChangedBut, among};
 
 // The links that are ready now.
 pub fn ready_of(chip: &[u32]) -> u32
@@ -79,7 +78,7 @@ fn send_on(chip: &mut [u32], o: Outcome, i: u32)
 
 // Keeps a pass's first dropped unit in the six words of the registers.
 fn keep(words: &mut [u32], o: Outcome)
-    requires { ⌜ (length (now words) ≡ 6) × ((o .dropped < 64) × (o .«leg_dropped» < 64)) ⌝ }
+    requires { ⌜ (length (now words) ≡ registersLong) × ((o .dropped < 64) × (o .«leg_dropped» < 64)) ⌝ }
     ensures { λ _. ⌜ now (words .exit) ≡ registerWords (keptOf (registersIn (now (words .entry))) o) ⌝ }
 {
     if (o.dropped == 0) & (o.leg_dropped == 0) {
@@ -91,7 +90,7 @@ fn keep(words: &mut [u32], o: Outcome)
 
 // Counts a pass in the ten words of the counters.
 fn count(words: &mut [u32], o: Outcome)
-    requires { ⌜ length (now words) ≡ 10 ⌝ }
+    requires { ⌜ length (now words) ≡ countersLong ⌝ }
     ensures { λ _. ⌜ now (words .exit) ≡ countedOf (record { count = now (words .entry) }) o .count ⌝ }
 {
     let c = Counters {

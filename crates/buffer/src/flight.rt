@@ -10,7 +10,6 @@ use links::offsets::HELD_5;
 ghost use mathlib.Core.Path.{_≡_};
 ghost use mathlib.Core.Bool.{true};
 ghost use Prim.Native.Nat.{_*_};
-ghost use lib.ListN.{getD};
 ghost use Rattle.buffer.specs.Layout.{meshOf, chipsOf};
 ghost use Rattle.buffer.specs.Holding.{holdsMesh};
 ghost use Rattle.mesh.specs.Weights.{inFlight};

@@ -9,7 +9,7 @@ ghost use mathlib.Core.Path.{_≡_};
 ghost use mathlib.Core.List.{[], _∷_};
 ghost use Prim.Native.Nat.{_*_};
 ghost use Rattle.mesh.specs.Steps.{tablesOf};
-ghost use Rattle.buffer.specs.Going.{arrival, Due, Passed};
+ghost use Rattle.buffer.specs.PassesInTurn.{arrival, Due, Passed};
 
 // One pass. The log has n records before; answers how many it has then.
 pub fn pass_one(

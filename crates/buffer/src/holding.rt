@@ -65,7 +65,7 @@ fn packet_fine(p: Packet) -> bool
 // The first packets of a link's places.
 fn places_fine(line: &[u32], count: usize) -> bool
     requires { ⌜ placesAt + count * placeLong ≤ length (now line) ⌝ }
-    ensures { λ r. ⌜ r ≡ placesFine count (drop 2 (now (line .entry))) ⌝ }
+    ensures { λ r. ⌜ r ≡ placesFine count (drop placesAt (now (line .entry))) ⌝ }
 {
     let mut i = 0;
     while i < count {

@@ -1,11 +1,12 @@
-// The error registers to and from their six words.
+// The error registers to and from their words, the only place that says in which order they stand.
 use kept::Registers;
 ghost use mathlib.Core.Path.{_≡_};
 ghost use lib.ListN.{length};
 ghost use Rattle.buffer.specs.Layout.{registersIn, registerWords};
+ghost use Rattle.links.specs.Offsets.{registersLong};
 
 pub fn registers_at(words: &[u32]) -> Registers
-    requires { ⌜ length (now words) ≡ 6 ⌝ }
+    requires { ⌜ length (now words) ≡ registersLong ⌝ }
     ensures { λ r. ⌜ r ≡ registersIn (now (words .entry)) ⌝ }
 {
     Registers {
@@ -19,7 +20,7 @@ pub fn registers_at(words: &[u32]) -> Registers
 }
 
 pub fn put_registers(words: &mut [u32], r: Registers)
-    requires { ⌜ length (now words) ≡ 6 ⌝ }
+    requires { ⌜ length (now words) ≡ registersLong ⌝ }
     ensures { λ _. ⌜ now (words .exit) ≡ registerWords r ⌝ }
 {
     words[0] = r.control;

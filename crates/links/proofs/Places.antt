@@ -15,9 +15,9 @@ use Rattle.steps.specs.declared.Outcome.{Outcome}
 use Rattle.steps.specs.Links.{has}
 use Rattle.steps.specs.Deciding.{packetOn, legPacket}
 use Rattle.links.specs.Offsets.{stateAt, heldAt, placeLong, asideAt, lineLong}
-use Rattle.links.specs.Line.{Flight, Line, lineAfter}
+use Rattle.links.specs.Line.{Flight, Line, lineAfter, Right}
 use Rattle.links.specs.Words.{packetIn, placesIn, lineIn}
-use Rattle.links.specs.Lines.{Right, still, placeAt, putAt, pushed, pushedIf, sentWords, Room}
+use Rattle.links.specs.LineWords.{still, placeAt, putAt, pushed, pushedIf, sentWords, Room}
 
 -- as many as the count says
 pub length-places : (n : ℕ) (l : List ℕ) → length (placesIn n l) ≡ n

@@ -2,7 +2,6 @@
 use Prim.Native.Nat.{ℕ, _+_, _-_, _*_, _/_, _%_}
 use mathlib.Core.Bool.{cond}
 use lib.Dec.{eqb, leb}
-use Rattle.links.specs.Offsets.{asideAt, chipPlace, linePlace}
 
 -- "Links 0 to 5 lead east (+1,0), north-east (+1,+1), north (0,+1), west, south-west, south. The mesh is W by H and wraps."
 abbrev pub stepEast : ℕ → ℕ → ℕ
@@ -18,7 +17,3 @@ across width height chip i = (chip / width + stepNorth height i) % height * widt
 -- "A packet sent by link i arrives by link (i+3) mod 6."
 abbrev pub opposite : ℕ → ℕ
 opposite i = (i + 3) % 6
-
--- Where in the mesh's words it says how many packets were set aside for a chip on the link opposite to the one that they arrive by.
-abbrev pub asidePlace : ℕ → ℕ → ℕ → ℕ → ℕ
-asidePlace width height chip source = chipPlace (across width height chip source) + linePlace (opposite source) + asideAt

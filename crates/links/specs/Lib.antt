@@ -1,6 +1,6 @@
 pub mod Across
 pub mod Line
-pub mod Lines
+pub mod LineWords
 pub mod Offsets
 pub mod Phase
 pub mod Words

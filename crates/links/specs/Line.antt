@@ -3,12 +3,18 @@
 use Prim.Native.Nat.{ℕ}
 use mathlib.Core.Bool.{Bool, true, cond, _&&_}
 use mathlib.Core.List.{List, [], _∷_, _++_}
+use mathlib.Core.Path.{_≡_}
 use lib.Dec.{leb}
 use lib.ListN.{length, getD}
 use Rattle.packet.specs.declared.Packet.{Packet}
+use Rattle.packet.specs.Control.{carriesOf}
 use Rattle.steps.specs.declared.Outcome.{Outcome}
 use Rattle.steps.specs.Links.{has, setOf}
 use Rattle.steps.specs.Deciding.{packetOn, legPacket}
+
+-- A packet whose length is right, as those in flight are.
+abbrev pub Right : Packet → Type 0
+Right p = p .nine ≡ carriesOf (p .control)
 
 pub record Flight (A : Type 0) : Type 0 where
   pub packet : Packet

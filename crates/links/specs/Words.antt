@@ -1,12 +1,13 @@
 -- How a directed link and the packets on it are read from the mesh buffer's words.
-use Prim.Native.Nat.{ℕ, zero, suc}
+use Prim.Native.Nat.{ℕ, zero, suc, _+_}
 use mathlib.Core.List.{List, [], _∷_}
 use lib.Dec.{eqb}
 use lib.ListN.{getD, drop}
 use Rattle.packet.specs.declared.Packet.{Packet}
 use Rattle.packet.specs.Control.{carriesOf}
-use Rattle.links.specs.Offsets.{stateAt, heldAt, placesAt, placeLong, asideAt, asidePlacesAt}
+use Rattle.links.specs.Offsets.{stateAt, heldAt, placesAt, placeLong, asideAt, asidePlacesAt, chipPlace, linePlace}
 use Rattle.links.specs.Line.{Flight, Line}
+use Rattle.links.specs.Across.{across, opposite}
 
 -- A packet in flight is three words: control byte, word, payload. It is right in length, so that bit 1 says how long it is.
 abbrev pub packetIn : List ℕ → Packet
@@ -24,3 +25,7 @@ lineIn l = record { up = eqb (getD l stateAt 0) 0; held = placesIn (getD l heldA
 
 abbrev pub asideIn : List ℕ → List (Flight (Unit {0}))
 asideIn l = placesIn (getD l asideAt 0) (drop asidePlacesAt l)
+
+-- Where in the mesh's words it says how many packets were set aside for a chip on the link opposite to the one that they arrive by.
+abbrev pub asidePlace : ℕ → ℕ → ℕ → ℕ → ℕ
+asidePlace width height chip source = chipPlace (across width height chip source) + linePlace (opposite source) + asideAt

@@ -8,7 +8,8 @@ ghost use mathlib.Core.Path.{_≡_};
 ghost use mathlib.Core.Bool.{true};
 ghost use Prim.Native.Nat.{ℕ, _+_, _/_, _%_, _≤_, _<_};
 ghost use Rattle.tables.specs.Sizes.{sizeFine};
-ghost use Rattle.links.specs.Across.{stepEast, stepNorth, across, asidePlace};
+ghost use Rattle.links.specs.Across.{stepEast, stepNorth, across};
+ghost use Rattle.links.specs.Words.{asidePlace};
 
 // The place of the count of what was set aside for the chip at x and y, on the link opposite to the one that it arrives by.
 pub fn aside_place(width: u32, height: u32, x: u32, y: u32, source: u32) -> usize

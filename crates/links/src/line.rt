@@ -19,7 +19,7 @@ ghost use Rattle.steps.specs.Deciding.{packetOn, legPacket};
 ghost use Rattle.links.specs.Offsets.{stateAt, heldAt, placeLong, lineLong};
 ghost use Rattle.links.specs.Line.{isReady};
 ghost use Rattle.links.specs.Words.{packetIn, lineIn};
-ghost use Rattle.links.specs.Lines.{pushed, pushedIf, sentWords, stateOf, Room};
+ghost use Rattle.links.specs.LineWords.{pushed, pushedIf, sentWords, stateOf, Room};
 
 // Whether the link is ready: up, and at most 6 held.
 pub fn is_ready(line: &[u32]) -> bool

@@ -1,4 +1,5 @@
-// Where everything stands in the mesh buffer, in 32-bit words: the only place where a layout number is written. docs/LAYOUT.md has the same in a table.
+// Where everything stands in the mesh buffer, in 32-bit words: the only place where an offset or a length is written as a number. The order inside a packet's words, the registers'
+// and the counters' stands where these are read. docs/LAYOUT.md has the whole in a table.
 
 // ---- the header
 pub const WIDTH: usize = 0;

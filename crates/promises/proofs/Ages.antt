@@ -5,11 +5,10 @@ use mathlib.Core.Logic.{inr}
 use mathlib.Core.List.{List}
 use Prim.Native.Nat.{ℕ, _+_, _*_, _/_, _%_, _≤_, _<_}
 use native.Mathlib.Omega.{arith}
-use lib.ListN.{getD}
 use Rattle.packet.specs.Bytes.{packetAt}
 use Rattle.steps.specs.Deciding.{Checked}
-use Rattle.mesh.specs.Mesh.{Mesh, fresh}
-use Rattle.mesh.specs.Steps.{Tables, Arrival, Going, codesAt, settingAt, setAside, arrivals, setOut, tablesAt}
+use Rattle.mesh.specs.Mesh.{Mesh}
+use Rattle.mesh.specs.Steps.{Tables, Arrival, Going, settingAt, setAside, arrivals, setOut, tablesAt}
 use Rattle.lists.specs.Lists.{All}
 use Rattle.mesh.specs.Sound.{Arrives, SoundMesh}
 use Rattle.mesh.proofs.SoundArrivals.{sound-arrivals}
@@ -17,7 +16,7 @@ use Rattle.mesh.proofs.SoundSteps.{CodesFor, checked, sound-aside, pass-head, p
 use Rattle.promises.specs.History.{Tag, Passage, State, turned, tagOf, passages}
 use Rattle.promises.specs.Sequence.{sequence}
 use Rattle.promises.specs.Told.{Stamped, EachFlight, EachPass}
-use Rattle.promises.specs.Demand3.{Always, span, LinksCrossed, GoneInTime, NotBeforeItsTime}
+use Rattle.promises.specs.Demand3.{Always, span, LinksCrossed, CrossingsCounted, GoneInTime, NotBeforeItsTime}
 use Rattle.promises.proofs.Told.{each-append}
 use Rattle.promises.proofs.Accepts as accepts
 use Rattle.promises.proofs.Histories.{Kept, always-kept}
@@ -131,6 +130,11 @@ links-crossed w h f monitor o xs =
     let s = sequence w h f monitor xs in
     let a = ages-always w h f monitor o xs in
     (each-weaken (Ages f (s .rounds)) _ (λ x ages. aged-crossing f (s .rounds) x ages) (s .mesh) (a .flights), a .crossings)
+
+pub crossings-counted : CrossingsCounted
+crossings-counted w h f monitor o xs =
+    let s = sequence w h f monitor xs in
+    each-weaken (Ages f (s .rounds)) _ (λ x ages low. aged-copy ages low .crossed) (s .mesh) (ages-always w h f monitor o xs .flights)
 
 pub gone-in-time : GoneInTime
 gone-in-time w h f monitor o xs =

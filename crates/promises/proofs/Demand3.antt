@@ -1,5 +1,5 @@
 -- Demand 3, proved: each statement of specs/Demand3.antt, and where its proof stands.
-use Rattle.promises.specs.Demand3.{Forgetting, Program, ReplayIsItsCalls, SequenceIsCalls, WholeRun, LinksCrossed, GoneInTime, NotBeforeItsTime, Account, Counts, Registers, Log, NoStaleBlock, NoLinkAbove8, Belonging, CopiesApart}
+use Rattle.promises.specs.Demand3.{Forgetting, Program, ReplayIsItsCalls, SequenceIsCalls, WholeRun, LinksCrossed, CrossingsCounted, GoneInTime, NotBeforeItsTime, Account, Counts, Registers, Log, NoStaleBlock, NoLinkAbove8, Belonging, CopiesApart}
 use Rattle.promises.proofs.Forgets as forgets
 use Rattle.promises.proofs.Ages as ages
 use Rattle.promises.proofs.Accounts as accounts
@@ -29,6 +29,9 @@ whole-run = whole-runs.whole-run
 
 pub links-crossed : LinksCrossed
 links-crossed = ages.links-crossed
+
+pub crossings-counted : CrossingsCounted
+crossings-counted = ages.crossings-counted
 
 pub gone-in-time : GoneInTime
 gone-in-time = ages.gone-in-time

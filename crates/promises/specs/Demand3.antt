@@ -67,6 +67,10 @@ LinksCrossed = Always (λ f s.
     EachFlight (λ x. Stamped (x .tag .packet) → x .tag .crossed ≤ span f (x .tag .before) + 1) (s .mesh)
     × EachPass (λ p. Stamped (p .arrival .flight .tag .packet) → p .arrival .flight .tag .crossed ≤ span f (p .arrival .flight .tag .before) + 1) (s .events))
 
+-- "Each sending is one crossing": such a copy in flight has crossed one link when it was injected and one in every round since, no fewer and no more.
+abbrev pub CrossingsCounted : Type 0
+CrossingsCounted = Always (λ f s. EachFlight (λ x. Stamped (x .tag .packet) → x .tag .crossed + x .tag .before ≡ s .rounds + 1) (s .mesh))
+
 -- 2. It is gone after that many rounds: what is in flight was injected fewer rounds ago.
 abbrev pub GoneInTime : Type 0
 GoneInTime = Always (λ f s. EachFlight (λ x. Stamped (x .tag .packet) → s .rounds < x .tag .before + (span f (x .tag .before) + 1)) (s .mesh))

@@ -1,5 +1,5 @@
 -- The known passes 1 to 12: one table, and one statement about it.
-use Prim.Native.Nat.{ℕ, _-_}
+use Prim.Native.Nat.{ℕ, _+_, _-_}
 use mathlib.Core.Path.{_≡_, refl}
 use mathlib.Core.Bool.{cond}
 use mathlib.Core.List.{List, [], _∷_, _++_, map}
@@ -53,7 +53,8 @@ seenIn r =
       refusal = r .refusal;
       errors = r .errors;
       sent = links (r .sent) 0 (r .packets) ++ cond (eqb (r .«leg_sent») 0) [] (record { link = lowest (r .«leg_sent»); bytes = bytesIn (packedBytes (r .leg)) } ∷ []);
-      dropped = r .dropped;
+      -- the second leg's link among them
+      dropped = r .dropped + r .«leg_dropped»;
       processors = r .processors;
       delivered = cond (eqb (r .processors) 0) [] (bytesIn (packedBytes (r .delivered)));
     }

@@ -3,7 +3,6 @@
 use Prim.Native.Nat.{ℕ, _+_, _*_, _≤_, _<_}
 use mathlib.Core.Path.{_≡_, refl, ap, _∙_}
 use mathlib.Core.Bool.{Bool, true, false, cond}
-use mathlib.Core.List.{List}
 use native.Mathlib.Omega.{arith}
 use lib.Dec.{lit<}
 use lib.ListN.{length, getD, set}
@@ -17,7 +16,7 @@ use Rattle.steps.specs.Errors.{flag}
 use Rattle.steps.specs.Deciding.{outcomeOf}
 use Rattle.links.specs.Line.{idle, isReady, readyLinks}
 use Rattle.mesh.specs.Mesh.{Chip, Mesh, fresh, readyOf}
-use Rattle.mesh.specs.Steps.{Tables, rowsAt, codesAt, outcomeAt, tablesAt}
+use Rattle.mesh.specs.Steps.{Tables, outcomeAt, tablesAt}
 use Rattle.mesh.specs.Calls.{many, chipOf, lineOf, withUp, withLink}
 use Rattle.mesh.specs.Sound.{SoundMesh}
 use Rattle.mesh.proofs.SoundChanges.{chip-sound}

@@ -1,7 +1,6 @@
 -- One pass of a packet, source and setting that have been checked, whatever the tables say: its account closes.
 use Prim.Native.Nat.{ℕ, _+_}
 use mathlib.Core.Path.{_≡_}
-use mathlib.Core.List.{List}
 use Rattle.packet.specs.declared.Packet.{Packet}
 use Rattle.steps.specs.declared.Setting.{Setting}
 use Rattle.steps.specs.Deciding.{outcomeOf, Source, Checked}

@@ -34,7 +34,8 @@ callsIn t m room (then c n rest) =
     let r = making true t same tt m room c in
     askedOf t room c ∷ cond (eqb (r .refusal) 0) (callsIn t (r .mesh) (room - length (r .log)) rest) []
 
--- The calls that are lent no mesh: the needed length, reading, packing, one pass alone, a search, a record of a trace written or read.
+-- The calls that are lent no mesh: the needed length, reading, packing, one pass alone, a search, a record of a trace written or read. Here it counts only that they
+-- are lent none; what each answers is settled by its own contract (`Determined`).
 pub data NoMesh : Type 0 where
   size : NoMesh
   read : NoMesh
@@ -72,7 +73,7 @@ madeIn s (x ∷ xs) = callsBy s x ++ madeIn (stepped s x) xs
 
 -- ---- answers
 
--- What the steps that are lent a mesh answer.
+-- What the steps that are lent a mesh answer, but for an opening that is refused.
 pub data Reply : Type 0 where
   toCall : Answer → Reply
   toReplay : Replayed → Reply

@@ -1,7 +1,6 @@
 -- The wanted set takes nothing from the rows but for a packet that goes by them, so that they need not be searched for any other.
 use mathlib.Core.Path.{_≡_, refl, ap, _∙_}
 use mathlib.Core.Bool.{Bool, true, false, cond}
-use mathlib.Core.List.{List}
 use Prim.Native.Nat.{ℕ}
 use lib.Dec.{eqb}
 use Rattle.packet.specs.declared.Packet.{Packet}

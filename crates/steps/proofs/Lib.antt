@@ -5,7 +5,6 @@ pub mod Flags
 pub mod LowestFirst
 pub mod SentBy
 pub mod SentPackets
-pub mod SentReady
 pub mod Sets
 pub mod Sources
 pub mod Stamping

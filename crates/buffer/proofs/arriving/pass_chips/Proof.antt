@@ -5,7 +5,7 @@ use Prim.Native.Nat.{ℕ, _-_, _≤_, _<_}
 use native.Mathlib.Nat.{lt-of-lt-of-le}
 use Rattle.mesh.specs.Steps.{tablesOf}
 use Rattle.lists.specs.Lists.{upTo}
-use Rattle.buffer.specs.Going.{asideFrom, Passed}
+use Rattle.buffer.specs.PassesInTurn.{asideFrom, Passed}
 use Rattle.buffer.proofs.Arrivals as arrivals
 use Rattle.buffer.proofs.arriving.pass_chips.Statement.{statement}
 use Rattle.buffer.proofs.arriving.pass_chips.Tie as tie

@@ -5,7 +5,7 @@ use Prim.Native.Nat.{_-_, _≤_}
 use lib.ListN.{getD}
 use Rattle.mesh.specs.Steps.{tablesOf}
 use Rattle.lists.specs.Lists.{upTo}
-use Rattle.buffer.specs.Going.{Passed}
+use Rattle.buffer.specs.PassesInTurn.{Passed}
 use Rattle.buffer.proofs.Arrivals as arrivals
 use Rattle.buffer.proofs.arriving.pass_link.Statement.{statement}
 use Rattle.buffer.proofs.arriving.pass_link.Tie as tie

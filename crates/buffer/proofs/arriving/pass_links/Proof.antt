@@ -5,7 +5,7 @@ use native.Mathlib.Numerals.{add-one}
 use Prim.Native.Nat.{_-_, _≤_, _<_}
 use Rattle.mesh.specs.Steps.{tablesOf}
 use Rattle.lists.specs.Lists.{upTo}
-use Rattle.buffer.specs.Going.{asideBy, Passed}
+use Rattle.buffer.specs.PassesInTurn.{asideBy, Passed}
 use Rattle.buffer.proofs.FineSteps.{head-size}
 use Rattle.buffer.proofs.Headers.{head-range}
 use Rattle.buffer.proofs.Arrivals as arrivals

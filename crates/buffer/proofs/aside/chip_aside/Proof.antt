@@ -6,7 +6,7 @@ use Prim.Native.Nat.{ℕ, suc, _+_, _*_, _-_, _≤_, _<_}
 use mathlib.Core.List.{List}
 use lib.ListN.{getD}
 use Rattle.lists.specs.Lists.{putBack}
-use Rattle.buffer.specs.Chips.{lineWords, ChangedBut, from}
+use Rattle.buffer.specs.ChipWords.{lineWords, ChangedBut, from}
 use Rattle.buffer.specs.Aside.{asideOn}
 use Rattle.buffer.proofs.LinksChanged.{by-number, begin, next, line-long}
 use Rattle.buffer.proofs.Asides.{length-aside}

@@ -3,10 +3,10 @@ use mathlib.Core.Path.{ap, _∙_}
 use mathlib.Core.List.{List}
 use Prim.Native.Nat.{ℕ}
 use Rattle.lists.specs.Lists.{putBack}
-use Rattle.links.specs.Offsets.{registersLong}
 use Rattle.buffer.specs.Layout.{registerWords}
 use Rattle.buffer.proofs.changing.empty_chip.Statement.{statement}
 use Rattle.buffer.proofs.changing.empty_chip.Tie as tie
+use Rattle.links.specs.Offsets.{registersLong}
 
 sub-put-registers : tie.Need-sub-put-registers
 sub-put-registers c = search needs

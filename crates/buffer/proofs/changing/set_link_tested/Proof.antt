@@ -5,7 +5,7 @@ use native.Mathlib.Nat.{add-sub-cancel-left}
 use native.Mathlib.Omega.{arith}
 use Rattle.buffer.proofs.StepAt.{chip-long}
 use Rattle.buffer.proofs.Looks.{number-there}
-use Rattle.buffer.proofs.Changes.{link-refused, link-leaves}
+use Rattle.buffer.proofs.OneChipChanged.{link-refused, link-leaves}
 use Rattle.buffer.proofs.changing.set_link_tested.Statement.{statement}
 use Rattle.buffer.proofs.changing.set_link_tested.Tie as tie
 use Rattle.links.specs.Offsets.{headerLong, chipLong}

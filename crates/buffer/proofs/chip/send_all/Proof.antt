@@ -4,9 +4,9 @@ use mathlib.Core.List.{List}
 use Prim.Native.Nat.{ℕ, _<_}
 use lib.Bits.{or-lt}
 use lib.Count.{trailingZeros}
-use Rattle.links.specs.Lines.{Room}
+use Rattle.links.specs.LineWords.{Room}
 use Rattle.steps.proofs.LowestFirst.{lowest-link}
-use Rattle.buffer.specs.Chips.{sending, ChangedBut, among}
+use Rattle.buffer.specs.ChipWords.{sending, ChangedBut, among}
 use Rattle.buffer.proofs.LinksChanged.{begin, next, sends-long}
 use Rattle.buffer.proofs.Sending.{sends-nothing, by-lowest}
 use Rattle.buffer.proofs.chip.send_all.Statement.{statement}

@@ -6,7 +6,7 @@ use native.Mathlib.Nat.{add-sub-cancel-left}
 use native.Mathlib.Omega.{arith}
 use Rattle.buffer.specs.Passing.{chipWords}
 use Rattle.buffer.specs.Held.{chipFlight}
-use Rattle.buffer.proofs.Counts.{Chips, chips-held, few-held}
+use Rattle.buffer.proofs.HoldsMesh.{Chips, chips-held, few-held}
 use Rattle.buffer.proofs.Flights.{Summed, summed-first, summed-next, summed-last}
 use Rattle.buffer.proofs.flight.in_flight.Statement.{statement}
 use Rattle.buffer.proofs.flight.in_flight.Tie as tie

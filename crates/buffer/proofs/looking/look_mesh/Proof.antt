@@ -2,7 +2,7 @@ use borrow.Author.Needs.{needs}
 use mathlib.Core.Path.{_∙_, sym}
 use native.Mathlib.Omega.{arith}
 use borrow.Author.Tests.{not-true, not-false}
-use Rattle.buffer.proofs.Counts.{holds-size, words-enough}
+use Rattle.buffer.proofs.HoldsMesh.{holds-size, words-enough}
 use Rattle.buffer.proofs.Looks.{mesh-found}
 use Rattle.buffer.proofs.looking.look_mesh.Statement.{statement}
 use Rattle.buffer.proofs.looking.look_mesh.Tie as tie

@@ -5,7 +5,7 @@ use lib.ListN.{length}
 use Rattle.mesh.specs.Steps.{tablesOf}
 use Rattle.buffer.specs.declared.testing.Tested.{Tested}
 use Rattle.buffer.proofs.Refusals.{round-number}
-use Rattle.buffer.proofs.Counts.{holds-size, words-enough, few-held}
+use Rattle.buffer.proofs.HoldsMesh.{holds-size, words-enough, few-held}
 use Rattle.buffer.proofs.Headers.{chips-kept}
 use Rattle.buffer.proofs.RoundCall.{round-holds, round-refused, round-due, over-requires, count-small, round-leaves}
 use Rattle.buffer.proofs.moving.round_tested.Statement.{statement}

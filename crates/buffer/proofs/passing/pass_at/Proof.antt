@@ -8,7 +8,6 @@ use Rattle.steps.proofs.Sources.{source-near}
 use Rattle.buffer.proofs.Takes.{takes}
 use Rattle.buffer.specs.Passing.{chipWords, settingIn}
 use Rattle.buffer.specs.Layout.{chipIn}
-use Rattle.mesh.specs.Mesh.{readyOf}
 use Rattle.steps.specs.Deciding.{Checked, outcomeOf}
 use Rattle.buffer.proofs.passing.pass_at.Statement.{statement}
 use Rattle.buffer.proofs.passing.pass_at.Tie as tie

@@ -2,7 +2,7 @@ use borrow.Author.Needs.{needs}
 use mathlib.Core.Path.{_∙_, sym}
 use native.Mathlib.Omega.{arith}
 use borrow.Author.Tests.{lt-ltb, le-ltb, not-false}
-use Rattle.buffer.proofs.Counts.{holds-size, words-enough}
+use Rattle.buffer.proofs.HoldsMesh.{holds-size, words-enough}
 use Rattle.buffer.proofs.refusing.chip_refusal.Statement.{statement}
 use Rattle.buffer.proofs.refusing.chip_refusal.Tie as tie
 

@@ -2,7 +2,7 @@ use borrow.Author.Needs.{needs}
 use mathlib.Core.Path.{_∙_, sym}
 use native.Mathlib.Omega.{arith}
 use Rattle.tables.proofs.Sizes.{chips-small}
-use Rattle.buffer.proofs.Counts.{holds-size, words-enough}
+use Rattle.buffer.proofs.HoldsMesh.{holds-size, words-enough}
 use Rattle.buffer.proofs.testing.test.Statement.{statement}
 use Rattle.buffer.proofs.testing.test.Tie as tie
 

@@ -13,7 +13,7 @@ use Rattle.tables.specs.Sizes.{sizeFine}
 use Rattle.tables.proofs.Sizes.{chips-small}
 use Rattle.lists.specs.Lists.{part}
 use Rattle.buffer.specs.Layout.{registersIn, chipsOf, wordsOf}
-use Rattle.buffer.specs.Chips.{lineWords}
+use Rattle.buffer.specs.ChipWords.{lineWords}
 use Rattle.buffer.specs.Passing.{chipWords}
 use Rattle.mesh.specs.Sound.{registersFine}
 use Rattle.buffer.specs.Holding.{placesFine, lineFine, chipFine, chipsFine, headFine, holdsMesh}

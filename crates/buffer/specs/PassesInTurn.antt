@@ -9,10 +9,10 @@ use Rattle.links.specs.Offsets.{widthAt, heightAt, headerLong, asideAt}
 use Rattle.links.specs.Line.{Flight}
 use Rattle.links.specs.Across.{across, opposite}
 use Rattle.links.specs.Words.{asideIn}
-use Rattle.links.specs.Lines.{still}
+use Rattle.links.specs.LineWords.{still}
 use Rattle.buffer.specs.Layout.{meshOf, chipsOf, wordsOf}
 use Rattle.mesh.specs.Steps.{Tables, Arrival, Going, passAt, same}
-use Rattle.buffer.specs.Chips.{lineWords}
+use Rattle.buffer.specs.ChipWords.{lineWords}
 use Rattle.buffer.specs.Passing.{chipWords}
 use Rattle.buffer.specs.Holding.{headFine}
 use Rattle.lists.specs.Lists.{All, upTo}
@@ -46,7 +46,7 @@ pub record Due (t : Tables) (due : List (Arrival (Unit {0}))) (mesh log : List �
   pub head : headFine mesh ≡ true
   pub long : wordsOf mesh ≤ length mesh
   pub lent : Lent t (chipsOf mesh)
-  pub room : n * 6 + length due * headerLong ≤ length log
+  pub room : n * 6 + length due * 6 ≤ length log
   pub each : All (Arrives (chipsOf mesh)) due
 
 -- The same where the arrivals are what was set aside.

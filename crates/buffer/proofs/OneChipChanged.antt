@@ -12,12 +12,12 @@ use Rattle.packet.specs.Refusal.{firstOf}
 use Rattle.mesh.specs.declared.Added.{Added}
 use Rattle.links.specs.Offsets.{widthAt, heightAt, stateAt, heldAt, lineLong, chipLong, chipPlace, linePlace}
 use Rattle.links.specs.Words.{placesIn, lineIn}
-use Rattle.links.specs.Lines.{stateOf}
+use Rattle.links.specs.LineWords.{stateOf}
 use Rattle.buffer.specs.Layout.{meshOf, wordsFor, chipsOf, wordsOf}
 use Rattle.mesh.specs.Steps.{Going, withChip}
 use Rattle.buffer.specs.Holding.{holdsMesh, StatesFine}
 use Rattle.lists.specs.Lists.{putBack}
-use Rattle.buffer.specs.Chips.{changedOn, lineWords}
+use Rattle.buffer.specs.ChipWords.{changedOn, lineWords}
 use Rattle.buffer.specs.Passing.{chipWords}
 use Rattle.mesh.specs.Sound.{SoundMesh}
 use Rattle.mesh.specs.Calls.{numberRefusals, unless, lineOf, withUp, withLink}
@@ -29,7 +29,7 @@ use Rattle.buffer.proofs.StepAt.{chip-long}
 use Rattle.buffer.proofs.LinksChanged.{line-long}
 use Rattle.buffer.proofs.Headers.{head-same}
 use Rattle.mesh.proofs.SoundChanges.{sound-linked}
-use Rattle.buffer.proofs.Counts.{words-enough}
+use Rattle.buffer.proofs.HoldsMesh.{words-enough}
 use Rattle.buffer.proofs.SoundWords.{holds-sound, holds-states, sound-holds}
 use Rattle.buffer.proofs.Leaving.{refused-leaves, accepted-leaves, accepted-refusal}
 use Rattle.buffer.proofs.Looks.{There, number-there, line-of}

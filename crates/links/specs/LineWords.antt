@@ -5,7 +5,6 @@ use mathlib.Core.Bool.{Bool, true, cond}
 use mathlib.Core.List.{List, _∷_}
 use lib.ListN.{getD, drop, set}
 use Rattle.packet.specs.declared.Packet.{Packet}
-use Rattle.packet.specs.Control.{carriesOf}
 use Rattle.steps.specs.declared.Outcome.{Outcome}
 use Rattle.steps.specs.Links.{has}
 use Rattle.steps.specs.Deciding.{packetOn, legPacket}
@@ -37,10 +36,6 @@ Room l o i = (has (o .sent) i ≡ true → getD l heldAt 0 ≤ 6) × (has (o .«
 -- What a pass leaves alone on a link: its state, and what is set aside.
 abbrev pub still : List ℕ → List ℕ
 still w = getD w stateAt 0 ∷ drop asideAt w
-
--- A packet whose length is right, as those in flight are.
-abbrev pub Right : Packet → Type 0
-Right p = p .nine ≡ carriesOf (p .control)
 
 -- A link's state word.
 abbrev pub stateOf : Bool → ℕ
