@@ -1,5 +1,5 @@
 -- Parts of a list: one put back after a change, what stands in it, before it and behind it; one copied number by number.
-use mathlib.Core.Path.{_≡_, refl, sym, ap, _∙_}
+use mathlib.Core.Path.{_≡_, sym, ap, _∙_}
 use mathlib.Core.List.{List, [], _∷_, _++_, append-assoc}
 use Prim.Native.Nat.{ℕ, zero, suc, _+_, _-_, _≤_, _<_}
 use native.Mathlib.Nat.{zero-add, suc-add}
@@ -14,13 +14,6 @@ pub take-drop : (b k : ℕ) (l : List ℕ) → take k (drop b l) ≡ drop b (tak
 take-drop zero k l = ap (λ (m : ℕ). take m l) (sym (zero-add k))
 take-drop (suc b) k [] = take-nil k ∙ sym (ap (λ (m : ℕ). drop (suc b) (take m [])) (suc-add b k))
 take-drop (suc b) k (x ∷ l) = take-drop b k l ∙ ap (λ (m : ℕ). drop (suc b) (take m (x ∷ l))) (sym (suc-add b k))
-
--- nothing is left behind a list's end
-pub drop-past : (n : ℕ) (l : List ℕ) → length l ≤ n → drop n l ≡ []
-drop-past zero [] h = refl
-drop-past zero (x ∷ l) h = absurd (omega arith)
-drop-past (suc n) [] h = refl
-drop-past (suc n) (x ∷ l) h = drop-past n l (omega arith)
 
 -- one number more of s copied over d
 pub copy-more : (d s : List ℕ) (j : ℕ) → j < length d → j < length s → set (take j s ++ drop j d) j (getD s j 0) ≡ take (j + 1) s ++ drop (j + 1) d

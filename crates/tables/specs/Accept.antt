@@ -57,5 +57,6 @@ rowsFew [] = true
 rowsFew (a ∷ []) = true
 rowsFew (a ∷ b ∷ rest) = fewRows (b - a) && rowsFew (b ∷ rest)
 
+-- The starts that are accepted: right, and few rows for each chip.
 abbrev pub startsFine : List ℕ → ℕ → ℕ → Bool
 startsFine starts chips rows = startsRight starts chips rows && rowsFew starts

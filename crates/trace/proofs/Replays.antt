@@ -4,9 +4,8 @@ use mathlib.Core.List.{List, [], _++_, append-nil, append-assoc}
 use Prim.Native.Nat.{ℕ, _+_, _-_, _*_, _/_, _≤_, _<_}
 use native.Mathlib.Nat.{add-zero}
 use native.Mathlib.Omega.{arith}
-use lib.ListN.{length, take, drop, length-append, length-drop, take-append-drop}
+use lib.ListN.{length, take, drop, length-append, length-drop, take-append-drop, drop-of-length-le}
 use lib.Seq.{take-all, drop-drop, length-take-le, take-at, drop-at}
-use Rattle.lists.proofs.Parts.{drop-past}
 use Rattle.mesh.specs.Mesh.{Mesh}
 use Rattle.buffer.specs.Layout.{meshOf, wordsFor}
 use Rattle.buffer.specs.Holding.{holdsMesh}
@@ -25,7 +24,7 @@ abbrev pub backIn : List ℕ → ℕ → List ℕ → List ℕ
 backIn log k w = take k log ++ (w ++ drop (length log - k) (drop k log))
 
 back-in : (log : List ℕ) (k : ℕ) (w : List ℕ) → backIn log k w ≡ take k log ++ w
-back-in log k w = ap (λ (r : List ℕ). take k log ++ (w ++ r)) (drop-past (length log - k) (drop k log) (simp length-drop (omega arith))) ∙ ap (λ (r : List ℕ). take k log ++ r) (append-nil w)
+back-in log k w = ap (λ (r : List ℕ). take k log ++ (w ++ r)) (drop-of-length-le (drop k log) {i = length log - k} (simp length-drop (omega arith))) ∙ ap (λ (r : List ℕ). take k log ++ r) (append-nil w)
 
 -- all that is left of a list, as a part of it
 part-rest : (k : ℕ) (l : List ℕ) → take (length l - k) (drop k l) ≡ drop k l
@@ -33,7 +32,7 @@ part-rest k l = take-all (length l - k) (drop k l) (simp length-drop (omega arit
 
 module _ (t : Tables) (s l₀ log₀ l log : List ℕ) (at added : ℕ) (h : SoFar t s l₀ log₀ l log at added) where
   -- a record is lent the rest of the trace and the rest of the log
-  pub lent-rest : (l₁ w₁ : List ℕ) (done : Done) → OneDone t (take (length s - at) (drop at s)) l (take (length log - added * 6) (drop (added * 6) log)) l₁ w₁ done
+  lent-rest : (l₁ w₁ : List ℕ) (done : Done) → OneDone t (take (length s - at) (drop at s)) l (take (length log - added * 6) (drop (added * 6) log)) l₁ w₁ done
       → OneDone t (drop at s) l (drop (added * 6) log) l₁ w₁ done
   lent-rest l₁ w₁ done d =
       subst (λ (q : List ℕ). OneDone t (drop at s) l q l₁ w₁ done) (part-rest (added * 6) log)
@@ -74,7 +73,11 @@ module _ (t : Tables) (s l₀ log₀ l log : List ℕ) (at added : ℕ) (h : SoF
   unfolding replaying
   at-the-end e = finished 0 (ap (replaying (holdsMesh l) t (meshOf l) (length (drop (added * 6) log))) (trace-over (drop at s) (simp length-drop (omega arith))))
 
-  module _ (more : at < length s) (l₁ w₁ : List ℕ) (done : Done) (d : OneDone t (drop at s) l (drop (added * 6) log) l₁ w₁ done) where
+  module _ (more : at < length s) (l₁ w₁ : List ℕ) (done : Done)
+      (lent : OneDone t (take (length s - at) (drop at s)) l (take (length log - added * 6) (drop (added * 6) log)) l₁ w₁ done) where
+    d : OneDone t (drop at s) l (drop (added * 6) log) l₁ w₁ done
+    d = lent-rest l₁ w₁ done lent
+
     abbrev here : List ℕ
     here = drop at s
 

@@ -5,7 +5,7 @@ use lib.ListN.{length}
 use Rattle.mesh.specs.Steps.{tablesOf}
 use Rattle.buffer.specs.Testing.{testedOf}
 use Rattle.trace.proofs.SoFar.{SoFar, begun, tested-still}
-use Rattle.trace.proofs.Replays.{lent-rest, log-kept, at-the-end, stopped-here, some-bytes, bytes-within, added-within, one-more}
+use Rattle.trace.proofs.Replays.{log-kept, at-the-end, stopped-here, some-bytes, bytes-within, added-within, one-more}
 use Rattle.trace.proofs.replaying.replay.Statement.{statement}
 use Rattle.trace.proofs.replaying.replay.Tie as tie
 
@@ -70,8 +70,7 @@ returns c =
     let now = c .before .before .before .before .before .before .before .before .before .before .before .loop in
     let t = tablesOf (s .rows .now) (s .starts .now) (s .codes .now) in
     let one = c .before .before .before .before .before .before .replay-one in
-    let d = lent-rest t (s .trace .now) (s .mesh .now) (s .log .now) (now .mesh) (now .log) (now .at) (now .added) (now .inv .1) (one .last .0) (one .last .1 .0) (one .result) (one .ensures) in
-    stopped-here t (s .trace .now) (s .mesh .now) (s .log .now) (now .mesh) (now .log) (now .at) (now .added) (now .inv .1) (c .before .before .before .before .before .before .before .before .before .before .loop-test .taken) (one .last .0) (one .last .1 .0) (one .result) d (c .if1 .taken)
+    stopped-here t (s .trace .now) (s .mesh .now) (s .log .now) (now .mesh) (now .log) (now .at) (now .added) (now .inv .1) (c .before .before .before .before .before .before .before .before .before .before .loop-test .taken) (one .last .0) (one .last .1 .0) (one .result) (one .ensures) (c .if1 .taken)
 
 add-at : tie.Need-add-at Inv-loop μ-loop
 add-at c =
@@ -79,8 +78,7 @@ add-at c =
     let now = c .before .before .before .before .before .before .before .before .before .before .before .before .loop in
     let t = tablesOf (s .rows .now) (s .starts .now) (s .codes .now) in
     let one = c .before .before .before .before .before .before .before .replay-one in
-    let d = lent-rest t (s .trace .now) (s .mesh .now) (s .log .now) (now .mesh) (now .log) (now .at) (now .added) (now .inv .1) (one .last .0) (one .last .1 .0) (one .result) (one .ensures) in
-    omega (arith, bytes-within t (s .trace .now) (s .mesh .now) (s .log .now) (now .mesh) (now .log) (now .at) (now .added) (now .inv .1) (c .before .before .before .before .before .before .before .before .before .before .before .loop-test .taken) (one .last .0) (one .last .1 .0) (one .result) d (c .before .if1 .left) (one .kept .1 .0), c .before .before .before .before .before .before .before .before .before .before .before .before .before .before .before .before .before .before .before .before .before .good .1 .1 .0)
+    omega (arith, bytes-within t (s .trace .now) (s .mesh .now) (s .log .now) (now .mesh) (now .log) (now .at) (now .added) (now .inv .1) (c .before .before .before .before .before .before .before .before .before .before .before .loop-test .taken) (one .last .0) (one .last .1 .0) (one .result) (one .ensures) (c .before .if1 .left) (one .kept .1 .0), c .before .before .before .before .before .before .before .before .before .before .before .before .before .before .before .before .before .before .before .before .before .good .1 .1 .0)
 
 cast-added : tie.Need-cast-added Inv-loop μ-loop
 cast-added c = omega (arith, c .struct-known3 .given .1 .1 .0)
@@ -91,8 +89,7 @@ add-added c =
     let now = c .before .before .before .before .before .before .before .before .before .before .before .before .before .loop in
     let t = tablesOf (s .rows .now) (s .starts .now) (s .codes .now) in
     let one = c .before .before .before .before .before .before .before .before .replay-one in
-    let d = lent-rest t (s .trace .now) (s .mesh .now) (s .log .now) (now .mesh) (now .log) (now .at) (now .added) (now .inv .1) (one .last .0) (one .last .1 .0) (one .result) (one .ensures) in
-    omega (arith, added-within t (s .trace .now) (s .mesh .now) (s .log .now) (now .mesh) (now .log) (now .at) (now .added) (now .inv .1) (c .before .before .before .before .before .before .before .before .before .before .before .before .loop-test .taken) (one .last .0) (one .last .1 .0) (one .result) d (c .before .before .if1 .left) (one .kept .1 .0), c .before .before .before .before .before .before .before .before .before .before .before .before .before .before .before .before .before .before .before .before .before .before .good .1 .0 .0)
+    omega (arith, added-within t (s .trace .now) (s .mesh .now) (s .log .now) (now .mesh) (now .log) (now .at) (now .added) (now .inv .1) (c .before .before .before .before .before .before .before .before .before .before .before .before .loop-test .taken) (one .last .0) (one .last .1 .0) (one .result) (one .ensures) (c .before .before .if1 .left) (one .kept .1 .0), c .before .before .before .before .before .before .before .before .before .before .before .before .before .before .before .before .before .before .before .before .before .before .good .1 .0 .0)
 
 loop-less : tie.Need-loop-less Inv-loop μ-loop
 loop-less c =
@@ -100,8 +97,7 @@ loop-less c =
     let now = c .before .before .before .before .before .before .before .before .before .before .before .before .before .loop in
     let t = tablesOf (s .rows .now) (s .starts .now) (s .codes .now) in
     let one = c .before .before .before .before .before .before .before .before .replay-one in
-    let d = lent-rest t (s .trace .now) (s .mesh .now) (s .log .now) (now .mesh) (now .log) (now .at) (now .added) (now .inv .1) (one .last .0) (one .last .1 .0) (one .result) (one .ensures) in
-    omega (arith, some-bytes t (s .trace .now) (s .mesh .now) (s .log .now) (now .mesh) (now .log) (now .at) (now .added) (now .inv .1) (c .before .before .before .before .before .before .before .before .before .before .before .before .loop-test .taken) (one .last .0) (one .last .1 .0) (one .result) d (c .before .before .if1 .left) (one .kept .1 .0), bytes-within t (s .trace .now) (s .mesh .now) (s .log .now) (now .mesh) (now .log) (now .at) (now .added) (now .inv .1) (c .before .before .before .before .before .before .before .before .before .before .before .before .loop-test .taken) (one .last .0) (one .last .1 .0) (one .result) d (c .before .before .if1 .left) (one .kept .1 .0))
+    omega (arith, some-bytes t (s .trace .now) (s .mesh .now) (s .log .now) (now .mesh) (now .log) (now .at) (now .added) (now .inv .1) (c .before .before .before .before .before .before .before .before .before .before .before .before .loop-test .taken) (one .last .0) (one .last .1 .0) (one .result) (one .ensures) (c .before .before .if1 .left) (one .kept .1 .0), bytes-within t (s .trace .now) (s .mesh .now) (s .log .now) (now .mesh) (now .log) (now .at) (now .added) (now .inv .1) (c .before .before .before .before .before .before .before .before .before .before .before .before .loop-test .taken) (one .last .0) (one .last .1 .0) (one .result) (one .ensures) (c .before .before .if1 .left) (one .kept .1 .0))
 
 loop-again : tie.Need-loop-again Inv-loop μ-loop
 loop-again c =
@@ -109,8 +105,7 @@ loop-again c =
     let now = c .before .before .before .before .before .before .before .before .before .before .before .before .before .loop in
     let t = tablesOf (s .rows .now) (s .starts .now) (s .codes .now) in
     let one = c .before .before .before .before .before .before .before .before .replay-one in
-    let d = lent-rest t (s .trace .now) (s .mesh .now) (s .log .now) (now .mesh) (now .log) (now .at) (now .added) (now .inv .1) (one .last .0) (one .last .1 .0) (one .result) (one .ensures) in
-    (now .inv .0, one-more t (s .trace .now) (s .mesh .now) (s .log .now) (now .mesh) (now .log) (now .at) (now .added) (now .inv .1) (c .before .before .before .before .before .before .before .before .before .before .before .before .loop-test .taken) (one .last .0) (one .last .1 .0) (one .result) d (c .before .before .if1 .left) (one .kept .1 .0))
+    (now .inv .0, one-more t (s .trace .now) (s .mesh .now) (s .log .now) (now .mesh) (now .log) (now .at) (now .added) (now .inv .1) (c .before .before .before .before .before .before .before .before .before .before .before .before .loop-test .taken) (one .last .0) (one .last .1 .0) (one .result) (one .ensures) (c .before .before .if1 .left) (one .kept .1 .0))
 
 same-length-3 : tie.Need-same-length-3 Inv-loop μ-loop
 same-length-3 c = c .before .loop .inv .1 .long
