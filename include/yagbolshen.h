@@ -29,8 +29,8 @@
 #include <stdbool.h>
 #endif
 
-/* Raised with each change that a caller can see; 2 brings kept traces. */
-#define YAGBOLSHEN_VERSION 2
+/* Raised with each change that a caller can see; 2 brings kept traces, 3 has a row match by its key itself. */
+#define YAGBOLSHEN_VERSION 3
 
 /* The refusals by name. */
 #define YB_ACCEPTED 0
@@ -232,8 +232,9 @@ yb_pass yagbolshen_pass(const uint8_t *packet, size_t packet_len, uint32_t sourc
                         const uint32_t *rows, size_t rows_len, const uint8_t *codes, size_t codes_len,
                         uint32_t monitor, uint32_t phase, uint32_t ready);
 
-/* Finds the first row that takes a key: key AND mask is the row's key AND mask. `rows_len` counts rows. Takes any number of
- * rows and any routes, and never refuses; the number of a row past 4,294,967,295 is given modulo 4,294,967,296. */
+/* Finds the first row that takes a key: key AND mask is the row's key itself, so that a row with a key bit outside its mask
+ * takes none. `rows_len` counts rows. Takes any number of rows and any routes, and never refuses; the number of a row past
+ * 4,294,967,295 is given modulo 4,294,967,296. */
 yb_found yagbolshen_find(const yb_row *rows, size_t rows_len, uint32_t key);
 
 /* A mesh lives in a buffer of 32-bit words that the caller lends to every call; words past the needed length are never

@@ -1,46 +1,19 @@
 -- What a covered row comes to, for every key: whatever it matches the earlier row matches too, and so no search ends at it.
-use Prim.Native.Nat.{ℕ, zero, suc, _+_, _*_, _/_, _%_, _<_, min}
-use mathlib.Core.Path.{_≡_, refl, sym, ap, ap₂, _∙_}
+use Prim.Native.Nat.{ℕ, zero, suc, _<_}
+use mathlib.Core.Path.{_≡_, refl, sym, ap, _∙_}
 use mathlib.Core.Bool.{Bool, true, false, cond, _&&_, true≢false, false≢true}
 use mathlib.Core.List.{List, [], _∷_}
 use native.Mathlib.Omega.{arith}
-use native.Mathlib.Nat.{min-zero, zero-min, suc-min-suc, min-le-left, mod-lt, lt-of-le-of-lt, zero-lt-suc}
-use lib.Arith.{bin-ind, digits-div, digits-mod}
-use lib.Bits.{bitAnd, and-step, and-comm}
+use lib.Bits.{bitAnd, and-comm}
 use lib.Dec.{eqb}
 use lib.ListN.{getD}
 use borrow.Author.Tests.{eqb-true, eq-eqb}
 use Rattle.tables.specs.declared.Found.{Found}
 use Rattle.tables.specs.declared.Found.the-variants.{At, Nothing}
 use Rattle.tables.specs.Shown.{Shown, foundShown}
-use Rattle.tables.specs.Rows.{Entry, matches, next, firstMatch, blankEntry}
+use Rattle.tables.specs.Rows.{Entry, matches, used, next, firstMatch, blankEntry}
+use Rattle.tables.proofs.Masked.{and-assoc}
 use Rattle.sheet.specs.Covering.{covers}
-
-min-assoc : (a b c : ℕ) → min (min a b) c ≡ min a (min b c)
-min-assoc zero b c = ap (λ (x : ℕ). min x c) (zero-min b) ∙ zero-min c ∙ sym (zero-min (min b c))
-min-assoc (suc a) zero c = ap (λ (x : ℕ). min x c) (min-zero (suc a)) ∙ zero-min c ∙ sym (ap (min (suc a)) (zero-min c) ∙ min-zero (suc a))
-min-assoc (suc a) (suc b) zero = min-zero (min (suc a) (suc b)) ∙ sym (ap (min (suc a)) (min-zero (suc b)) ∙ min-zero (suc a))
-min-assoc (suc a) (suc b) (suc c) =
-    ap (λ (x : ℕ). min x (suc c)) (suc-min-suc a b) ∙ suc-min-suc (min a b) c ∙ ap suc (min-assoc a b c)
-    ∙ sym (ap (min (suc a)) (suc-min-suc b c) ∙ suc-min-suc a (min b c))
-
-digit-lt : (a b : ℕ) → min (a % 2) (b % 2) < 2
-digit-lt a b = lt-of-le-of-lt (min-le-left (a % 2) (b % 2)) (mod-lt a (zero-lt-suc 1))
-
-and-half : (a b : ℕ) → bitAnd a b / 2 ≡ bitAnd (a / 2) (b / 2)
-and-half a b = ap (λ (x : ℕ). x / 2) (and-step a b) ∙ digits-div (bitAnd (a / 2) (b / 2)) (digit-lt a b)
-
-and-digit : (a b : ℕ) → bitAnd a b % 2 ≡ min (a % 2) (b % 2)
-and-digit a b = ap (λ (x : ℕ). x % 2) (and-step a b) ∙ digits-mod (bitAnd (a / 2) (b / 2)) (digit-lt a b)
-
-and-assoc : (a b c : ℕ) → bitAnd (bitAnd a b) c ≡ bitAnd a (bitAnd b c)
-and-assoc =
-    bin-ind (λ (n : ℕ). (b c : ℕ) → bitAnd (bitAnd n b) c ≡ bitAnd n (bitAnd b c)) (λ b c. refl)
-    (λ n ih b c. and-step (bitAnd n b) c
-    ∙ ap₂ (λ (x y : ℕ). bitAnd x (c / 2) * 2 + min y (c % 2)) (and-half n b) (and-digit n b)
-    ∙ ap₂ (λ (x y : ℕ). x * 2 + y) (ih (b / 2) (c / 2)) (min-assoc (n % 2) (b % 2) (c % 2))
-    ∙ sym (ap₂ (λ (x y : ℕ). bitAnd (n / 2) x * 2 + min (n % 2) y) (and-half b c) (and-digit b c))
-    ∙ sym (and-step n (bitAnd b c)))
 
 -- bits that a mask has among those of another can be taken after that other's
 through : (key mask later : ℕ) → bitAnd mask later ≡ mask → bitAnd key mask ≡ bitAnd (bitAnd key later) mask
@@ -53,17 +26,13 @@ both false b e = absurd (false≢true e)
 pub covered-matches : (key earlier mask later laterMask : ℕ) → covers earlier mask later laterMask ≡ true
     → matches key later laterMask ≡ true → matches key earlier mask ≡ true
 covered-matches key earlier mask later laterMask c m =
-    eq-eqb (bitAnd key mask) (bitAnd earlier mask)
-    (through key mask laterMask inside
-    ∙ ap (λ (x : ℕ). bitAnd x mask) (eqb-true (bitAnd key laterMask) (bitAnd later laterMask) m)
-    ∙ sym (through later mask laterMask inside)
-    ∙ eqb-true (bitAnd later mask) (bitAnd earlier mask) (parts .1))
+    eq-eqb (bitAnd key mask) earlier
+    (through key mask laterMask (eqb-true (bitAnd mask laterMask) mask (both (used later laterMask) (eqb (bitAnd mask laterMask) mask) (parts .0) .1))
+    ∙ ap (λ (x : ℕ). bitAnd x mask) (eqb-true (bitAnd key laterMask) later m)
+    ∙ eqb-true (bitAnd later mask) earlier (parts .1))
   where
-    parts : (eqb (bitAnd mask laterMask) mask ≡ true) × (matches later earlier mask ≡ true)
-    parts = both (eqb (bitAnd mask laterMask) mask) (matches later earlier mask) c
-
-    inside : bitAnd mask laterMask ≡ mask
-    inside = eqb-true (bitAnd mask laterMask) mask (parts .0)
+    parts : ((used later laterMask && eqb (bitAnd mask laterMask) mask) ≡ true) × (matches later earlier mask ≡ true)
+    parts = both (used later laterMask && eqb (bitAnd mask laterMask) mask) (matches later earlier mask) c
 
 -- whether row k of a table covers row n
 abbrev pub coversAt : List Entry → ℕ → ℕ → Bool

@@ -8,6 +8,8 @@ use super::board::times;
 use super::board::x_of;
 use super::board::y_of;
 use super::covering::coverer;
+use super::covering::outside_at;
+use super::covering::used_at;
 use super::paths::PATH;
 use super::paths::path_in;
 use super::reading::Reading;
@@ -122,6 +124,14 @@ fn tell_rows(b: Board, chip: u32, rows: &[u32; ROWS], first: usize, count: usize
 }
 
 fn tell_row(b: Board, chip: u32, rows: &[u32; ROWS], first: usize, n: usize) -> u64 {
+    let row = wrapping_add_usize(first, n);
+    if !used_at(rows, row) {
+        begin_row(b, chip, n);
+        out(b": matches no key: key bits ");
+        say::hex(STDOUT_FILENO, outside_at(rows, row));
+        out(b" are outside its mask\n");
+        return 1;
+    }
     let mut odd = 0;
     if route_at(rows, first, n) == 0 {
         begin_row(b, chip, n);
@@ -168,11 +178,11 @@ fn tell_way_in(b: Board, chip: u32, link: u32, rows: &[u32; ROWS], starts: &[u32
     1
 }
 
-// The first of some rows whose route has a link, or the place past them.
+// The first of some rows that matches keys and whose route has a link, or the place past them.
 fn leading_by(rows: &[u32; ROWS], first: usize, past: usize, link: u32) -> usize {
     let mut row = first;
     while row < past {
-        if has_link(route_at(rows, row, 0), link) {
+        if used_at(rows, row) & has_link(route_at(rows, row, 0), link) {
             break;
         }
         row += 1;

@@ -1,9 +1,23 @@
-// Rows that an earlier row of their table covers.
+// Rows that match no key, and rows that an earlier row of their table covers.
 use super::storing::word_of;
 use script::cells::word_at;
 use std::num::wrapping_add_usize;
 ghost use mathlib.Core.Path.{_≡_};
+ghost use Rattle.tables.specs.Rows.{used};
 ghost use Rattle.sheet.specs.Covering.{covers};
+
+// Whether a row matches any key at all.
+pub fn used_at(rows: &[u32], row: usize) -> bool {
+    let at = word_of(row);
+    used(word_at(rows, at), word_at(rows, at + 1))
+}
+
+// The bits of a row's key that are outside its mask.
+pub fn outside_at(rows: &[u32], row: usize) -> u32 {
+    let at = word_of(row);
+    let key = word_at(rows, at);
+    key ^ (key & word_at(rows, at + 1))
+}
 
 // Which row of a table covers row n of it and stands before it: n where none does. The table starts at row `first` of all rows.
 pub fn coverer(rows: &[u32], first: usize, n: usize) -> usize {
@@ -34,5 +48,11 @@ fn covers_at(rows: &[u32], row: usize, later_key: u32, later_mask: u32) -> bool 
 fn covers(key: u32, mask: u32, later_key: u32, later_mask: u32) -> bool
     ensures { λ r. ⌜ r ≡ covers key mask «later_key» «later_mask» ⌝ }
 {
-    ((mask & later_mask) == mask) & ((later_key & mask) == (key & mask))
+    used(later_key, later_mask) & ((mask & later_mask) == mask) & ((later_key & mask) == key)
+}
+
+fn used(key: u32, mask: u32) -> bool
+    ensures { λ r. ⌜ r ≡ used key mask ⌝ }
+{
+    (key & mask) == key
 }

@@ -1,6 +1,7 @@
 pub mod Chips
 pub mod EightCodes
 pub mod LentRows
+pub mod Masked
 pub mod OneByOne
 pub mod RowByRow
 pub mod Sizes

@@ -1,4 +1,4 @@
--- "An MC table is a run of rows, each with key, mask and route. ... A row matches when packet key AND mask equals row key AND mask; the search
+-- "An MC table is a run of rows, each with key, mask and route. ... A row matches when packet key AND mask equals the row key itself; the search
 -- stops at the first row that matches."
 use Prim.Native.Nat.{ℕ, suc, _+_, _*_, _%_, _^_}
 use mathlib.Core.Bool.{Bool, cond}
@@ -20,7 +20,11 @@ pub record Entry : Type 0 where
   pub route : ℕ
 
 abbrev pub matches : ℕ → ℕ → ℕ → Bool
-matches key row mask = eqb (bitAnd key mask) (bitAnd row mask)
+matches key row mask = eqb (bitAnd key mask) row
+
+-- Whether a row's key has no bit outside its mask. A board's unused rows, key all ones and mask 0, have all bits there.
+abbrev pub used : ℕ → ℕ → Bool
+used row mask = eqb (bitAnd row mask) row
 
 -- Three numbers a row.
 unfoldable pub rowsOf : List ℕ → List Entry

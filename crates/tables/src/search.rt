@@ -107,5 +107,5 @@ fn matches_at(rows: &[u32], i: usize, key: u32) -> bool
 fn matches_row(key: u32, row_key: u32, mask: u32) -> bool
     ensures { λ r. ⌜ r ≡ matches key «row_key» mask ⌝ }
 {
-    (key & mask) == (row_key & mask)
+    (key & mask) == row_key
 }

@@ -27,7 +27,8 @@ pub fn systematic(tally: &mut FindTally, random: &mut Random) {
                 let other = Row { key: !key, mask: u32::MAX, route: random.word() };
                 let mut rows = vec![other; lent + 1];
                 for at in [first, second] {
-                    rows[at] = Row { key, mask: random.word(), route: random.word() };
+                    let mask = random.word();
+                    rows[at] = Row { key: key & mask, mask, route: random.word() };
                 }
                 find(tally, &rows, lent, key);
             }
@@ -55,7 +56,7 @@ fn random_rows(random: &mut Random, key: u32) -> Vec<Row> {
         };
         let any = random.word();
         let near = key ^ 1 << random.below(32);
-        let row_key = if random.one_in(matching) { key ^ any & !mask } else { random.pick(&[any, near]) };
+        let row_key = if random.one_in(matching) { key & mask } else { random.pick(&[any, near, key | !mask]) };
         let route = random.word();
         Row { key: row_key, mask, route: random.pick(&[route, route >> 6, 1, 0]) }
     };
@@ -73,12 +74,18 @@ fn find(tally: &mut FindTally, rows: &[Row], lent: usize, key: u32) {
     same("find", &(&rows[..lent], key), &answer, &lib_calls::find(&rows[..lent], key));
     let taking = rows[..lent].iter().filter(|row| takes(row, key)).count();
     let behind = rows.get(lent).is_some_and(|row| takes(row, key));
-    count(FIND, &mut tally.0, &FindCase { lent, taking, behind, answer });
+    let unused = rows[..lent].first().is_some_and(is_unused);
+    count(FIND, &mut tally.0, &FindCase { lent, taking, behind, unused, answer });
 }
 
-/// "A row matches when packet key AND mask equals row key AND mask"
+/// "A row matches when packet key AND mask equals the row key itself"
 fn takes(row: &Row, key: u32) -> bool {
-    (key ^ row.key) & row.mask == 0
+    key & row.mask == row.key
+}
+
+/// A row with a key bit outside its mask matches nothing.
+fn is_unused(row: &Row) -> bool {
+    row.key & !row.mask != 0
 }
 
 struct FindCase {
@@ -86,6 +93,8 @@ struct FindCase {
     /// How many rows take the key, and whether the one behind them does.
     taking: usize,
     behind: bool,
+    /// Whether the first row is unused.
+    unused: bool,
     answer: Found,
 }
 
@@ -94,6 +103,7 @@ const FIND: Events<FindCase> = &[
     ("in the last of many rows", |case| case.answer.found == 1 && case.answer.row > 0 && is_last(case)),
     ("in a middle row", |case| case.answer.found == 1 && case.answer.row > 0 && !is_last(case)),
     ("with a row after it that takes the key too", |case| case.taking > 1),
+    ("behind an unused row", |case| case.unused && case.answer.found == 1),
     ("with a route of 0", |case| case.answer.found == 1 && case.answer.route == 0),
     ("with route bits above 25", |case| case.answer.route >> 26 != 0),
     ("beyond row 1,024", |case| case.answer.row > 1_024),

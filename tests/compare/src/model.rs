@@ -346,7 +346,7 @@ pub fn mc_wanted(call: &PassCall, packet: &Packet) -> (u32, bool) {
 }
 
 fn first_match(rows: &[u32], key: u32) -> Option<u32> {
-    rows.chunks_exact(ROW).find(|row| key & row[1] == row[0] & row[1]).map(|row| row[2])
+    rows.chunks_exact(ROW).find(|row| key & row[1] == row[0]).map(|row| row[2])
 }
 
 pub fn p2p_wanted(call: &PassCall, word: u32) -> u32 {

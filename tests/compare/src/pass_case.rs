@@ -101,7 +101,8 @@ impl PassCase {
                 2 => 1 << random.below(32),
                 _ => u32::MAX << random.below(32),
             };
-            let row_key = if random.one_in(count) { key ^ random.word() & !mask } else { random.word() };
+            let any = random.word();
+            let row_key = if random.one_in(count) { key & mask } else { random.pick(&[any, any & mask, key | !mask]) };
             let kept = random.pick(&[u32::MAX, u32::MAX, 63, !63, 0]);
             self.rows.extend_from_slice(&[row_key, mask, random.word() >> 6 & kept]);
         }

@@ -19,7 +19,7 @@ pub fn all(tally: &mut Tally, random: &mut Random) {
     damage_pairs(tally, random);
 }
 
-/// All wanted link sets by all ready sets, for each mark and source.
+/// All wanted link sets by all ready sets, for each mark and source. The row stands behind an unused one.
 fn wanted_by_ready(tally: &mut Tally, random: &mut Random) {
     for source in SOURCES {
         for mark in 0..4 {
@@ -27,7 +27,7 @@ fn wanted_by_ready(tally: &mut Tally, random: &mut Random) {
                 for ready in 0..64 {
                     let processors = random.below(2) * random.below(1 << 20);
                     let mut case = one_chip(random, source, ready, kind::MC << 6 | mark << 4);
-                    case.rows = vec![random.word(), 0, processors << 6 | wanted];
+                    case.rows = vec![u32::MAX, 0, !wanted & 63, 0, 0, processors << 6 | wanted];
                     compare::pass(tally, &case);
                 }
             }
@@ -100,11 +100,9 @@ fn row_counts(tally: &mut Tally, random: &mut Random) {
     for words in 3 * MOST_ROWS - 7..3 * MOST_ROWS + 10 {
         for from_end in 1..=9 {
             let mut case = one_chip(random, 0, 63, 0);
-            case.rows = vec![u32::MAX; words];
-            for route in case.rows.iter_mut().skip(2).step_by(3) {
-                *route = 1;
-            }
-            case.packet[1] &= 0x7f;
+            case.rows = [0, u32::MAX, 1].into_iter().cycle().take(words).collect();
+            case.packet[1] = 0x40;
+            set_parity_right(&mut case.packet);
             case.rows[words - from_end] = random.pick(&[0, 2, 1 << 25, 1 << 26, 1 << 31]);
             compare::pass(tally, &case);
         }

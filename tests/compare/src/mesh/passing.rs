@@ -110,7 +110,7 @@ impl Router<'_> {
     fn matching_route(&self, key: u32) -> Option<u32> {
         for row in self.rows.chunks(3) {
             let (row_key, mask, route) = (row[0], row[1], row[2]);
-            if key & mask == row_key & mask {
+            if key & mask == row_key {
                 return Some(route);
             }
         }

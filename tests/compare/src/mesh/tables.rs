@@ -56,7 +56,8 @@ impl Tables {
             2 => u32::MAX << random.below(32),
             _ => u32::MAX,
         };
-        let key = keys[random.below(keys.len() as u32) as usize] ^ random.word() & !mask;
+        let outside = if random.one_in(4) { random.word() & !mask } else { 0 };
+        let key = keys[random.below(keys.len() as u32) as usize] & mask | outside;
         let (one_link, any_links) = (1 << random.below(6), random.below(64));
         let processors = random.word() & random.word() & 0x03ff_ffc0;
         let route = match routes {

@@ -13,6 +13,9 @@ abbrev μ-loop : tie.MeasureT-loop
 loop-holds : tie.Need-loop-holds Inv-loop μ-loop
 loop-holds c = search needs
 
+used-at-requires : tie.Need-used-at-requires Inv-loop μ-loop
+used-at-requires c κs = search needs
+
 route-at-requires : tie.Need-route-at-requires Inv-loop μ-loop
 route-at-requires c κs = search needs
 
@@ -41,6 +44,7 @@ leading-by-spec =
     Inv-loop
     μ-loop
     loop-holds
+    used-at-requires
     route-at-requires
     has-link-requires
     add-row
