@@ -7,3 +7,4 @@ pub mod NoStaleBlock
 pub mod OnePass
 pub mod Sequence
 pub mod Told
+pub mod UnusedRows
