@@ -1,12 +1,13 @@
--- Words laid over each other by exclusive or keep the parity of their ones.
+-- Words laid over each other by exclusive or, and the halves of a word, keep the parity of their ones.
 use mathlib.Core.Path.{_≡_, refl, sym, ap, _∙_}
-use Prim.Native.Nat.{ℕ, zero, suc, _+_, _*_, _/_, _%_, _<_}
-use native.Mathlib.Nat.{mod-lt, add-mod}
+use Prim.Native.Nat.{ℕ, zero, suc, _+_, _*_, _/_, _%_, _^_, _<_}
+use native.Mathlib.Nat.{mod-lt, add-mod, mod-eq-of-lt, div-eq-of-lt}
 use native.Mathlib.Omega.{arith}
 use lib.Arith.{bin-ind, digits-mod, digits-div}
-use lib.Bits.{bitXor, differ, xor-step, xor-zero-l}
-use lib.Count.{ones, onesIn, ones-step}
+use lib.Bits.{bitAnd, bitXor, differ, xor-step, xor-zero-l, xor-mod, and-mask}
+use lib.Count.{ones, onesIn, ones-step, ones-cat}
 use lib.Dec.{lit<}
+use lib.Pow.{pow-pos, mod-pow-add}
 
 differ-parity : (x y : ℕ) → x < 2 → y < 2 → differ x y % 2 ≡ (x + y) % 2
 differ-parity zero zero hx hy = refl
@@ -49,3 +50,30 @@ ones-xor = bin-ind (λ (a : ℕ). (b : ℕ) → ones (bitXor a b) % 2 ≡ (ones 
         let whole : ones (bitXor a b) ≡ d + ones x = ap ones (xor-step a b) ∙ ones-step (x * 2 + d) ∙ (λ i. low i + ones (high i)) in
         ap (λ (n : ℕ). n % 2) whole ∙ joined d (ones x) (a % 2) (b % 2) (ones (a / 2)) (ones (b / 2)) even (ih (b / 2))
         ∙ (λ i. (sym (ones-step a) i + sym (ones-step b) i) % 2)
+
+-- the upper bits of a number laid over its lower n
+abbrev folded : ℕ → ℕ → ℕ
+folded n a = bitXor a (a / 2 ^ n)
+
+-- of 2n bits: the lower n of what comes out have ones of the same parity
+ones-folded : (n a : ℕ) → ones (folded n a % 2 ^ n) % 2 ≡ ones (a % 2 ^ (n + n)) % 2
+ones-folded n a =
+    let low : ℕ = a % 2 ^ n in
+    let high : ℕ = a / 2 ^ n % 2 ^ n in
+    let whole : ones (a % 2 ^ (n + n)) ≡ ones high + ones low = ap ones (mod-pow-add a n n) ∙ ones-cat n high low (mod-lt a (pow-pos n)) in
+    ap (λ (x : ℕ). ones x % 2) (xor-mod a (a / 2 ^ n) n) ∙ ones-xor low high ∙ omega (arith, whole)
+
+ones-bit : (a : ℕ) → ones (a % 2 ^ 1) % 2 ≡ a % 2 ^ 1
+ones-bit a =
+    let small : a % 2 < 2 = mod-lt a (lit< tt) in
+    omega (arith, ones-step (a % 2), ap ones (div-eq-of-lt small), ones-zero)
+
+-- a number of 32 bits folded down to one
+pub ones-of-last : (a : ℕ) → a < 2 ^ 32 → bitAnd (folded 1 (folded 2 (folded 4 (folded 8 (folded 16 a))))) 1 ≡ ones a % 2
+ones-of-last a h =
+    let b : ℕ = folded 16 a in
+    let c : ℕ = folded 8 b in
+    let d : ℕ = folded 4 c in
+    let e : ℕ = folded 2 d in
+    and-mask (folded 1 e) 1 ∙ sym (ones-bit (folded 1 e)) ∙ ones-folded 1 e ∙ ones-folded 2 d ∙ ones-folded 4 c ∙ ones-folded 8 b ∙ ones-folded 16 a
+    ∙ ap (λ (x : ℕ). ones x % 2) (mod-eq-of-lt h)

@@ -4,14 +4,14 @@ use super::control::mark_in;
 use super::control::parity_in;
 use super::control::stamp_in;
 ghost use mathlib.Core.Path.{_≡_};
-ghost use Prim.Native.Nat.{_%_, _≤_};
+ghost use Prim.Native.Nat.{_%_};
 ghost use Rattle.packet.specs.Parity.{onesOf, isOdd, withControl, setRight, withMark, withStamp};
 
 // Whether all bits of the packet together hold an odd number of ones.
 pub fn is_odd(p: Packet) -> bool
     ensures { λ r. ⌜ r ≡ isOdd p ⌝ }
 {
-    folded_ones(p) % 2 == 1
+    folded_ones(p) == 1
 }
 
 // The packet with a new mark, its parity bit set right.
@@ -28,11 +28,16 @@ pub fn with_stamp(p: Packet, stamp: u32) -> Packet
     set_right(with_control(p, stamp_in(p.control, stamp)))
 }
 
-// The ones of the three words laid over each other: odd where those of all bits are, and counted at once.
+// The three words laid over each other, and then the upper half of what is left over the lower, down to one bit.
 fn folded_ones(p: Packet) -> u32
-    ensures { λ r. ⌜ (r % 2 ≡ onesOf p % 2) × (r ≤ 32) ⌝ }
+    ensures { λ r. ⌜ r ≡ onesOf p % 2 ⌝ }
 {
-    u32::count_ones(p.control ^ p.word ^ p.payload)
+    let a = p.control ^ p.word ^ p.payload;
+    let b = a ^ (a >> 16);
+    let c = b ^ (b >> 8);
+    let d = c ^ (c >> 4);
+    let e = d ^ (d >> 2);
+    (e ^ (e >> 1)) & 1
 }
 
 fn set_right(p: Packet) -> Packet

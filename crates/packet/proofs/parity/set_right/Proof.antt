@@ -29,7 +29,7 @@ with-control-requires-2 c κs = search needs
 returns : tie.Need-returns
 returns c =
     let p = c .before .before .before .before .before .args .p in
-    let others : _ = c .before .before .folded-ones .ensures .0 ∙ ap (λ (q : Packet). onesOf q % 2) (c .before .before .before .with-control .ensures ∙ ap (withControl p) (c .before .before .before .before .parity-in .ensures)) in
+    let others : _ = c .before .before .folded-ones .ensures ∙ ap (λ (q : Packet). onesOf q % 2) (c .before .before .before .with-control .ensures ∙ ap (withControl p) (c .before .before .before .before .parity-in .ensures)) in
     let bit : (c .before .before .folded-ones .result + 1) % 2 ≡ (onesOf (withControl p (parityIn (p .control) 0)) + 1) % 2 = omega (arith, others) in
     c .with-control2 .ensures ∙ ap (withControl p) (c .before .parity-in2 .ensures ∙ ap (λ (n : ℕ). p .control / 2 * 2 + n) bit)
 
