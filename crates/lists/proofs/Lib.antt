@@ -1,5 +1,6 @@
 pub mod Alls
 pub mod Changed
+pub mod Firsts
 pub mod Parts
 pub mod Six
 pub mod Sums
