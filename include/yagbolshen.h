@@ -8,11 +8,12 @@
  *
  *  1  source 6 or above 7                   7  width or height not 1 to 12, or rounds in a phase not 1 to 65,535
  *  2  packet length not 5 or 9              8  mesh buffer too short on opening, or later not holding a mesh
- *  3  packet type 3                         9  chip, link, counter or place in flight not there
- *  4  nearest neighbour packet with T = 1  10  log shorter than six numbers per packet in flight (injection: six)
- *  5  not whole rows, over 1,024 of them   11  P2P table of wrong size, or a code above 7
- *     for a chip, or route bit 26 to 31
- *     set; starts that do not fit
+ *  4  nearest neighbour packet with T = 1   9  chip, link, counter or place in flight not there
+ *  5  not whole rows, over 1,024 of them   10  log shorter than six numbers per packet in flight (injection: six)
+ *     for a chip, or route bit 26 to 31    11  P2P table of wrong size, or a code above 7
+ *     set; starts that do not fit; fixed
+ *     routes of another number than chips,
+ *     or with bit 26 to 31 set
  *  6  phase above 3, ready set above 63, monitor above 19, or a field out of range in packing
  * 12  record of a trace cut short
  * 13  record with an empty body, or of a version other than 1
@@ -29,16 +30,16 @@
 #include <stdbool.h>
 #endif
 
-/* Raised with each change that a caller can see; 2 brings kept traces, 3 has a row match by its key itself. */
-#define YAGBOLSHEN_VERSION 3
+/* Raised with each change that a caller can see; 2 brings kept traces, 3 has a row match by its key itself,
+ * 4 brings fixed-route packets. */
+#define YAGBOLSHEN_VERSION 4
 
 /* The refusals by name. */
 #define YB_ACCEPTED 0
 #define YB_NO_SOURCE 1      /* source 6 or above 7 */
 #define YB_PACKET_LENGTH 2
-#define YB_PACKET_TYPE 3
 #define YB_DIRECT 4         /* nearest neighbour packet with T = 1 */
-#define YB_ROWS 5           /* rows, routes or starts */
+#define YB_ROWS 5           /* rows, routes, starts or fixed routes */
 #define YB_RANGE 6          /* phase, ready set, monitor or a packet's field */
 #define YB_SIZE 7           /* width, height or rounds in a phase */
 #define YB_NO_MESH 8
@@ -66,7 +67,7 @@
 
 /* The control byte: bits 7:6 the kind; multicast has its mark in bits 5:4 (0 normal, 1 normal and emergency, 2 emergency,
  * 3 second leg), point-to-point its sequence there, both their stamp in bits 3:2; nearest neighbour has T in bit 5 and its
- * route in bits 4:2 (a link, 6 all links, 7 the monitor). Bit 1 says that a payload follows. Bit 0 is parity: all bits of a
+ * route in bits 4:2 (a link, 6 all links, 7 the monitor); fixed-route is as multicast. Bit 1 says that a payload follows. Bit 0 is parity: all bits of a
  * packet together hold an odd number of ones. */
 #define YB_KIND(control) ((control) >> 6 & 3)
 #define YB_MARK(control) ((control) >> 4 & 3)
@@ -104,8 +105,8 @@ typedef struct {
     uint32_t control, nine, word, payload;
 } yb_packet;
 
-/* kind: 0 multicast, 1 point-to-point, 2 nearest neighbour. A field that the kind lacks is 0: multicast and nearest
- * neighbour have `word`, point-to-point has the IDs `source` and `destination` (x * 256 + y). `carries` is bit 1 of the
+/* kind: 0 multicast, 1 point-to-point, 2 nearest neighbour, 3 fixed-route, which has the fields of multicast. A field that the
+ * kind lacks is 0: all but point-to-point have `word`, point-to-point has the IDs `source` and `destination` (x * 256 + y). `carries` is bit 1 of the
  * control byte and need not agree with `nine`. */
 typedef struct {
     uint32_t kind, mark, sequence, stamp, direct, route, carries, parity, nine, word, source, destination, payload;
@@ -217,20 +218,20 @@ typedef struct {
     size_t at, added;
 } yb_replayed;
 
-/* Reads the bytes of a packet into fields. Refuses 2, 3, the first that applies. */
+/* Reads the bytes of a packet into fields. Refuses 2. */
 yb_read yagbolshen_read(const uint8_t *packet, size_t packet_len);
 
 /* Packs fields into the bytes of a packet; reading and packing undo each other. The parity bit is a field like the others:
- * packing takes it as it is given and sets nothing right. Refuses 6, 3, the first that applies. */
+ * packing takes it as it is given and sets nothing right. Refuses 6. */
 yb_packed yagbolshen_pack(yb_fields fields);
 
 /* Passes one packet through one router. `source` is the link 0 to 5 that it came by, or 7 for a local one. `rows` has
  * three words a row: key, mask, route; `rows_len` counts words. `codes` has one P2P code for each of the width * height
  * chips, at y * width + x. `monitor` is the number of the processor that watches the chip, 0 to 19; `ready` has bit i for
- * link i. Refuses 7, 6, 5, 11, 1, 2, 3, 4, the first that applies. */
+ * link i; `fixed` is the route of the chip's fixed-route packets. Refuses 7, 6, 5, 11, 1, 2, 4, the first that applies. */
 yb_pass yagbolshen_pass(const uint8_t *packet, size_t packet_len, uint32_t source, uint32_t width, uint32_t height,
                         const uint32_t *rows, size_t rows_len, const uint8_t *codes, size_t codes_len,
-                        uint32_t monitor, uint32_t phase, uint32_t ready);
+                        uint32_t monitor, uint32_t phase, uint32_t ready, uint32_t fixed);
 
 /* Finds the first row that takes a key: key AND mask is the row's key itself, so that a row with a key bit outside its mask
  * takes none. `rows_len` counts rows. Takes any number of rows and any routes, and never refuses; the number of a row past
@@ -240,7 +241,8 @@ yb_found yagbolshen_find(const yb_row *rows, size_t rows_len, uint32_t key);
 /* A mesh lives in a buffer of 32-bit words that the caller lends to every call; words past the needed length are never
  * touched. Tables are lent to each injection, round and replay: `rows` has the rows of all chips, three words a row, and
  * `starts` the number of the row where each chip's rows start and, last, how many rows there are (width * height + 1
- * numbers); `codes` has width * height P2P codes for each chip, chip after chip. `log` takes six words for each pass that
+ * numbers); `codes` has width * height P2P codes for each chip, chip after chip; `fixed` has for each chip the route that
+ * its fixed-route packets want, whatever their key (0 where they are to be swallowed). `log` takes six words for each pass that
  * hands a packet to a processor: chip, processor set, error flags, control byte, word, payload or 0. Chips are numbered
  * y * width + x; links 0 to 5 lead east, north-east, north, west, south-west, south. */
 
@@ -253,17 +255,18 @@ yb_size yagbolshen_size(uint32_t width, uint32_t height);
 uint32_t yagbolshen_open(uint32_t *mesh, size_t mesh_len, uint32_t width, uint32_t height, uint32_t rounds_per_phase,
                          uint32_t monitor);
 
-/* Passes a local packet at a chip, at once, and answers how many log records were added. Refuses 8, 9, 5, 11, 10, 2, 3, 4,
+/* Passes a local packet at a chip, at once, and answers how many log records were added. Refuses 8, 9, 5, 11, 10, 2, 4,
  * the first that applies. */
 yb_added yagbolshen_inject(uint32_t *mesh, size_t mesh_len, uint32_t *log, size_t log_len, uint32_t chip,
                            const uint8_t *packet, size_t packet_len, const uint32_t *rows, size_t rows_len,
-                           const uint32_t *starts, size_t starts_len, const uint8_t *codes, size_t codes_len);
+                           const uint32_t *starts, size_t starts_len, const uint8_t *codes, size_t codes_len,
+                           const uint32_t *fixed, size_t fixed_len);
 
 /* Passes all that is in flight, once, and answers how many log records were added; after each `rounds_per_phase` rounds
  * the phase steps on. Refuses 8, 5, 11, 10, the first that applies. */
 yb_added yagbolshen_round(uint32_t *mesh, size_t mesh_len, uint32_t *log, size_t log_len, const uint32_t *rows,
                           size_t rows_len, const uint32_t *starts, size_t starts_len, const uint8_t *codes,
-                          size_t codes_len);
+                          size_t codes_len, const uint32_t *fixed, size_t fixed_len);
 
 /* Takes one directed link of a chip up or down. Answers the refusal, or 0. Refuses 8, 9, the first that applies. */
 uint32_t yagbolshen_set_link(uint32_t *mesh, size_t mesh_len, uint32_t chip, uint32_t link, bool up);
@@ -307,10 +310,10 @@ yb_record yagbolshen_read_record(const uint8_t *trace, size_t trace_len);
  * lent with it. Registers that a replay reads are emptied, and handed to nobody. */
 yb_replayed yagbolshen_replay(uint32_t *mesh, size_t mesh_len, uint32_t *log, size_t log_len, const uint8_t *trace,
                               size_t trace_len, const uint32_t *rows, size_t rows_len, const uint32_t *starts,
-                              size_t starts_len, const uint8_t *codes, size_t codes_len);
+                              size_t starts_len, const uint8_t *codes, size_t codes_len, const uint32_t *fixed,
+                              size_t fixed_len);
 
-/* All that is lent with the tables, as one struct, and the calls that take it. Fields that a program does not set are best
- * zeros (`yb_tables tables = {0};`): a further table is one more field at the end, and zeros are none of it. */
+/* All that is lent with the tables, as one struct, and the calls that take it. A further table is one more field at the end. */
 #ifndef YAGBOLSHEN_WITHOUT_INLINE
 typedef struct {
     const uint32_t *rows;
@@ -319,24 +322,28 @@ typedef struct {
     size_t starts_len;
     const uint8_t *codes;
     size_t codes_len;
+    const uint32_t *fixed;
+    size_t fixed_len;
 } yb_tables;
 
 static inline yb_added yb_inject(uint32_t *mesh, size_t mesh_len, uint32_t *log, size_t log_len, uint32_t chip,
                                  const uint8_t *packet, size_t packet_len, const yb_tables *tables) {
     return yagbolshen_inject(mesh, mesh_len, log, log_len, chip, packet, packet_len, tables->rows, tables->rows_len,
-                             tables->starts, tables->starts_len, tables->codes, tables->codes_len);
+                             tables->starts, tables->starts_len, tables->codes, tables->codes_len, tables->fixed,
+                             tables->fixed_len);
 }
 
 static inline yb_added yb_round(uint32_t *mesh, size_t mesh_len, uint32_t *log, size_t log_len,
                                 const yb_tables *tables) {
     return yagbolshen_round(mesh, mesh_len, log, log_len, tables->rows, tables->rows_len, tables->starts,
-                            tables->starts_len, tables->codes, tables->codes_len);
+                            tables->starts_len, tables->codes, tables->codes_len, tables->fixed, tables->fixed_len);
 }
 
 static inline yb_replayed yb_replay(uint32_t *mesh, size_t mesh_len, uint32_t *log, size_t log_len,
                                     const uint8_t *trace, size_t trace_len, const yb_tables *tables) {
     return yagbolshen_replay(mesh, mesh_len, log, log_len, trace, trace_len, tables->rows, tables->rows_len,
-                             tables->starts, tables->starts_len, tables->codes, tables->codes_len);
+                             tables->starts, tables->starts_len, tables->codes, tables->codes_len, tables->fixed,
+                             tables->fixed_len);
 }
 #endif
 

@@ -28,6 +28,9 @@ pub const CHIPS: u32 = 9;
 // No point-to-point packet is sent: every code is 6, nowhere.
 const CODES: [u8; 81] = [6; 81];
 
+// Nor is a fixed-route packet.
+const FIXED: [u32; 9] = [0; 9];
+
 // Key 1 and every bit of it: at chip 0 to link 0, route bit 0; at chip 2 to processor 1, route bit 7.
 const ROWS: [u32; 6] = [1, 4294967295, 1, 1, 4294967295, 128];
 
@@ -59,14 +62,14 @@ pub fn send(mesh: &mut [u32; WORDS], log: &mut [u32; 6]) -> u32
     ensures { λ r. ⌜ r ≡ addedOf (injectLeft (now (mesh .entry)) lent (length (now (log .entry))) 0 packet) .added ⌝ }
 {
     let bytes: [u8; 5] = [0, 0, 0, 0, 1];
-    inject(mesh, log, 0, &bytes, &ROWS, &STARTS, &CODES).added
+    inject(mesh, log, 0, &bytes, &ROWS, &STARTS, &CODES, &FIXED).added
 }
 
 // A round, which answers the same.
 pub fn turn(mesh: &mut [u32; WORDS], log: &mut [u32; 6]) -> u32
     ensures { λ r. ⌜ r ≡ addedOf (roundLeft (now (mesh .entry)) lent (length (now (log .entry)))) .added ⌝ }
 {
-    round(mesh, log, &ROWS, &STARTS, &CODES).added
+    round(mesh, log, &ROWS, &STARTS, &CODES, &FIXED).added
 }
 
 pub fn watched_link_is_up(mesh: &mut [u32; WORDS], up: bool) {

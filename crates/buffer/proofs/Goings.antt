@@ -45,6 +45,9 @@ module _ (t : Tables) (chips c : ℕ) (lent : Lent t chips) (below : c < chips) 
       let e : suc c * chips ≡ c * chips + chips = simp suc-mul in
       subst (λ (n : ℕ). c * chips + chips ≤ n) (sym (lent .codes)) (subst (λ (n : ℕ). n ≤ chips * chips) e (mul-le-mul below (le-refl chips)))
 
+  pub fixed-there : c < length (t .fixed)
+  fixed-there = omega (arith, lent .fixed)
+
   pub codes-long : length (codesAt t chips c) ≡ chips
   codes-long = length-take-le chips (drop (c * chips) (t .codes)) (simp length-drop (omega (arith, codes-end)))
 
@@ -74,6 +77,9 @@ module _ (t : Tables) (a : Arrival (Unit {0})) (l log : List ℕ) (n : ℕ) (d :
 
   pub codes-here : a .chip * chipsOf l + chipsOf l ≤ length (t .codes)
   codes-here = codes-end t (chipsOf l) (a .chip) (d .lent) (arrives .there)
+
+  pub fixed-here : a .chip < length (t .fixed)
+  fixed-here = fixed-there t (chipsOf l) (a .chip) (d .lent) (arrives .there)
 
   within : chipPlace (a .chip) + chipLong ≤ length l
   within = omega (arith, arrives .there, d .long)
@@ -109,13 +115,13 @@ module _ (t : Tables) (a : Arrival (Unit {0})) (l log : List ℕ) (n : ℕ) (d :
 
   -- with the places that the code works out
   pub outcome-places : (first next all : ℕ) (o : Outcome) → first ≡ getD (t .starts) (a .chip) 0 * 3 → next ≡ getD (t .starts) (a .chip + 1) 0 * 3 → all ≡ chipsOf l
-      → o ≡ outcomeOf (a .flight .packet) (a .source) (chipTables (take (next - first) (drop first (t .rows))) (take (a .chip * all + all - a .chip * all) (drop (a .chip * all) (t .codes)))) (settingIn l (a .chip))
+      → o ≡ outcomeOf (a .flight .packet) (a .source) (chipTables (take (next - first) (drop first (t .rows))) (take (a .chip * all + all - a .chip * all) (drop (a .chip * all) (t .codes))) (getD (t .fixed) (a .chip) 0)) (settingIn l (a .chip))
       → o ≡ outcomeAt t (meshOf l) (a .chip) (a .source) (a .flight .packet)
   outcome-places first next all o e₁ e₂ e₃ e =
       let long : next - first ≡ (getD (t .starts) (a .chip + 1) 0 - getD (t .starts) (a .chip) 0) * 3 = omega (arith, e₁, e₂) in
       let many : a .chip * all + all - a .chip * all ≡ chipsOf l = add-sub-cancel-left (a .chip * all) all ∙ e₃ in
       e
-      ∙ (λ i. outcomeOf (a .flight .packet) (a .source) (chipTables (take (long i) (drop (e₁ i) (t .rows))) (take (many i) (drop (a .chip * e₃ i) (t .codes)))) (settingIn l (a .chip)))
+      ∙ (λ i. outcomeOf (a .flight .packet) (a .source) (chipTables (take (long i) (drop (e₁ i) (t .rows))) (take (many i) (drop (a .chip * e₃ i) (t .codes))) (getD (t .fixed) (a .chip) 0)) (settingIn l (a .chip)))
       ∙ outcome-here
 
   pub passed-one : (l′ log′ : List ℕ) (n′ : ℕ) (o : Outcome) → o ≡ outcomeAt t (meshOf l) (a .chip) (a .source) (a .flight .packet)

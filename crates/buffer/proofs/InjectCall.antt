@@ -40,7 +40,7 @@ module _ (t : Tables) (l log : List ℕ) (chip : ℕ) (bytes : List ℕ) (none :
   -- the packet is the one that was taken from the bytes
   pub taken-packet : (r : Taken) → r ≡ takenOf bytes → r .packet ≡ packetAt bytes
   taken-packet r e =
-      let taken : takenOf bytes ≡ record { refusal = 0; packet = packetAt bytes } = simp (go .whole, go .used) in
+      let taken : takenOf bytes ≡ record { refusal = 0; packet = packetAt bytes } = simp (go .whole) in
       ap (λ (x : Taken). x .packet) (e ∙ taken)
 
   pub inject-due : Due t (arrival chip 7 (packetAt bytes) ∷ []) l log 0

@@ -23,14 +23,15 @@ pub fn pass_chips(
     rows: &[u32],
     starts: &[u32],
     codes: &[u8],
+    fixed: &[u32],
 ) -> usize
-    requires { ⌜ (count ≤ chipsOf (now mesh)) × DueAside (tablesOf (now rows) (now starts) (now codes)) (upTo (asideFrom (now mesh)) count) (now mesh) (now log) 0 ⌝ }
-    ensures { λ r. ⌜ Passed (tablesOf (now (rows .entry)) (now (starts .entry)) (now (codes .entry))) (upTo (asideFrom (now (mesh .entry))) count) (now (mesh .entry)) (now (log .entry)) 0 (now (mesh .exit)) (now (log .exit)) r ⌝ }
+    requires { ⌜ (count ≤ chipsOf (now mesh)) × DueAside (tablesOf (now rows) (now starts) (now codes) (now fixed)) (upTo (asideFrom (now mesh)) count) (now mesh) (now log) 0 ⌝ }
+    ensures { λ r. ⌜ Passed (tablesOf (now (rows .entry)) (now (starts .entry)) (now (codes .entry)) (now (fixed .entry))) (upTo (asideFrom (now (mesh .entry))) count) (now (mesh .entry)) (now (log .entry)) 0 (now (mesh .exit)) (now (log .exit)) r ⌝ }
 {
     let mut n = 0;
     let mut chip = 0;
     while chip < count {
-        n = pass_links(mesh, log, n, chip, rows, starts, codes);
+        n = pass_links(mesh, log, n, chip, rows, starts, codes, fixed);
         chip += 1;
     }
     n
@@ -45,9 +46,10 @@ fn pass_links(
     rows: &[u32],
     starts: &[u32],
     codes: &[u8],
+    fixed: &[u32],
 ) -> usize
-    requires { ⌜ (chip < chipsOf (now mesh)) × DueAside (tablesOf (now rows) (now starts) (now codes)) (asideFrom (now mesh) chip) (now mesh) (now log) n ⌝ }
-    ensures { λ r. ⌜ Passed (tablesOf (now (rows .entry)) (now (starts .entry)) (now (codes .entry))) (asideFrom (now (mesh .entry)) chip) (now (mesh .entry)) (now (log .entry)) n (now (mesh .exit)) (now (log .exit)) r ⌝ }
+    requires { ⌜ (chip < chipsOf (now mesh)) × DueAside (tablesOf (now rows) (now starts) (now codes) (now fixed)) (asideFrom (now mesh) chip) (now mesh) (now log) n ⌝ }
+    ensures { λ r. ⌜ Passed (tablesOf (now (rows .entry)) (now (starts .entry)) (now (codes .entry)) (now (fixed .entry))) (asideFrom (now (mesh .entry)) chip) (now (mesh .entry)) (now (log .entry)) n (now (mesh .exit)) (now (log .exit)) r ⌝ }
 {
     let width = mesh[WIDTH];
     let height = mesh[HEIGHT];
@@ -57,7 +59,18 @@ fn pass_links(
     let mut source = 0;
     while source < 6 {
         let at = aside_place(width, height, x, y, source);
-        done = pass_link(mesh, log, done, chip, source, at, rows, starts, codes);
+        done = pass_link(
+            mesh,
+            log,
+            done,
+            chip,
+            source,
+            at,
+            rows,
+            starts,
+            codes,
+            fixed,
+        );
         source += 1;
     }
     done
@@ -74,16 +87,17 @@ fn pass_link(
     rows: &[u32],
     starts: &[u32],
     codes: &[u8],
+    fixed: &[u32],
 ) -> usize
-    requires { ⌜ ((at ≡ asidePlace (getD (now mesh) widthAt 0) (getD (now mesh) heightAt 0) chip source) × (source < 6)) × DueAside (tablesOf (now rows) (now starts) (now codes)) (asideBy (now mesh) chip source) (now mesh) (now log) n ⌝ }
-    ensures { λ r. ⌜ Passed (tablesOf (now (rows .entry)) (now (starts .entry)) (now (codes .entry))) (asideBy (now (mesh .entry)) chip source) (now (mesh .entry)) (now (log .entry)) n (now (mesh .exit)) (now (log .exit)) r ⌝ }
+    requires { ⌜ ((at ≡ asidePlace (getD (now mesh) widthAt 0) (getD (now mesh) heightAt 0) chip source) × (source < 6)) × DueAside (tablesOf (now rows) (now starts) (now codes) (now fixed)) (asideBy (now mesh) chip source) (now mesh) (now log) n ⌝ }
+    ensures { λ r. ⌜ Passed (tablesOf (now (rows .entry)) (now (starts .entry)) (now (codes .entry)) (now (fixed .entry))) (asideBy (now (mesh .entry)) chip source) (now (mesh .entry)) (now (log .entry)) n (now (mesh .exit)) (now (log .exit)) r ⌝ }
 {
     let count = mesh[at] as usize;
     let mut done = n;
     let mut i = 0;
     while i < count {
         let p = packet_at(mesh, at + 1 + i * PLACE);
-        done = pass_one(mesh, log, done, chip, source, p, rows, starts, codes);
+        done = pass_one(mesh, log, done, chip, source, p, rows, starts, codes, fixed);
         i += 1;
     }
     done

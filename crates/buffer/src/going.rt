@@ -22,9 +22,10 @@ pub fn pass_one(
     rows: &[u32],
     starts: &[u32],
     codes: &[u8],
+    fixed: &[u32],
 ) -> usize
-    requires { ⌜ Due (tablesOf (now rows) (now starts) (now codes)) (arrival chip source p ∷ []) (now mesh) (now log) n ⌝ }
-    ensures { λ r. ⌜ Passed (tablesOf (now (rows .entry)) (now (starts .entry)) (now (codes .entry))) (arrival chip source p ∷ []) (now (mesh .entry)) (now (log .entry)) n (now (mesh .exit)) (now (log .exit)) r ⌝ }
+    requires { ⌜ Due (tablesOf (now rows) (now starts) (now codes) (now fixed)) (arrival chip source p ∷ []) (now mesh) (now log) n ⌝ }
+    ensures { λ r. ⌜ Passed (tablesOf (now (rows .entry)) (now (starts .entry)) (now (codes .entry)) (now (fixed .entry))) (arrival chip source p ∷ []) (now (mesh .entry)) (now (log .entry)) n (now (mesh .exit)) (now (log .exit)) r ⌝ }
 {
     let first = row_place(starts[chip]);
     let next = row_place(starts[chip + 1]);
@@ -37,6 +38,7 @@ pub fn pass_one(
         p,
         &rows[first..next],
         &codes[at..at + all],
+        fixed[chip],
     );
     write_record(log, n, chip, o)
 }

@@ -25,7 +25,6 @@ use links::offsets::STATE;
 use links::offsets::WIDTH;
 use packet::Packet;
 use packet::control::is_direct;
-use packet::control::kind_of;
 use packet::parity::is_odd;
 use tables::size::chips;
 use tables::size::size_fine;
@@ -55,11 +54,7 @@ pub fn holds(mesh: &[u32]) -> bool
 fn packet_fine(p: Packet) -> bool
     ensures { λ r. ⌜ r ≡ packetFine p ⌝ }
 {
-    (p.control < 256)
-        & (kind_of(p.control) < 3)
-        & !is_direct(p.control)
-        & is_odd(p)
-        & ((p.nine == 1) | (p.payload == 0))
+    (p.control < 256) & !is_direct(p.control) & is_odd(p) & ((p.nine == 1) | (p.payload == 0))
 }
 
 // The first packets of a link's places.

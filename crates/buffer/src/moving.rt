@@ -24,8 +24,8 @@ ghost use Rattle.buffer.specs.Leaving.{Moves, injectLeft, roundLeft, ove
 ghost use Rattle.buffer.specs.Testing.{testedOf};
 ghost use Rattle.links.specs.Offsets.{elapsedAt, headerLong};
 
-// Passes a local packet at a chip, at once. Refusals, the first that applies: 8 no mesh, 9 chip, 5 rows, 11 codes, 10 log,
-// 2 length, 3 type 11, 4 NN with T = 1.
+// Passes a local packet at a chip, at once. Refusals, the first that applies: 8 no mesh, 9 chip, 5 rows or fixed routes,
+// 11 codes, 10 log, 2 length, 4 NN with T = 1.
 pub fn inject(
     mesh: &mut [u32],
     log: &mut [u32],
@@ -34,20 +34,28 @@ pub fn inject(
     rows: &[u32],
     starts: &[u32],
     codes: &[u8],
+    fixed: &[u32],
 ) -> Added
-    ensures { λ r. ⌜ Moves (now (mesh .entry)) (now (log .entry)) (injectLeft (now (mesh .entry)) (tablesOf (now (rows .entry)) (now (starts .entry)) (now (codes .entry))) (length (now (log .entry))) chip (now (bytes .entry))) r (now (mesh .exit)) (now (log .exit)) ⌝ }
+    ensures { λ r. ⌜ Moves (now (mesh .entry)) (now (log .entry)) (injectLeft (now (mesh .entry)) (tablesOf (now (rows .entry)) (now (starts .entry)) (now (codes .entry)) (now (fixed .entry))) (length (now (log .entry))) chip (now (bytes .entry))) r (now (mesh .exit)) (now (log .exit)) ⌝ }
 {
-    let tested = test(mesh, rows, starts, codes);
-    inject_tested(mesh, log, chip, bytes, rows, starts, codes, tested)
+    let tested = test(mesh, rows, starts, codes, fixed);
+    inject_tested(mesh, log, chip, bytes, rows, starts, codes, fixed, tested)
 }
 
 // Passes all that is in flight; then, after each F rounds, the phase steps on. Refusals, the first that applies: 8 no mesh,
-// 5 rows, 11 codes, 10 log.
-pub fn round(mesh: &mut [u32], log: &mut [u32], rows: &[u32], starts: &[u32], codes: &[u8]) -> Added
-    ensures { λ r. ⌜ Moves (now (mesh .entry)) (now (log .entry)) (roundLeft (now (mesh .entry)) (tablesOf (now (rows .entry)) (now (starts .entry)) (now (codes .entry))) (length (now (log .entry)))) r (now (mesh .exit)) (now (log .exit)) ⌝ }
+// 5 rows or fixed routes, 11 codes, 10 log.
+pub fn round(
+    mesh: &mut [u32],
+    log: &mut [u32],
+    rows: &[u32],
+    starts: &[u32],
+    codes: &[u8],
+    fixed: &[u32],
+) -> Added
+    ensures { λ r. ⌜ Moves (now (mesh .entry)) (now (log .entry)) (roundLeft (now (mesh .entry)) (tablesOf (now (rows .entry)) (now (starts .entry)) (now (codes .entry)) (now (fixed .entry))) (length (now (log .entry)))) r (now (mesh .exit)) (now (log .exit)) ⌝ }
 {
-    let tested = test(mesh, rows, starts, codes);
-    round_tested(mesh, log, rows, starts, codes, tested)
+    let tested = test(mesh, rows, starts, codes, fixed);
+    round_tested(mesh, log, rows, starts, codes, fixed, tested)
 }
 
 // An injection where buffer and tables were tested.
@@ -59,10 +67,11 @@ pub fn inject_tested(
     rows: &[u32],
     starts: &[u32],
     codes: &[u8],
+    fixed: &[u32],
     tested: Tested,
 ) -> Added
-    requires { ⌜ tested ≡ testedOf (now mesh) (tablesOf (now rows) (now starts) (now codes)) ⌝ }
-    ensures { λ r. ⌜ Moves (now (mesh .entry)) (now (log .entry)) (injectLeft (now (mesh .entry)) (tablesOf (now (rows .entry)) (now (starts .entry)) (now (codes .entry))) (length (now (log .entry))) chip (now (bytes .entry))) r (now (mesh .exit)) (now (log .exit)) ⌝ }
+    requires { ⌜ tested ≡ testedOf (now mesh) (tablesOf (now rows) (now starts) (now codes) (now fixed)) ⌝ }
+    ensures { λ r. ⌜ Moves (now (mesh .entry)) (now (log .entry)) (injectLeft (now (mesh .entry)) (tablesOf (now (rows .entry)) (now (starts .entry)) (now (codes .entry)) (now (fixed .entry))) (length (now (log .entry))) chip (now (bytes .entry))) r (now (mesh .exit)) (now (log .exit)) ⌝ }
 {
     let refusal = inject_refusal(mesh, tested, log.len(), chip, bytes);
     if refusal != 0 {
@@ -70,7 +79,18 @@ pub fn inject_tested(
     }
     let taken = take(bytes);
     let p = taken.packet;
-    let n = pass_one(mesh, log, 0, chip as usize, 7, p, rows, starts, codes);
+    let n = pass_one(
+        mesh,
+        log,
+        0,
+        chip as usize,
+        7,
+        p,
+        rows,
+        starts,
+        codes,
+        fixed,
+    );
     Added {
         refusal: 0,
         added: n as u32,
@@ -84,10 +104,11 @@ pub fn round_tested(
     rows: &[u32],
     starts: &[u32],
     codes: &[u8],
+    fixed: &[u32],
     tested: Tested,
 ) -> Added
-    requires { ⌜ tested ≡ testedOf (now mesh) (tablesOf (now rows) (now starts) (now codes)) ⌝ }
-    ensures { λ r. ⌜ Moves (now (mesh .entry)) (now (log .entry)) (roundLeft (now (mesh .entry)) (tablesOf (now (rows .entry)) (now (starts .entry)) (now (codes .entry))) (length (now (log .entry)))) r (now (mesh .exit)) (now (log .exit)) ⌝ }
+    requires { ⌜ tested ≡ testedOf (now mesh) (tablesOf (now rows) (now starts) (now codes) (now fixed)) ⌝ }
+    ensures { λ r. ⌜ Moves (now (mesh .entry)) (now (log .entry)) (roundLeft (now (mesh .entry)) (tablesOf (now (rows .entry)) (now (starts .entry)) (now (codes .entry)) (now (fixed .entry))) (length (now (log .entry)))) r (now (mesh .exit)) (now (log .exit)) ⌝ }
 {
     let refusal = round_refusal(mesh, tested, log.len());
     if refusal != 0 {
@@ -95,7 +116,7 @@ pub fn round_tested(
     }
     let all = chips(mesh[WIDTH], mesh[HEIGHT]);
     set_aside(mesh, all);
-    let n = pass_chips(mesh, log, all, rows, starts, codes);
+    let n = pass_chips(mesh, log, all, rows, starts, codes, fixed);
     round_over(mesh);
     Added {
         refusal: 0,

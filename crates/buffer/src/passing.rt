@@ -23,9 +23,10 @@ pub fn pass_at(
     p: Packet,
     rows: &[u32],
     codes: &[u8],
+    fixed: u32,
 ) -> Outcome
     requires { ⌜ CheckedAt (now mesh) chip source p (now codes) ⌝ }
-    ensures { λ o. ⌜ o ≡ outcomeOf p source (chipTables (now (rows .entry)) (now (codes .entry))) (settingIn (now (mesh .entry)) chip) ⌝ }
+    ensures { λ o. ⌜ o ≡ outcomeOf p source (chipTables (now (rows .entry)) (now (codes .entry)) fixed) (settingIn (now (mesh .entry)) chip) ⌝ }
     ensures { λ o. ⌜ MeshStep (now (mesh .entry)) (now (mesh .exit)) chip o ⌝ }
 {
     let at = HEADER + chip * CHIP;
@@ -37,7 +38,7 @@ pub fn pass_at(
         phase: mesh[PHASE],
         ready,
     };
-    let o = outcome_of(p, source, rows, codes, t);
+    let o = outcome_of(p, source, rows, codes, fixed, t);
     after(&mut mesh[at..at + CHIP], o);
     o
 }

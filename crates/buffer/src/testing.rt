@@ -3,6 +3,7 @@ use super::holding::holds;
 use links::offsets::HEIGHT;
 use links::offsets::WIDTH;
 use tables::accept::codes_fine;
+use tables::accept::fixed_fine;
 use tables::accept::routes_fine;
 use tables::accept::starts_fine;
 use tables::size::chips;
@@ -19,13 +20,13 @@ pub struct Tested {
     pub tables: u32,
 }
 
-pub fn test(mesh: &[u32], rows: &[u32], starts: &[u32], codes: &[u8]) -> Tested
-    ensures { λ r. ⌜ r ≡ testedOf (now (mesh .entry)) (tablesOf (now (rows .entry)) (now (starts .entry)) (now (codes .entry))) ⌝ }
+pub fn test(mesh: &[u32], rows: &[u32], starts: &[u32], codes: &[u8], fixed: &[u32]) -> Tested
+    ensures { λ r. ⌜ r ≡ testedOf (now (mesh .entry)) (tablesOf (now (rows .entry)) (now (starts .entry)) (now (codes .entry)) (now (fixed .entry))) ⌝ }
 {
     if holds(mesh) {
         Tested {
             holds: true,
-            tables: tables_refusal(rows, starts, codes, chips(mesh[WIDTH], mesh[HEIGHT])),
+            tables: tables_refusal(rows, starts, codes, fixed, chips(mesh[WIDTH], mesh[HEIGHT])),
         }
     } else {
         Tested {
@@ -35,11 +36,11 @@ pub fn test(mesh: &[u32], rows: &[u32], starts: &[u32], codes: &[u8]) -> Tested
     }
 }
 
-fn tables_refusal(rows: &[u32], starts: &[u32], codes: &[u8], chips: usize) -> u32
+fn tables_refusal(rows: &[u32], starts: &[u32], codes: &[u8], fixed: &[u32], chips: usize) -> u32
     requires { ⌜ chips ≤ 144 ⌝ }
-    ensures { λ r. ⌜ r ≡ firstOf (tablesRefusals (tablesOf (now (rows .entry)) (now (starts .entry)) (now (codes .entry))) chips) ⌝ }
+    ensures { λ r. ⌜ r ≡ firstOf (tablesRefusals (tablesOf (now (rows .entry)) (now (starts .entry)) (now (codes .entry)) (now (fixed .entry))) chips) ⌝ }
 {
-    if !rows_lent(rows, starts, chips) {
+    if !rows_lent(rows, starts, fixed, chips) {
         return 5;
     }
     if !codes_fine(codes, chips * chips) {
@@ -48,11 +49,11 @@ fn tables_refusal(rows: &[u32], starts: &[u32], codes: &[u8], chips: usize) -> u
     0
 }
 
-fn rows_lent(rows: &[u32], starts: &[u32], chips: usize) -> bool
-    ensures { λ r. ⌜ r ≡ rowsLent (now (rows .entry)) (now (starts .entry)) chips ⌝ }
+fn rows_lent(rows: &[u32], starts: &[u32], fixed: &[u32], chips: usize) -> bool
+    ensures { λ r. ⌜ r ≡ rowsLent (now (rows .entry)) (now (starts .entry)) (now (fixed .entry)) chips ⌝ }
 {
     if !starts_fine(starts, chips, rows.len() / 3) {
         return false;
     }
-    routes_fine(rows)
+    routes_fine(rows) & fixed_fine(fixed, chips)
 }

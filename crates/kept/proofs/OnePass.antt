@@ -5,11 +5,11 @@ use mathlib.Core.Bool.{Bool, true, false, cond, _&&_, not, true≢false}
 use Prim.Native.Nat.{ℕ, _+_}
 use lib.Count.{ones}
 use lib.Dec.{eqb, ltb}
-use borrow.Author.Tests.{eq-eqb, ne-eqb}
+use borrow.Author.Tests.{ne-eqb}
 use Rattle.packet.specs.declared.Packet.{Packet}
 use Rattle.packet.specs.Control.{markOf}
 use Rattle.packet.specs.Types.{isMarked}
-use Rattle.packet.proofs.Types.{same-marked, marked-mc}
+use Rattle.packet.proofs.Types.{same-marked}
 use Rattle.tables.specs.Tables.{ChipTables}
 use Rattle.steps.specs.declared.Setting.{Setting}
 use Rattle.steps.specs.Links.{has, setOf}
@@ -17,6 +17,7 @@ use Rattle.steps.specs.Detour.{drops}
 use Rattle.steps.specs.Errors.{errorsOf, stampedOf, badLocal}
 use Rattle.steps.specs.Wants.{wantedOf}
 use Rattle.steps.specs.Deciding.{legSet, decided, outcomeOf, Source, Checked}
+use Rattle.steps.proofs.Emergency.{emergency-wants-nothing}
 use Rattle.steps.proofs.Flags.{without-error}
 use Rattle.steps.proofs.Stamping.{Stamped, stamped}
 use Rattle.steps.proofs.SentBy.{no-link-wanted}
@@ -26,11 +27,10 @@ use Rattle.kept.proofs.Account.{Consistent, account-decided}
 
 module _ (p : Packet) (s : ℕ) (tables : ChipTables) (t : Setting) (h : Checked p s tables t) (from : Source s) where
   consistent : Consistent (errorsOf p s (t .phase)) (stampedOf p s (errorsOf p s (t .phase)) (t .phase)) s (wantedOf (errorsOf p s (t .phase)) p s tables t)
-  unfolding wantedOf
   consistent =
       record {
         quiet = no-link-wanted p s tables t h from;
-        emergency = λ none marked two. nothing-wanted _ none (before marked) (sym (q .mark) ∙ two);
+        emergency = λ none marked two. emergency-wants-nothing _ p s tables t none (before marked) (sym (q .mark) ∙ two);
         arrived = λ none marked one. ⊎-elim (λ near. near) (λ local. absurd (bad local (before marked) (sym (q .mark) ∙ one) (without-error p s (t .phase) none .local))) from;
       }
     where
@@ -39,9 +39,6 @@ module _ (p : Packet) (s : ℕ) (tables : ChipTables) (t : Setting) (h : Checked
 
       before : isMarked (stampedOf p s (errorsOf p s (t .phase)) (t .phase) .control) ≡ true → isMarked (p .control) ≡ true
       before marked = same-marked _ _ (sym (q .kind)) ∙ marked
-
-      nothing-wanted : (e : ℕ) → e ≡ 0 → isMarked (p .control) ≡ true → markOf (p .control) ≡ 2 → wantedOf e p s tables t .set ≡ 0
-      nothing-wanted e none marked m = simp (eq-eqb _ _ none, marked-mc (p .control) marked, eq-eqb _ _ m)
 
       bad : s ≡ 7 → isMarked (p .control) ≡ true → markOf (p .control) ≡ 1 → badLocal (p .control) s ≡ false → ⊥
       bad local marked one f =

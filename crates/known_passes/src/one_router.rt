@@ -1,21 +1,22 @@
 // Case 13, and of case 15 the half about rows: one router, all links ready.
 use packet::reading::read;
+use router::Pass;
 use router::call::pass;
 use steps::Setting;
 ghost use mathlib.Core.Path.{_≡_};
-ghost use Rattle.known_passes.specs.OneRouter.{refusalWith, isRefused, case13, rowsFit};
+ghost use Rattle.known_passes.specs.OneRouter.{passWith, refusalWith, isRefused, parityWrong, case13, rowsFit};
 
-// Lengths 0, 4, 6 and 10 are refused with 2, and C0 00 00 00 00, whose parity is even, with 3.
+// Lengths 0, 4, 6 and 10 are refused with 2, and C0 00 00 00 00, a fixed-route packet whose parity is even, is a parity error.
 pub fn case_13() -> bool
     ensures { λ r. ⌜ r ≡ case13 ⌝ }
 {
     let ten: [u8; 10] = [0, 0, 0, 0, 1, 0, 0, 0, 0, 0];
-    let unused: [u8; 5] = [192, 0, 0, 0, 0];
+    let even: [u8; 5] = [192, 0, 0, 0, 0];
     refused(&ten[..0], 2)
         & refused(&ten[..4], 2)
         & refused(&ten[..6], 2)
         & refused(&ten, 2)
-        & refused(&unused, 3)
+        & parity_wrong(&even)
 }
 
 // 1,024 rows pass, and 1,025 are refused with 5.
@@ -35,9 +36,24 @@ fn refused(bytes: &[u8], number: u32) -> bool
     (read(bytes).refusal == number) & (refusal_with(bytes, &rows) == number)
 }
 
-// What the pass of a packet from link 0 is refused with: one chip, all links ready.
+// Whether reading and the pass take the bytes, and parity is the pass's one error.
+fn parity_wrong(bytes: &[u8]) -> bool
+    ensures { λ r. ⌜ r ≡ parityWrong (now (bytes .entry)) ⌝ }
+{
+    let rows: [u32; 0] = [];
+    let r = pass_with(bytes, &rows);
+    (read(bytes).refusal == 0) & (r.refusal == 0) & (r.errors == 1)
+}
+
 fn refusal_with(bytes: &[u8], rows: &[u32]) -> u32
     ensures { λ r. ⌜ r ≡ refusalWith (now (bytes .entry)) (now (rows .entry)) ⌝ }
+{
+    pass_with(bytes, rows).refusal
+}
+
+// The pass of a packet from link 0: one chip, all links ready.
+fn pass_with(bytes: &[u8], rows: &[u32]) -> Pass
+    ensures { λ r. ⌜ r ≡ passWith (now (bytes .entry)) (now (rows .entry)) ⌝ }
 {
     let codes: [u8; 1] = [6];
     let t = Setting {
@@ -47,5 +63,5 @@ fn refusal_with(bytes: &[u8], rows: &[u32]) -> u32
         phase: 0,
         ready: 63,
     };
-    pass(bytes, 0, rows, &codes, t).refusal
+    pass(bytes, 0, rows, &codes, 0, t)
 }

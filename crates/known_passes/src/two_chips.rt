@@ -20,6 +20,8 @@ const STARTS: [u32; 3] = [0, 1, 2];
 
 const CODES: [u8; 4] = [6, 6, 6, 6];
 
+const FIXED: [u32; 2] = [0, 0];
+
 const AGE: u32 = 2;
 
 const SENT: u32 = 5;
@@ -71,7 +73,7 @@ fn passes_on(mesh: &mut [u32; WORDS], flying: u32) -> bool
     ensures { λ r. ⌜ case.heldIn (now (mesh .exit)) ≡ case.next (case.heldIn (now (mesh .entry))) ⌝ }
 {
     let mut log = [0u32; 6];
-    let r = round(mesh, &mut log, &ROWS, &STARTS, &CODES);
+    let r = round(mesh, &mut log, &ROWS, &STARTS, &CODES, &FIXED);
     (r.refusal == 0) & (r.added == 0) & (in_flight(mesh) == flying)
 }
 
@@ -81,7 +83,7 @@ fn ends(mesh: &mut [u32; WORDS], chip: u32) -> bool
     ensures { λ r. ⌜ case.heldIn (now (mesh .exit)) ≡ case.next (case.heldIn (now (mesh .entry))) ⌝ }
 {
     let mut log = [0u32; 6];
-    let r = round(mesh, &mut log, &ROWS, &STARTS, &CODES);
+    let r = round(mesh, &mut log, &ROWS, &STARTS, &CODES, &FIXED);
     (r.refusal == 0) & (r.added == 1) & (in_flight(mesh) == 0) & too_old(&log, chip)
 }
 
@@ -91,7 +93,7 @@ fn injected(mesh: &mut [u32; WORDS], chip: u32) -> bool
     ensures { λ r. ⌜ case.heldIn (now (mesh .exit)) ≡ case.after (case.heldIn (now (mesh .entry))) (case.inject (case.heldIn (now (mesh .entry))) chip) ⌝ }
 {
     let mut log = [0u32; 6];
-    let r = inject(mesh, &mut log, chip, &P, &ROWS, &STARTS, &CODES);
+    let r = inject(mesh, &mut log, chip, &P, &ROWS, &STARTS, &CODES, &FIXED);
     (r.refusal == 0) & (r.added == 0)
 }
 

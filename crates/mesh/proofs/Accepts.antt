@@ -1,26 +1,29 @@
 -- What is known where a call on a mesh is accepted.
 use mathlib.Core.Path.{_≡_, refl}
-use mathlib.Core.Bool.{Bool, true, false, cond, and-eq-true-iff}
+use mathlib.Core.Bool.{Bool, true, false, cond, _&&_, and-eq-true-iff}
 use mathlib.Core.List.{List}
 use Prim.Native.Nat.{ℕ, _*_, _/_, _≤_, _<_}
 use native.Mathlib.Omega.{arith}
 use lib.Dec.{eqb, lit<}
-use lib.ListN.{length, getD}
+use lib.ListN.{length}
 use borrow.Author.Tests.{ltb-true, ltb-false, eqb-true, not-false}
-use Rattle.packet.specs.Bytes.{wordAt, packetAt, rightLength, usedType}
-use Rattle.packet.specs.Control.{kindOf, isDirect}
+use Rattle.packet.specs.Bytes.{controlAt, wordAt, packetAt, rightLength}
+use Rattle.packet.specs.Control.{isDirect}
 use Rattle.packet.specs.Refusal.{firstOf}
 use Rattle.packet.proofs.First.{not-refused}
-use Rattle.tables.specs.Accept.{allCodes, routesFine, startsFine, codesFine}
+use Rattle.tables.specs.Accept.{allCodes, allFixed, routesFine, startsFine, fixedFine, codesFine}
 use Rattle.mesh.specs.Steps.{Tables}
 use Rattle.mesh.specs.Sound.{Passable}
 use Rattle.mesh.specs.Calls.{Lent, rowsLent, injectRefusals, roundRefusals}
 
-lent-tables : (t : Tables) (chips : ℕ) → rowsLent (t .rows) (t .starts) chips ≡ true → codesFine (t .codes) (chips * chips) ≡ true → Lent t chips
+lent-tables : (t : Tables) (chips : ℕ) → rowsLent (t .rows) (t .starts) (t .fixed) chips ≡ true → codesFine (t .codes) (chips * chips) ≡ true → Lent t chips
 lent-tables t chips rows codes =
+    let right = startsFine (t .starts) chips (length (t .rows) / 3) in
+    let whole = and-eq-true-iff (routesFine (t .rows) && right) (fixedFine (t .fixed) chips) .0 rows in
     record {
-      starts = and-eq-true-iff (routesFine (t .rows)) (startsFine (t .starts) chips (length (t .rows) / 3)) .0 rows .1;
+      starts = and-eq-true-iff (routesFine (t .rows)) right .0 (whole .0) .1;
       codes = eqb-true _ _ (and-eq-true-iff (eqb (length (t .codes)) (chips * chips)) (allCodes (t .codes)) .0 codes .0);
+      fixed = eqb-true _ _ (and-eq-true-iff (eqb (length (t .fixed)) chips) (allFixed (t .fixed)) .0 (whole .1) .0);
     }
 
 pub record RoundGoes (held : Bool) (chips flying : ℕ) (t : Tables) (size : ℕ) : Type 0 where
@@ -38,10 +41,9 @@ round-goes holds chips flying t room e =
     }
 
 -- a packet that is accepted may pass
-passable-at : (bytes : List ℕ) → usedType (getD bytes 0 0) ≡ true → isDirect (getD bytes 0 0) ≡ false → Passable (packetAt bytes)
-passable-at bytes used plain =
-    let kind : kindOf (getD bytes 0 0) < 3 = ltb-true _ _ used in
-    record { control = omega arith; used = kind; plain = plain; nine = few (eqb (length bytes) 9); absent = none (eqb (length bytes) 9) }
+passable-at : (bytes : List ℕ) → isDirect (controlAt bytes) ≡ false → Passable (packetAt bytes)
+passable-at bytes plain =
+    record { control = omega arith; plain = plain; nine = few (eqb (length bytes) 9); absent = none (eqb (length bytes) 9) }
   where
     few : (b : Bool) → cond b 1 0 < 2
     few true = lit< tt
@@ -57,7 +59,6 @@ pub record InjectGoes (held : Bool) (chips chip : ℕ) (t : Tables) (size : ℕ)
   pub lent : Lent t chips
   pub room : 6 ≤ size
   pub whole : rightLength bytes ≡ true
-  pub used : usedType (getD bytes 0 0) ≡ true
   pub passable : Passable (packetAt bytes)
 
 pub inject-goes : (holds : Bool) (chips chip : ℕ) (t : Tables) (room : ℕ) (bytes : List ℕ) → firstOf (injectRefusals holds chips chip t room bytes) ≡ 0
@@ -70,6 +71,5 @@ inject-goes holds chips chip t room bytes e =
       lent = lent-tables t chips (not-false _ (fine 5)) (not-false _ (fine 11));
       room = ltb-false _ _ (fine 10);
       whole = not-false _ (fine 2);
-      used = not-false _ (fine 3);
-      passable = passable-at bytes (not-false _ (fine 3)) (fine 4);
+      passable = passable-at bytes (fine 4);
     }

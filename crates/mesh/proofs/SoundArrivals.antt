@@ -22,8 +22,7 @@ pub sound-passable : {p : Packet} → SoundPacket p → Passable p
 sound-passable h =
     let t : _ = simp and-eq-true-iff at (h .fine) in
     record {
-      control = ltb-true _ _ (t .0 .0 .0 .0);
-      used = ltb-true _ _ (t .0 .0 .0 .1);
+      control = ltb-true _ _ (t .0 .0 .0);
       plain = not-true _ (t .0 .0 .1);
       nine = omega (arith, h .right);
       absent = λ e. eqb-true _ _ (simp e at (t .1));

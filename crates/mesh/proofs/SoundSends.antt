@@ -24,7 +24,7 @@ use Rattle.tables.specs.Tables.{ChipTables}
 
 -- a packet that may pass, right in length and parity, is sound
 pub passable-sound : (p : Packet) → Passable p → isOdd p ≡ true → Right p → SoundPacket p
-passable-sound p h odd right = record { fine = simp (lt-ltb _ _ (h .control), lt-ltb _ _ (h .used), h .plain, odd) (there (eqb (p .nine) 1) refl); right = right }
+passable-sound p h odd right = record { fine = simp (lt-ltb _ _ (h .control), h .plain, odd) (there (eqb (p .nine) 1) refl); right = right }
   where
     there : (b : Bool) → eqb (p .nine) 1 ≡ b → (eqb (p .nine) 1 || eqb (p .payload) 0) ≡ true
     there true e = simp e
@@ -39,7 +39,6 @@ field-passable : {own other : ℕ → ℕ} {p q : Packet} {v : ℕ} → FieldSet
 field-passable {p = p} {q = q} f stamp h =
     record {
       control = f .byte;
-      used = omega (arith, f .kind, h .used);
       plain = not-direct (q .control) (same-stamped _ _ (f .kind) ∙ stamp);
       nine = omega (arith, f .nine, h .nine);
       absent = λ e. f .payload ∙ h .absent (sym (f .nine) ∙ e);

@@ -7,7 +7,7 @@ use lib.Dec.{eqb, ltb}
 use lib.ListN.{length, getD, drop, set}
 use Rattle.packet.specs.Bytes.{packetAt, nothing}
 use Rattle.packet.specs.Refusal.{Refusal, firstOf, refuse, packetRefusals}
-use Rattle.tables.specs.Accept.{routesFine, startsFine, codesFine}
+use Rattle.tables.specs.Accept.{routesFine, startsFine, fixedFine, codesFine}
 use Rattle.steps.specs.Errors.{flag}
 use Rattle.kept.specs.Keeping.{empty}
 use Rattle.mesh.specs.declared.Added.{Added}
@@ -21,19 +21,21 @@ use Rattle.mesh.specs.Mesh.{Chip, Mesh, fresh}
 use Rattle.mesh.specs.Steps.{Tables, Going, setOut, withChip, injected, rounded}
 use Rattle.mesh.specs.Weights.{inFlight}
 
--- ---- refusals: "Order: 8, 7, 9, 6, 5, 11, 10, 1, 2, 3, 4, those that apply to the call". `holds` says whether the buffer holds a mesh.
+-- ---- refusals: "Order: 8, 7, 9, 6, 5, 11, 10, 1, 2, .. 4, those that apply to the call". `holds` says whether the buffer holds a mesh.
 
--- 5: "over 1,024 rows for a chip, route bit 26 to 31 set, bad starts"; 11: "P2P table of wrong size, or a code above 7".
-abbrev pub rowsLent : List ℕ → List ℕ → ℕ → Bool
-rowsLent rows starts chips = routesFine rows && startsFine starts chips (length rows / 3)
+-- 5: "over 1,024 rows for a chip, route bit 26 to 31 set, bad starts", "a fixed route with bits 26 to 31 set ..., and so is a wrong number of them"; 11: "P2P table of wrong
+-- size, or a code above 7".
+abbrev pub rowsLent : List ℕ → List ℕ → List ℕ → ℕ → Bool
+rowsLent rows starts fixed chips = routesFine rows && startsFine starts chips (length rows / 3) && fixedFine fixed chips
 
 abbrev pub tablesRefusals : Tables → ℕ → List Refusal
-tablesRefusals t chips = refuse (not (rowsLent (t .rows) (t .starts) chips)) 5 ∷ refuse (not (codesFine (t .codes) (chips * chips))) 11 ∷ []
+tablesRefusals t chips = refuse (not (rowsLent (t .rows) (t .starts) (t .fixed) chips)) 5 ∷ refuse (not (codesFine (t .codes) (chips * chips))) 11 ∷ []
 
 -- Tables that were accepted.
 pub record Lent (t : Tables) (chips : ℕ) : Type 0 where
   pub starts : startsFine (t .starts) chips (length (t .rows) / 3) ≡ true
   pub codes : length (t .codes) ≡ chips * chips
+  pub fixed : length (t .fixed) ≡ chips
 
 -- 10: "log shorter than six numbers per packet in flight (per injection: six)". `room` is the log's length.
 abbrev pub injectRefusals : Bool → ℕ → ℕ → Tables → ℕ → List ℕ → List Refusal

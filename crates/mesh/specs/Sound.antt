@@ -1,5 +1,5 @@
 -- What holds of every mesh that a buffer may hold, said of the mesh and not of its words: the ranges of the rules, at most 8 packets a link,
--- each packet in flight of a used type, right in length and parity, not NN with T = 1.
+-- each packet in flight right in length and parity, not NN with T = 1.
 use Prim.Native.Nat.{ℕ, _*_, _≤_, _<_}
 use mathlib.Core.Path.{_≡_}
 use mathlib.Core.Logic.{_⊎_}
@@ -7,8 +7,7 @@ use mathlib.Core.Bool.{true, false, Bool, _&&_, _||_, not}
 use lib.ListN.{length}
 use lib.Dec.{eqb, ltb, leb}
 use Rattle.packet.specs.declared.Packet.{Packet}
-use Rattle.packet.specs.Control.{kindOf, isDirect}
-use Rattle.packet.specs.Bytes.{usedType}
+use Rattle.packet.specs.Control.{isDirect}
 use Rattle.packet.specs.Parity.{isOdd}
 use Rattle.tables.specs.Sizes.{sizeFine}
 use Rattle.links.specs.Line.{Flight, Line, Right}
@@ -21,7 +20,7 @@ use Rattle.lists.specs.Lists.{All}
 -- A packet in flight; its length is right as it is read, and a payload that is not there is 0.
 abbrev pub packetFine : Packet → Bool
 packetFine p =
-    ltb (p .control) 256 && usedType (p .control) && not (isDirect (p .control)) && isOdd p && (eqb (p .nine) 1 || eqb (p .payload) 0)
+    ltb (p .control) 256 && not (isDirect (p .control)) && isOdd p && (eqb (p .nine) 1 || eqb (p .payload) 0)
 
 -- Registers, number by number; "empty ones are all zeros".
 abbrev pub registersFine : Registers → Bool
@@ -32,7 +31,6 @@ registersFine r =
 -- A packet that may pass: one in flight, or one that an injection has accepted.
 pub record Passable (p : Packet) : Type 0 where
   pub control : p .control < 256
-  pub used : kindOf (p .control) < 3
   pub plain : isDirect (p .control) ≡ false
   pub nine : p .nine < 2
   pub absent : p .nine ≡ 0 → p .payload ≡ 0

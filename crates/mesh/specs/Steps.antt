@@ -19,14 +19,16 @@ use Rattle.tables.specs.Tables.{ChipTables, chipTables}
 
 -- ---- tables
 
--- "All rows of the mesh in one slice, a second slice giving where each chip's rows start ..., and the P2P codes chip after chip."
+-- "All rows of the mesh in one slice, a second slice giving where each chip's rows start ..., and the P2P codes chip after chip." "Each chip gets one route of 26 bits, lent
+-- with the tables": the fixed routes, a number for each chip.
 pub record Tables : Type 0 where
   pub rows : List ℕ
   pub starts : List ℕ
   pub codes : List ℕ
+  pub fixed : List ℕ
 
-abbrev pub tablesOf : List ℕ → List ℕ → List ℕ → Tables
-tablesOf rows starts codes = record { rows = rows; starts = starts; codes = codes }
+abbrev pub tablesOf : List ℕ → List ℕ → List ℕ → List ℕ → Tables
+tablesOf rows starts codes fixed = record { rows = rows; starts = starts; codes = codes; fixed = fixed }
 
 abbrev pub rowsAt : Tables → ℕ → List ℕ
 rowsAt t c = take ((getD (t .starts) (c + 1) 0 - getD (t .starts) c 0) * 3) (drop (getD (t .starts) c 0 * 3) (t .rows))
@@ -35,7 +37,7 @@ abbrev pub codesAt : Tables → ℕ → ℕ → List ℕ
 codesAt t chips c = take chips (drop (c * chips) (t .codes))
 
 abbrev pub tablesAt : Tables → ℕ → ℕ → ChipTables
-tablesAt t chips c = chipTables (rowsAt t c) (codesAt t chips c)
+tablesAt t chips c = chipTables (rowsAt t c) (codesAt t chips c) (getD (t .fixed) c 0)
 
 -- "A pass that hands a packet to at least one processor adds one log record of six 32-bit numbers: chip, processor set (bit k for processor k), error
 -- flags (1 parity, 2 age, 4 length, 8 bad local, added), control byte, word, payload or 0."

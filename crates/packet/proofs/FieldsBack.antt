@@ -1,6 +1,6 @@
 -- A packet and its fields: those of a whole packet are in range and make it again, and fields in range make a whole packet that reads back into
 -- them. What carries it: the fields of the control byte are its digits.
-use mathlib.Core.Path.{_≡_, refl}
+use mathlib.Core.Path.{_≡_, refl, ap, _∙_}
 use mathlib.Core.Logic.{_⊎_, inl, inr, ⊎-elim}
 use mathlib.Core.Bool.{true, _||_, and-true, or-true, and-eq-true-iff}
 use Prim.Native.Nat.{ℕ, zero, suc, _+_, _*_, _/_, _%_, _<_, _^_}
@@ -9,24 +9,24 @@ use lib.Dec.{eqb, lit<}
 use borrow.Author.Tests.{lt-ltb, eq-eqb, eqb-true}
 use Rattle.packet.specs.declared.Fields.{Fields}
 use Rattle.packet.specs.declared.Packet.{Packet}
-use Rattle.packet.specs.Fields.{mcFields, p2pFields, nnFields, fieldsOf}
+use Rattle.packet.specs.Fields.{markedFields, p2pFields, nnFields, fieldsAt, fieldsOf}
 use Rattle.packet.specs.Packing.{inRange, controlOf, wordOf, packetOf}
 use Rattle.packet.specs.Whole.{Whole}
 use Rattle.packet.proofs.Small.{every, at}
-use Rattle.packet.proofs.Ranges.{EndRanges, McRanges, P2pRanges, NnRanges, end-ranges, mc-ranges, p2p-ranges, nn-ranges, ends, own}
+use Rattle.packet.proofs.Ranges.{EndRanges, MarkedRanges, P2pRanges, NnRanges, end-ranges, marked-ranges, p2p-ranges, nn-ranges, ends, own, kind-small, marked-kind}
 
 -- ---- a packet and its fields
 
--- the fields of a control byte, MC's and P2P's, and NN's, are its digits
-mcDigits : ℕ → ℕ
-mcDigits c = c / 64 * 64 + (c / 16 % 4 * 16 + c / 4 % 4 * 4) + c / 2 % 2 * 2 + c % 2
+-- the fields of a control byte, those of all types but NN, and NN's, are its digits
+twoDigits : ℕ → ℕ
+twoDigits c = c / 64 * 64 + (c / 16 % 4 * 16 + c / 4 % 4 * 4) + c / 2 % 2 * 2 + c % 2
 
 nnDigits : ℕ → ℕ
 nnDigits c = c / 64 * 64 + (c / 32 % 2 * 32 + c / 4 % 8 * 4) + c / 2 % 2 * 2 + c % 2
 
-mc-digits : (c : ℕ) → c < 256 → mcDigits c ≡ c
-unfolding every mcDigits
-mc-digits c h = eqb-true _ _ (at 256 (λ c. eqb (mcDigits c) c) refl c h)
+two-digits : (c : ℕ) → c < 256 → twoDigits c ≡ c
+unfolding every twoDigits
+two-digits c h = eqb-true _ _ (at 256 (λ c. eqb (twoDigits c) c) refl c h)
 
 nn-digits : (c : ℕ) → c < 256 → nnDigits c ≡ c
 unfolding every nnDigits
@@ -40,15 +40,22 @@ payload-in-range p w = go (p .nine) refl
     go zero e = simp (w .absent e, or-true)
     go (suc n) e = let one : p .nine ≡ 1 = omega arith in simp (eq-eqb _ _ one)
 
-three : (k : ℕ) → k < 3 → (k ≡ 0) ⊎ ((k ≡ 1) ⊎ (k ≡ 2))
-three zero h = inl refl
-three (suc zero) h = inr (inl refl)
-three (suc (suc zero)) h = inr (inr refl)
-three (suc (suc (suc k))) h = absurd (omega arith)
+-- a type: with a mark, P2P or NN
+four : (k : ℕ) → k < 4 → ((k ≡ 0) ⊎ (k ≡ 3)) ⊎ ((k ≡ 1) ⊎ (k ≡ 2))
+four zero h = inl (inl refl)
+four (suc zero) h = inr (inl refl)
+four (suc (suc zero)) h = inr (inr refl)
+four (suc (suc (suc zero))) h = inl (inr refl)
+four (suc (suc (suc (suc k)))) h = absurd (omega arith)
+
+marked-at : (k : ℕ) (p : Packet) → (k ≡ 0) ⊎ (k ≡ 3) → fieldsAt k p ≡ markedFields k p
+marked-at k p h = simp (marked-kind k h .other, marked-kind k h .another)
 
 module _ (p : Packet) (w : Whole p) where
-  mc-in-range : inRange (mcFields p) ≡ true
-  mc-in-range = simp (payload-in-range p w, and-true, and-eq-true-iff) (omega (arith, lt-ltb, eq-eqb))
+  marked-in-range : (k : ℕ) → (k ≡ 0) ⊎ (k ≡ 3) → inRange (markedFields k p) ≡ true
+  marked-in-range k h =
+      let m = marked-kind k h in
+      simp (m .other, m .another, m .used, payload-in-range p w, and-true, and-eq-true-iff) (omega (arith, lt-ltb, eq-eqb))
 
   p2p-in-range : inRange (p2pFields p) ≡ true
   p2p-in-range = simp (payload-in-range p w, and-true, and-eq-true-iff) (omega (arith, lt-ltb, eq-eqb))
@@ -56,14 +63,18 @@ module _ (p : Packet) (w : Whole p) where
   nn-in-range : inRange (nnFields p) ≡ true
   nn-in-range = simp (payload-in-range p w, and-true, and-eq-true-iff) (omega (arith, lt-ltb, eq-eqb))
 
-  mc-back : p .control / 64 ≡ 0 → packetOf (mcFields p) ≡ p
-  unfolding mcDigits
-  mc-back k = let e : packetOf (mcFields p) .control ≡ p .control = omega (arith, mc-digits (p .control) (w .control)) in λ i. record { control = e i; nine = p .nine; word = p .word; payload = p .payload }
+  marked-back : (k : ℕ) → p .control / 64 ≡ k → (k ≡ 0) ⊎ (k ≡ 3) → packetOf (markedFields k p) ≡ p
+  unfolding twoDigits
+  marked-back k e h =
+      let both = marked-kind k h in
+      let c : packetOf (markedFields k p) .control ≡ p .control = simp (both .other, both .another) (omega (arith, two-digits (p .control) (w .control))) in
+      let f : packetOf (markedFields k p) .word ≡ p .word = simp (both .other) in
+      λ i. record { control = c i; nine = p .nine; word = f i; payload = p .payload }
 
   p2p-back : p .control / 64 ≡ 1 → packetOf (p2pFields p) ≡ p
-  unfolding mcDigits
+  unfolding twoDigits
   p2p-back k =
-      let e : packetOf (p2pFields p) .control ≡ p .control = omega (arith, mc-digits (p .control) (w .control)) in
+      let e : packetOf (p2pFields p) .control ≡ p .control = omega (arith, two-digits (p .control) (w .control)) in
       let f : packetOf (p2pFields p) .word ≡ p .word = omega arith in
       λ i. record { control = e i; nine = p .nine; word = f i; payload = p .payload }
 
@@ -71,13 +82,26 @@ module _ (p : Packet) (w : Whole p) where
   unfolding nnDigits
   nn-back k = let e : packetOf (nnFields p) .control ≡ p .control = omega (arith, nn-digits (p .control) (w .control)) in λ i. record { control = e i; nine = p .nine; word = p .word; payload = p .payload }
 
+  kind : ℕ
+  kind = p .control / 64
+
+  small : kind < 4
+  unfolding kind
+  small = omega (arith, w .control)
+
   pub fields-in-range : inRange (fieldsOf p) ≡ true
+  unfolding kind
   fields-in-range =
-      ⊎-elim (λ (k : p .control / 64 ≡ 0). simp k mc-in-range) (⊎-elim (λ (k : p .control / 64 ≡ 1). simp k p2p-in-range) (λ (k : p .control / 64 ≡ 2). simp k nn-in-range)) (three (p .control / 64) (w .used))
+      ⊎-elim (λ h. ap inRange (marked-at kind p h) ∙ marked-in-range kind h)
+      (⊎-elim (λ (k : kind ≡ 1). simp k p2p-in-range) (λ (k : kind ≡ 2). simp k nn-in-range))
+      (four kind small)
 
   pub fields-back : packetOf (fieldsOf p) ≡ p
+  unfolding kind
   fields-back =
-      ⊎-elim (λ (k : p .control / 64 ≡ 0). simp k (mc-back k)) (⊎-elim (λ (k : p .control / 64 ≡ 1). simp k (p2p-back k)) (λ (k : p .control / 64 ≡ 2). simp k (nn-back k))) (three (p .control / 64) (w .used))
+      ⊎-elim (λ h. ap packetOf (marked-at kind p h) ∙ marked-back kind refl h)
+      (⊎-elim (λ (k : kind ≡ 1). simp k (p2p-back k)) (λ (k : kind ≡ 2). simp k (nn-back k)))
+      (four kind small)
 
 -- ---- fields and their packet
 
@@ -120,20 +144,22 @@ pub record Forth (f : Fields) : Type 0 where
   pub back : fieldsOf (packetOf f) ≡ f
 
 module _ (f : Fields) (h : inRange f ≡ true) (hw : f .word < 2 ^ 32) (hp : f .payload < 2 ^ 32) where
-  whole : controlOf f < 256 → controlOf f / 64 < 3 → wordOf f < 2 ^ 32 → Whole (packetOf f)
-  whole hc hk w =
+  whole : controlOf f < 256 → wordOf f < 2 ^ 32 → Whole (packetOf f)
+  whole hc w =
       let s : EndRanges f = end-ranges f (ends f h) in
-      record { control = hc; used = hk; nine = s .nine; word = w; payload = hp; absent = s .absent }
+      record { control = hc; nine = s .nine; word = w; payload = hp; absent = s .absent }
 
-  mc-forth : f .kind ≡ 0 → Forth f
-  mc-forth k =
-      let e : controlOf f ≡ f .mark * 16 + f .stamp * 4 + f .carries * 2 + f .parity = simp k (omega arith) in
-      let w : wordOf f ≡ f .word = simp k in
-      let r : McRanges f = mc-ranges f (simp k at (own f h)) in
+  marked-forth : (f .kind ≡ 0) ⊎ (f .kind ≡ 3) → Forth f
+  marked-forth k =
+      let both = marked-kind (f .kind) k in
+      let small : f .kind < 4 = kind-small f h in
+      let e : controlOf f ≡ f .kind * 64 + (f .mark * 16 + f .stamp * 4) + f .carries * 2 + f .parity = simp (both .other, both .another) in
+      let w : wordOf f ≡ f .word = simp (both .other) in
+      let r : MarkedRanges f = marked-ranges f (simp (both .other, both .another) at (own f h)) in
       let s : EndRanges f = end-ranges f (ends f h) in
-      let z : controlOf f / 64 ≡ 0 = omega arith in
-      let same : SameFields (mcFields (packetOf f)) f = omega arith in
-      record { whole = whole (omega arith) (omega arith) (omega arith); back = simp z (same-fields _ _ same) }
+      let z : controlOf f / 64 ≡ f .kind = omega arith in
+      let same : SameFields (markedFields (f .kind) (packetOf f)) f = omega arith in
+      record { whole = whole (omega arith) (omega arith); back = ap (λ (n : ℕ). fieldsAt n (packetOf f)) z ∙ marked-at (f .kind) (packetOf f) k ∙ same-fields _ _ same }
 
   p2p-forth : f .kind ≡ 1 → Forth f
   p2p-forth k =
@@ -143,7 +169,7 @@ module _ (f : Fields) (h : inRange f ≡ true) (hw : f .word < 2 ^ 32) (hp : f .
       let s : EndRanges f = end-ranges f (ends f h) in
       let z : controlOf f / 64 ≡ 1 = omega arith in
       let same : SameFields (p2pFields (packetOf f)) f = omega arith in
-      record { whole = whole (omega arith) (omega arith) (omega arith); back = simp z (same-fields _ _ same) }
+      record { whole = whole (omega arith) (omega arith); back = simp z (same-fields _ _ same) }
 
   nn-forth : f .kind ≡ 2 → Forth f
   nn-forth k =
@@ -153,14 +179,7 @@ module _ (f : Fields) (h : inRange f ≡ true) (hw : f .word < 2 ^ 32) (hp : f .
       let s : EndRanges f = end-ranges f (ends f h) in
       let z : controlOf f / 64 ≡ 2 = omega arith in
       let same : SameFields (nnFields (packetOf f)) f = omega arith in
-      record { whole = whole (omega arith) (omega arith) (omega arith); back = simp z (same-fields _ _ same) }
+      record { whole = whole (omega arith) (omega arith); back = simp z (same-fields _ _ same) }
 
-  pub forth : f .kind < 3 → Forth f
-  forth k = ⊎-elim mc-forth (⊎-elim p2p-forth nn-forth) (three (f .kind) k)
-
--- the type of fields that were read
-pub read-kind : (p : Packet) → Whole p → fieldsOf p .kind < 3
-read-kind p w =
-    ⊎-elim (λ (k : p .control / 64 ≡ 0). simp k (lit< tt))
-    (⊎-elim (λ (k : p .control / 64 ≡ 1). simp k (lit< tt)) (λ (k : p .control / 64 ≡ 2). simp k (lit< tt)))
-    (three (p .control / 64) (w .used))
+  pub forth : Forth f
+  forth = ⊎-elim marked-forth (⊎-elim p2p-forth nn-forth) (four (f .kind) (kind-small f h))

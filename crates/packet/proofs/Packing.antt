@@ -3,10 +3,13 @@ use mathlib.Core.Path.{_≡_, sym}
 use mathlib.Core.Bool.{true}
 use Prim.Native.Nat.{ℕ, _+_, _*_, _/_, _%_, _<_}
 use native.Mathlib.Omega.{arith}
-use borrow.Author.Tests.{ne-eqb}
 use Rattle.packet.specs.declared.Fields.{Fields}
 use Rattle.packet.specs.Bytes.{packedBytes}
 use Rattle.packet.specs.Packing.{inRange, controlOf, wordOf, packetOf, packedOf}
+
+-- a byte counts as it is
+pub byte-is : (r b : ℕ) → r ≡ b → r < 256 → r ≡ b % 256
+byte-is r b e h = omega arith
 
 -- four digits below 256, the last one first
 module _ (a b c d : ℕ) (ha : a < 256) (hb : b < 256) (hc : c < 256) where
@@ -22,11 +25,11 @@ module _ (a b c d : ℕ) (ha : a < 256) (hb : b < 256) (hc : c < 256) where
   pub digit-3 : (d * 16777216 + c * 65536 + b * 256 + a) / 16777216 ≡ d
   digit-3 = omega arith
 
--- fields in range of a used type
-module _ (f : Fields) (h : inRange f ≡ true) (k : f .kind < 3) where
+-- fields in range
+module _ (f : Fields) (h : inRange f ≡ true) where
   pub packs : packedOf f ≡ packedBytes (packetOf f)
   unfolding packedOf
-  packs = let other : f .kind ≡ 3 → ⊥ = λ e. omega arith in simp (h, ne-eqb _ _ other)
+  packs = simp h
 
   pub packs-as : (control word : ℕ) → control ≡ controlOf f → word ≡ wordOf f
       → packedBytes (record { control = control; nine = f .nine; word = word; payload = f .payload }) ≡ packedOf f

@@ -3,13 +3,16 @@ use Prim.Native.Nat.{ℕ, _+_, _*_, _/_, _%_, _<_}
 use mathlib.Core.List.{List, [], _∷_, _++_}
 use mathlib.Core.Bool.{Bool, cond, _||_}
 use lib.ListN.{length, getD, take}
-use lib.Dec.{eqb, ltb}
+use lib.Dec.{eqb}
 use Rattle.packet.specs.declared.Packet.{Packet}
 use Rattle.packet.specs.declared.Taken.{Taken}
 use Rattle.packet.specs.declared.Packed.{Packed}
-use Rattle.packet.specs.Control.{kindOf}
 
 -- ---- from bytes
+
+-- The control byte is the first; a number that is no byte counts by its lowest eight bits, so that this is of any list.
+abbrev pub controlAt : List ℕ → ℕ
+controlAt s = getD s 0 0 % 256
 
 -- The four bytes from place i on, highest first.
 abbrev pub wordAt : List ℕ → ℕ → ℕ
@@ -19,7 +22,7 @@ wordAt s i = getD s i 0 * 16777216 + getD s (i + 1) 0 * 65536 + getD s (i + 2) 0
 abbrev pub packetAt : List ℕ → Packet
 packetAt s =
     record {
-      control = getD s 0 0;
+      control = controlAt s;
       nine = cond (eqb (length s) 9) 1 0;
       word = wordAt s 1;
       payload = cond (eqb (length s) 9) (wordAt s 5) 0;
@@ -32,15 +35,12 @@ nothing = record { control = 0; nine = 0; word = 0; payload = 0 }
 abbrev pub notTaken : ℕ → Taken
 notTaken n = record { refusal = n; packet = nothing }
 
--- Refusal 2, "packet length not 5 or 9", and then 3, "type 11".
+-- Refusal 2, "packet length not 5 or 9".
 abbrev pub rightLength : List ℕ → Bool
 rightLength s = eqb (length s) 5 || eqb (length s) 9
 
-abbrev pub usedType : ℕ → Bool
-usedType c = ltb (kindOf c) 3
-
 abbrev pub takenOf : List ℕ → Taken
-takenOf s = cond (rightLength s) (cond (usedType (getD s 0 0)) (record { refusal = 0; packet = packetAt s }) (notTaken 3)) (notTaken 2)
+takenOf s = cond (rightLength s) (record { refusal = 0; packet = packetAt s }) (notTaken 2)
 
 -- ---- to bytes
 

@@ -1,10 +1,11 @@
 -- The control byte: where each field stands in it, and a new mark or stamp put in its place.
--- "Bits, 7 highest": MC is type 7:6, mark 5:4, time stamp 3:2, payload 1, parity 0; P2P has its sequence in 5:4; NN has T in 5 and its route in 4:2.
+-- "Bits, 7 highest": MC is type 7:6, mark 5:4, time stamp 3:2, payload 1, parity 0; P2P has its sequence in 5:4; NN has T in 5 and its route in 4:2;
+-- fixed-route is as MC.
 use Prim.Native.Nat.{ℕ, _+_, _*_, _/_, _%_}
 use mathlib.Core.Bool.{Bool, _&&_}
 use lib.Dec.{eqb}
 
--- "The top two bits of the control byte choose the type": 0 MC, 1 P2P, 2 NN, 3 is not used.
+-- "The top two bits of the control byte choose the type": 0 MC, 1 P2P, 2 NN, 3 fixed-route.
 abbrev pub kindOf : ℕ → ℕ
 kindOf c = c / 64
 

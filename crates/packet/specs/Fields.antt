@@ -30,11 +30,11 @@ endFields p =
       payload = p .payload;
     }
 
--- "The MC word is the key."
-abbrev pub mcFields : Packet → Fields
-mcFields p =
+-- MC, kind 0, and fixed-route, kind 3, which "has the fields of MC (mark, stamp, word)". "The MC word is the key."
+abbrev pub markedFields : ℕ → Packet → Fields
+markedFields kind p =
     record {
-      kind = 0;
+      kind = kind;
       mark = markOf (p .control);
       sequence = 0;
       stamp = stampOf (p .control);
@@ -87,7 +87,7 @@ nnFields p =
     }
 
 abbrev pub fieldsAt : ℕ → Packet → Fields
-fieldsAt k p = cond (eqb k 0) (mcFields p) (cond (eqb k 1) (p2pFields p) (nnFields p))
+fieldsAt k p = cond (eqb k 1) (p2pFields p) (cond (eqb k 2) (nnFields p) (markedFields k p))
 
 abbrev pub fieldsOf : Packet → Fields
 fieldsOf p = fieldsAt (kindOf (p .control)) p
@@ -110,7 +110,7 @@ noFields =
       payload = 0;
     }
 
--- The refusals of taking a packet from bytes, 2 and then 3; T = 1 passes.
+-- The refusal of taking a packet from bytes, 2; T = 1 passes.
 abbrev pub readFrom : Taken → FieldsRead
 readFrom t =
     cond (eqb (t .refusal) 0) (record { refusal = 0; fields = fieldsOf (t .packet) })

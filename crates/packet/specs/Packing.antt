@@ -9,8 +9,8 @@ use Rattle.packet.specs.declared.Packed.{Packed}
 use Rattle.packet.specs.Bytes.{packedBytes}
 
 -- "... a field that the type lacks and a payload that isn't there are in range only as 0 ..."
-abbrev pub mcInRange : Fields → Bool
-mcInRange f =
+abbrev pub markedInRange : Fields → Bool
+markedInRange f =
     ltb (f .mark) 4 && eqb (f .sequence) 0 && ltb (f .stamp) 4 && eqb (f .direct) 0 && eqb (f .route) 0 && eqb (f .source) 0
     && eqb (f .destination) 0
 
@@ -30,11 +30,11 @@ abbrev pub endInRange : Fields → Bool
 endInRange f =
     ltb (f .carries) 2 && ltb (f .parity) 2 && ltb (f .nine) 2 && (eqb (f .nine) 1 || eqb (f .payload) 0)
 
--- "... type 3 is refusal 3, once its other fields pass as MC's would, above 3 is 6 ..."
+-- "... above 3 is 6 ...": MC and fixed-route have the same fields.
 abbrev pub inRange : Fields → Bool
 inRange f =
     ltb (f .kind) 4 && endInRange f
-    && cond (eqb (f .kind) 1) (p2pInRange f) (cond (eqb (f .kind) 2) (nnInRange f) (mcInRange f))
+    && cond (eqb (f .kind) 1) (p2pInRange f) (cond (eqb (f .kind) 2) (nnInRange f) (markedInRange f))
 
 abbrev pub controlOf : Fields → ℕ
 controlOf f =
@@ -53,6 +53,6 @@ packetOf f = record { control = controlOf f; nine = f .nine; word = wordOf f; pa
 abbrev pub notPacked : ℕ → Packed
 notPacked n = record { refusal = n; length = 0; bytes = 0 ∷ 0 ∷ 0 ∷ 0 ∷ 0 ∷ 0 ∷ 0 ∷ 0 ∷ 0 ∷ [] }
 
--- Refusal 6, "a field out of range in packing", and then 3, "type 11".
+-- Refusal 6, "a field out of range in packing".
 unfoldable pub packedOf : Fields → Packed
-packedOf f = cond (inRange f) (cond (eqb (f .kind) 3) (notPacked 3) (packedBytes (packetOf f))) (notPacked 6)
+packedOf f = cond (inRange f) (packedBytes (packetOf f)) (notPacked 6)

@@ -2,11 +2,9 @@
 use Prim.Native.Nat.{ℕ}
 use mathlib.Core.Bool.{Bool, cond, not}
 use mathlib.Core.List.{List, [], _∷_, _++_}
-use lib.ListN.{getD}
-use lib.Dec.{eqb}
 use Rattle.packet.specs.declared.Fields.{Fields}
 use Rattle.packet.specs.Control.{isDirect}
-use Rattle.packet.specs.Bytes.{rightLength, usedType}
+use Rattle.packet.specs.Bytes.{controlAt, rightLength}
 use Rattle.packet.specs.Packing.{inRange}
 
 pub record Refusal : Type 0 where
@@ -20,14 +18,14 @@ abbrev pub firstOf : List Refusal → ℕ
 firstOf [] = 0
 firstOf (r ∷ rs) = cond (r .when) (r .number) (firstOf rs)
 
--- Taking and reading: 2, "packet length not 5 or 9"; 3, "type 11".
+-- Taking and reading: 2, "packet length not 5 or 9".
 abbrev pub readRefusals : List ℕ → List Refusal
-readRefusals s = refuse (not (rightLength s)) 2 ∷ refuse (not (usedType (getD s 0 0))) 3 ∷ []
+readRefusals s = refuse (not (rightLength s)) 2 ∷ []
 
--- A packet that is to pass: these, and then 4, "NN with T = 1".
+-- A packet that is to pass: this, and then 4, "NN with T = 1".
 abbrev pub packetRefusals : List ℕ → List Refusal
-packetRefusals s = readRefusals s ++ refuse (isDirect (getD s 0 0)) 4 ∷ []
+packetRefusals s = readRefusals s ++ refuse (isDirect (controlAt s)) 4 ∷ []
 
--- Packing: 6, "a field out of range in packing"; 3, "type 11".
+-- Packing: 6, "a field out of range in packing".
 abbrev pub packRefusals : Fields → List Refusal
-packRefusals f = refuse (not (inRange f)) 6 ∷ refuse (eqb (f .kind) 3) 3 ∷ []
+packRefusals f = refuse (not (inRange f)) 6 ∷ []

@@ -3,24 +3,22 @@ use super::Packed;
 use super::Packet;
 use super::Taken;
 use super::control::is_direct;
-use super::control::kind_of;
 ghost use mathlib.Core.Path.{_≡_};
-ghost use mathlib.Core.Bool.{cond};
 ghost use lib.ListN.{length};
 ghost use Prim.Native.Nat.{_+_, _/_, _%_, _≤_, _<_};
-ghost use Rattle.packet.specs.Bytes.{wordAt, packetAt, usedType, notTaken, takenOf, packedAs, packedBytes};
+ghost use Rattle.packet.specs.Bytes.{wordAt, packetAt, notTaken, takenOf, packedAs, packedBytes};
 ghost use Rattle.packet.specs.Refusal.{firstOf, packetRefusals};
 
-// The packet that stands in the bytes: 2 for a length other than 5 or 9, then 3 for type 11.
+// The packet that stands in the bytes: 2 for a length other than 5 or 9.
 pub fn take(s: &[u8]) -> Taken
     ensures { λ r. ⌜ r ≡ takenOf (now (s .entry)) ⌝ }
 {
     let n = s.len();
     if n == 5 {
-        return used(five(s));
+        return taken(five(s));
     }
     if n == 9 {
-        return used(nine(s));
+        return taken(nine(s));
     }
     not_taken(2)
 }
@@ -49,7 +47,7 @@ pub fn not_taken(refusal: u32) -> Taken
     Taken { refusal, packet }
 }
 
-// What a packet that is to pass is refused for, or 0: 2 length, 3 type 11, 4 NN with T = 1.
+// What a packet that is to pass is refused for, or 0: 2 length, 4 NN with T = 1.
 pub fn packet_refusal(bytes: &[u8]) -> u32
     ensures { λ r. ⌜ r ≡ firstOf (packetRefusals (now (bytes .entry))) ⌝ }
 {
@@ -102,17 +100,12 @@ fn nine(s: &[u8]) -> Packet
     }
 }
 
-// The packet where its type is used, 3 where it is not.
-fn used(p: Packet) -> Taken
-    ensures { λ r. ⌜ r ≡ cond (usedType (p .control)) (record { refusal = 0; packet = p }) (notTaken 3) ⌝ }
+fn taken(p: Packet) -> Taken
+    ensures { λ r. ⌜ r ≡ record { refusal = 0; packet = p } ⌝ }
 {
-    if kind_of(p.control) < 3 {
-        Taken {
-            refusal: 0,
-            packet: p,
-        }
-    } else {
-        not_taken(3)
+    Taken {
+        refusal: 0,
+        packet: p,
     }
 }
 

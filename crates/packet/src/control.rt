@@ -1,7 +1,7 @@
 // The control byte, the only place where it is shifted and masked: each field taken out, what a type has, mark and stamp put in.
 ghost use mathlib.Core.Path.{_≡_};
 ghost use Rattle.packet.specs.Control.{kindOf, markOf, sequenceOf, stampOf, directOf, routeOf, carriesOf, parityOf, markIn, stampIn, parityIn, isDirect};
-ghost use Rattle.packet.specs.Types.{isMc, isMarked, isStamped};
+ghost use Rattle.packet.specs.Types.{isMc, isFixed, isMarked, isStamped};
 ghost use Prim.Native.Nat.{_+_, _*_, _^_, _<_};
 
 pub fn kind_of(control: u32) -> u32
@@ -16,18 +16,24 @@ pub fn is_mc(control: u32) -> bool
     kind_of(control) == 0
 }
 
+pub fn is_fixed(control: u32) -> bool
+    ensures { λ r. ⌜ r ≡ isFixed control ⌝ }
+{
+    kind_of(control) == 3
+}
+
 // Whether the type has a mark.
 pub fn is_marked(control: u32) -> bool
     ensures { λ r. ⌜ r ≡ isMarked control ⌝ }
 {
-    kind_of(control) == 0
+    is_mc(control) | is_fixed(control)
 }
 
 // Whether the type has a stamp.
 pub fn is_stamped(control: u32) -> bool
     ensures { λ r. ⌜ r ≡ isStamped control ⌝ }
 {
-    kind_of(control) < 2
+    kind_of(control) != 2
 }
 
 pub fn mark_of(control: u32) -> u32

@@ -18,17 +18,18 @@ use super::control::sequence_of;
 use super::control::stamp_of;
 ghost use mathlib.Core.Path.{_≡_};
 ghost use mathlib.Core.Bool.{true};
-ghost use Rattle.packet.specs.Fields.{endFields, mcFields, p2pFields, nnFields, fieldsOf, noFields, readFrom, readOf};
-ghost use Rattle.packet.specs.Packing.{mcInRange, p2pInRange, nnInRange, endInRange, notPacked, packedOf};
+ghost use mathlib.Core.Logic.{_⊎_};
+ghost use Rattle.packet.specs.Fields.{endFields, markedFields, p2pFields, nnFields, fieldsOf, noFields, readFrom, readOf};
+ghost use Rattle.packet.specs.Packing.{markedInRange, p2pInRange, nnInRange, endInRange, notPacked, packedOf};
 
-// The fields of a packet in bytes: 2 for a length other than 5 or 9, then 3 for type 11.
+// The fields of a packet in bytes: 2 for a length other than 5 or 9.
 pub fn read(s: &[u8]) -> FieldsRead
     ensures { λ r. ⌜ r ≡ readOf (now (s .entry)) ⌝ }
 {
     read_from(take(s))
 }
 
-// The bytes of a packet of fields: 6 for a field out of range, then 3 for type 11.
+// The bytes of a packet of fields: 6 for a field out of range.
 pub fn pack(f: Fields) -> Packed
     ensures { λ r. ⌜ r ≡ packedOf f ⌝ }
 {
@@ -37,10 +38,9 @@ pub fn pack(f: Fields) -> Packed
     }
     let kind = f.kind;
     match kind {
-        0 => mc_packed(f),
+        0 | 3 => marked_packed(f),
         1 => p2p_packed(f),
         2 => nn_packed(f),
-        3 => unused_packed(f),
         _ => not_packed(6),
     }
 }
@@ -50,9 +50,9 @@ pub fn fields_of(p: Packet) -> Fields
 {
     let kind = kind_of(p.control);
     match kind {
-        0 => mc_fields(p),
         1 => p2p_fields(p),
-        _ => nn_fields(p),
+        2 => nn_fields(p),
+        _ => marked_fields(kind, p),
     }
 }
 
@@ -72,10 +72,11 @@ fn read_from(t: Taken) -> FieldsRead
     }
 }
 
-fn mc_fields(p: Packet) -> Fields
-    ensures { λ r. ⌜ r ≡ mcFields p ⌝ }
+fn marked_fields(kind: u32, p: Packet) -> Fields
+    ensures { λ r. ⌜ r ≡ markedFields kind p ⌝ }
 {
     let mut f = end_fields(p);
+    f.kind = kind;
     f.mark = mark_of(p.control);
     f.stamp = stamp_of(p.control);
     f.word = p.word;
@@ -137,8 +138,8 @@ fn no_fields() -> Fields
     }
 }
 
-fn mc_in_range(f: Fields) -> bool
-    ensures { λ r. ⌜ r ≡ mcInRange f ⌝ }
+fn marked_in_range(f: Fields) -> bool
+    ensures { λ r. ⌜ r ≡ markedInRange f ⌝ }
 {
     (f.mark < 4)
         & (f.sequence == 0)
@@ -191,15 +192,15 @@ fn not_packed(refusal: u32) -> Packed
     }
 }
 
-fn mc_packed(f: Fields) -> Packed
-    requires { ⌜ (f .kind ≡ 0) × (endInRange f ≡ true) ⌝ }
+fn marked_packed(f: Fields) -> Packed
+    requires { ⌜ ((f .kind ≡ 0) ⊎ (f .kind ≡ 3)) × (endInRange f ≡ true) ⌝ }
     ensures { λ r. ⌜ r ≡ packedOf f ⌝ }
 {
-    if !mc_in_range(f) {
+    if !marked_in_range(f) {
         return not_packed(6);
     }
     let four = beside(f.mark, f.stamp, 2);
-    bytes_of(packet_with(f, control_byte(0, four, f.carries, f.parity), f.word))
+    bytes_of(packet_with(f, control_byte(f.kind, four, f.carries, f.parity), f.word))
 }
 
 fn p2p_packed(f: Fields) -> Packed
@@ -223,18 +224,6 @@ fn nn_packed(f: Fields) -> Packed
     }
     let four = beside(f.direct, f.route, 3);
     bytes_of(packet_with(f, control_byte(2, four, f.carries, f.parity), f.word))
-}
-
-// The unused type 11 is held to the ranges of MC first.
-fn unused_packed(f: Fields) -> Packed
-    requires { ⌜ (f .kind ≡ 3) × (endInRange f ≡ true) ⌝ }
-    ensures { λ r. ⌜ r ≡ packedOf f ⌝ }
-{
-    if mc_in_range(f) {
-        not_packed(3)
-    } else {
-        not_packed(6)
-    }
 }
 
 // The packet of a control byte, a word, and the fields that every type has.

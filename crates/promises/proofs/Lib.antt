@@ -9,6 +9,7 @@ pub mod Counted
 pub mod Demand3
 pub mod Dropped
 pub mod Few
+pub mod FixedRoutes
 pub mod Flights
 pub mod Forgets
 pub mod Histories

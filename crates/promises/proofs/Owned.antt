@@ -78,7 +78,7 @@ module _ (q : Packet) (s : ℕ) (tables : ChipTables) (t : Setting) where
       by-mark none mc true mark = simp (not-local none mc mark)
       by-mark none mc false mark = missed-row (firstMatch (q .word) (rowsOf (tables .rows))) (markOf (q .control))
 
-      by-kind : errors ≡ 0 → (b : Bool) → isMc (q .control) ≡ b → kindWanted (kindOf (q .control)) q s (routeFor (q .word) (rowsOf (tables .rows))) (tables .codes) t .missed ≡ flag (eqb s 7 && isMc (q .control) && true && eqb (foundShown (firstMatch (q .word) (rowsOf (tables .rows))) .number) 0) 1
+      by-kind : errors ≡ 0 → (b : Bool) → isMc (q .control) ≡ b → kindWanted (kindOf (q .control)) q s (routeFor (q .word) (rowsOf (tables .rows))) (tables .codes) (tables .fixed) t .missed ≡ flag (eqb s 7 && isMc (q .control) && true && eqb (foundShown (firstMatch (q .word) (rowsOf (tables .rows))) .number) 0) 1
       by-kind none true mc = simp mc (by-mark none mc (eqb (markOf (q .control)) 2) refl)
       by-kind none false other = simp (other, and-false)
 

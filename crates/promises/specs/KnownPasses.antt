@@ -62,7 +62,7 @@ seenIn r =
 abbrev seen : Given → Seen
 seen g =
     seenIn
-    (passOf (g .bytes) (g .source) (chipTables (g .rows) (6 ∷ []))
+    (passOf (g .bytes) (g .source) (chipTables (g .rows) (6 ∷ []) 0)
     (record { width = 1; height = 1; monitor = 0; phase = g .phase; ready = g .ready }))
 
 pub record Case : Type 0 where

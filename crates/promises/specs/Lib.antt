@@ -1,6 +1,7 @@
 pub mod Demand3
 pub mod Determined
 pub mod FirstRow
+pub mod FixedRoute
 pub mod History
 pub mod KnownPasses
 pub mod NoStaleBlock

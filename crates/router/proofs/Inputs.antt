@@ -6,21 +6,21 @@ use Prim.Native.Nat.{ℕ, zero, suc, _*_, _<_}
 use native.Mathlib.Nat.{le-of-eq}
 use native.Mathlib.Omega.{arith}
 use lib.Dec.{eqb, leb}
-use lib.ListN.{length, getD}
+use lib.ListN.{length}
 use borrow.Author.Tests.{leb-true, eqb-true, eq-eqb, ne-eqb, not-false}
 use Rattle.packet.specs.declared.Packet.{Packet}
 use Rattle.packet.specs.declared.Taken.{Taken}
-use Rattle.packet.specs.Bytes.{packetAt, notTaken, takenOf}
+use Rattle.packet.specs.Bytes.{controlAt, packetAt, notTaken, takenOf}
 use Rattle.packet.specs.Refusal.{firstOf, packetRefusals}
 use Rattle.packet.proofs.Refusals.{packet-first, take-refused}
 use Rattle.packet.proofs.First.{first-append, not-refused}
-use Rattle.tables.specs.Accept.{rowsFine, codesFine, allCodes}
+use Rattle.tables.specs.Accept.{codesFine, allCodes}
 use Rattle.steps.specs.declared.Setting.{Setting}
 use Rattle.steps.specs.Deciding.{Checked}
 use Rattle.tables.specs.Sizes.{sizeFine}
 use Rattle.tables.proofs.Sizes.{Size, size}
 use Rattle.tables.specs.Tables.{ChipTables}
-use Rattle.router.specs.Call.{settingFine, sourceFine, settingRefusals, passRefusals, checkedOf}
+use Rattle.router.specs.Call.{rowsLent, settingFine, sourceFine, settingRefusals, passRefusals, checkedOf}
 use Rattle.packet.specs.Control.{isDirect}
 
 source-small : (source : ℕ) → sourceFine source ≡ true → source < 8
@@ -34,7 +34,7 @@ source-small source e = go (leb source 5) refl
 pub record Fine (source : ℕ) (tables : ChipTables) (t : Setting) : Type 0 where
   pub sized : sizeFine (t .width) (t .height) ≡ true
   pub setting : settingFine t ≡ true
-  pub tabled : rowsFine (tables .rows) ≡ true
+  pub tabled : rowsLent (tables .rows) (tables .fixed) ≡ true
   pub coded : codesFine (tables .codes) (t .height * t .width) ≡ true
   pub sourced : sourceFine source ≡ true
 
@@ -79,7 +79,7 @@ module _ (bytes : List ℕ) (source : ℕ) (tables : ChipTables) (t : Setting) w
       ap found first ∙ simp (ne-eqb n 0 some)
 
   module _ (fine-setting : firstOf (settingRefusals source tables t) ≡ 0) where
-    by-packet : checkedOf bytes source tables t ≡ found (cond (eqb (takenOf bytes .refusal) 0) (cond (isDirect (getD bytes 0 0)) 4 0) (takenOf bytes .refusal))
+    by-packet : checkedOf bytes source tables t ≡ found (cond (eqb (takenOf bytes .refusal) 0) (cond (isDirect (controlAt bytes)) 4 0) (takenOf bytes .refusal))
     unfolding checkedOf found
     by-packet =
         let first : firstOf (passRefusals bytes source tables t) ≡ firstOf (packetRefusals bytes) =
@@ -90,11 +90,11 @@ module _ (bytes : List ℕ) (source : ℕ) (tables : ChipTables) (t : Setting) w
     unfolding found
     refused-packet some = by-packet ∙ simp (ne-eqb _ _ some) (sym (take-refused bytes some))
 
-    pub refused-direct : takenOf bytes .refusal ≡ 0 → isDirect (getD bytes 0 0) ≡ true → checkedOf bytes source tables t ≡ notTaken 4
+    pub refused-direct : takenOf bytes .refusal ≡ 0 → isDirect (controlAt bytes) ≡ true → checkedOf bytes source tables t ≡ notTaken 4
     unfolding found
     refused-direct e d = by-packet ∙ simp (eq-eqb _ _ e, d)
 
-    pub accepted : takenOf bytes .refusal ≡ 0 → isDirect (getD bytes 0 0) ≡ false → checkedOf bytes source tables t ≡ record { refusal = 0; packet = packetAt bytes }
+    pub accepted : takenOf bytes .refusal ≡ 0 → isDirect (controlAt bytes) ≡ false → checkedOf bytes source tables t ≡ record { refusal = 0; packet = packetAt bytes }
     unfolding found
     accepted e d = by-packet ∙ simp (eq-eqb _ _ e, d)
 

@@ -7,7 +7,7 @@ use Rattle.packet.specs.declared.Taken.{Taken}
 use Rattle.packet.specs.Bytes.{packetAt, notTaken}
 use Rattle.packet.specs.Refusal.{Refusal, refuse, firstOf, packetRefusals}
 use Rattle.tables.specs.Sizes.{sizeFine}
-use Rattle.tables.specs.Accept.{rowsFine, codesFine}
+use Rattle.tables.specs.Accept.{rowsFine, routeFine, codesFine}
 use Rattle.tables.specs.Tables.{ChipTables}
 use Rattle.steps.specs.declared.Setting.{Setting}
 use Rattle.router.specs.declared.Pass.{Pass}
@@ -22,14 +22,18 @@ settingFine t = leb (t .phase) 3 && leb (t .ready) 63 && leb (t .monitor) 19
 abbrev pub sourceFine : ℕ → Bool
 sourceFine source = leb source 5 || eqb source 7
 
+-- 5: one chip's rows, and its fixed route.
+abbrev pub rowsLent : List ℕ → ℕ → Bool
+rowsLent rows fixed = rowsFine rows && routeFine fixed
+
 abbrev pub settingRefusals : ℕ → ChipTables → Setting → List Refusal
 settingRefusals source tables t =
-    refuse (not (sizeFine (t .width) (t .height))) 7 ∷ refuse (not (settingFine t)) 6 ∷ refuse (not (rowsFine (tables .rows))) 5
+    refuse (not (sizeFine (t .width) (t .height))) 7 ∷ refuse (not (settingFine t)) 6 ∷ refuse (not (rowsLent (tables .rows) (tables .fixed))) 5
     ∷ refuse (not (codesFine (tables .codes) (t .height * t .width))) 11
     ∷ refuse (not (sourceFine source)) 1
     ∷ []
 
--- "Order: 8, 7, 9, 6, 5, 11, 10, 1, 2, 3, 4, those that apply to the call": here 7, 6, 5, 11, 1, 2, 3, 4.
+-- "Order: 8, 7, 9, 6, 5, 11, 10, 1, 2, .. 4, those that apply to the call": here 7, 6, 5, 11, 1, 2, 4.
 abbrev pub passRefusals : List ℕ → ℕ → ChipTables → Setting → List Refusal
 passRefusals bytes source tables t = settingRefusals source tables t ++ packetRefusals bytes
 

@@ -16,6 +16,7 @@ use steps::wants::by_rows;
 use steps::wants::looked_up;
 use steps::wants::wanted_given;
 use tables::accept::codes_fine;
+use tables::accept::route_fine;
 use tables::accept::rows_fine;
 use tables::size::chips;
 use tables::size::size_fine;
@@ -25,16 +26,16 @@ ghost use lib.Dec.{eqb};
 ghost use Rattle.packet.specs.Refusal.{firstOf};
 ghost use Rattle.tables.specs.Tables.{chipTables};
 ghost use Rattle.steps.specs.Deciding.{Checked, noOutcome, outcomeOf};
-ghost use Rattle.router.specs.Call.{settingFine, sourceFine, settingRefusals, checkedOf, passOf};
+ghost use Rattle.router.specs.Call.{rowsLent, settingFine, sourceFine, settingRefusals, checkedOf, passOf};
 
-// One pass of one router. Refusals, the first that applies: 7 size, 6 phase, ready set or monitor, 5 rows, 11 codes,
-// 1 source, 2 length, 3 type 11, 4 NN with T = 1.
-pub fn pass(bytes: &[u8], source: u32, rows: &[u32], codes: &[u8], t: Setting) -> Pass
-    ensures { λ r. ⌜ r ≡ passOf (now (bytes .entry)) source (chipTables (now (rows .entry)) (now (codes .entry))) t ⌝ }
+// One pass of one router. Refusals, the first that applies: 7 size, 6 phase, ready set or monitor, 5 rows or fixed route, 11 codes,
+// 1 source, 2 length, 4 NN with T = 1.
+pub fn pass(bytes: &[u8], source: u32, rows: &[u32], codes: &[u8], fixed: u32, t: Setting) -> Pass
+    ensures { λ r. ⌜ r ≡ passOf (now (bytes .entry)) source (chipTables (now (rows .entry)) (now (codes .entry)) fixed) t ⌝ }
 {
-    let taken = checked(bytes, source, rows, codes, t);
+    let taken = checked(bytes, source, rows, codes, fixed, t);
     let p = taken.packet;
-    let o = outcome_unless(taken.refusal, p, source, rows, codes, t);
+    let o = outcome_unless(taken.refusal, p, source, rows, codes, fixed, t);
     shown(taken.refusal, o)
 }
 
@@ -46,17 +47,18 @@ fn outcome_unless(
     source: u32,
     rows: &[u32],
     codes: &[u8],
+    fixed: u32,
     t: Setting,
 ) -> Outcome
-    requires { ⌜ (refusal ≡ 0 → Checked p source (chipTables (now rows) (now codes)) t) ⌝ }
-    ensures { λ r. ⌜ r ≡ cond (eqb refusal 0) (outcomeOf p source (chipTables (now (rows .entry)) (now (codes .entry))) t) noOutcome ⌝ }
+    requires { ⌜ (refusal ≡ 0 → Checked p source (chipTables (now rows) (now codes) fixed) t) ⌝ }
+    ensures { λ r. ⌜ r ≡ cond (eqb refusal 0) (outcomeOf p source (chipTables (now (rows .entry)) (now (codes .entry)) fixed) t) noOutcome ⌝ }
 {
     if refusal == 0 {
         let errors = errors_of(p, source, t.phase);
         let stamped = stamped_of(p, source, errors, t.phase);
         let goes = by_rows(errors, p.control);
         let found = looked_up(goes, p.word, rows);
-        let wanted = wanted_given(errors, p, source, found, codes, t);
+        let wanted = wanted_given(errors, p, source, found, codes, fixed, t);
         decide(errors, stamped, source, t.phase, wanted, t.ready)
     } else {
         no_outcome()
@@ -64,10 +66,10 @@ fn outcome_unless(
 }
 
 // The packet where nothing is refused, or the first refusal.
-fn checked(bytes: &[u8], source: u32, rows: &[u32], codes: &[u8], t: Setting) -> Taken
-    ensures { λ r. ⌜ r ≡ checkedOf (now (bytes .entry)) source (chipTables (now (rows .entry)) (now (codes .entry))) t ⌝ }
+fn checked(bytes: &[u8], source: u32, rows: &[u32], codes: &[u8], fixed: u32, t: Setting) -> Taken
+    ensures { λ r. ⌜ r ≡ checkedOf (now (bytes .entry)) source (chipTables (now (rows .entry)) (now (codes .entry)) fixed) t ⌝ }
 {
-    let refusal = setting_refusal(source, rows, codes, t);
+    let refusal = setting_refusal(source, rows, codes, fixed, t);
     if refusal != 0 {
         return not_taken(refusal);
     }
@@ -82,8 +84,8 @@ fn checked(bytes: &[u8], source: u32, rows: &[u32], codes: &[u8], t: Setting) ->
     taken
 }
 
-fn setting_refusal(source: u32, rows: &[u32], codes: &[u8], t: Setting) -> u32
-    ensures { λ r. ⌜ r ≡ firstOf (settingRefusals source (chipTables (now (rows .entry)) (now (codes .entry))) t) ⌝ }
+fn setting_refusal(source: u32, rows: &[u32], codes: &[u8], fixed: u32, t: Setting) -> u32
+    ensures { λ r. ⌜ r ≡ firstOf (settingRefusals source (chipTables (now (rows .entry)) (now (codes .entry)) fixed) t) ⌝ }
 {
     if !size_fine(t.width, t.height) {
         return 7;
@@ -91,7 +93,7 @@ fn setting_refusal(source: u32, rows: &[u32], codes: &[u8], t: Setting) -> u32
     if !setting_fine(t) {
         return 6;
     }
-    if !rows_fine(rows) {
+    if !rows_lent(rows, fixed) {
         return 5;
     }
     if !codes_fine(codes, chips(t.width, t.height)) {
@@ -101,6 +103,12 @@ fn setting_refusal(source: u32, rows: &[u32], codes: &[u8], t: Setting) -> u32
         return 1;
     }
     0
+}
+
+fn rows_lent(rows: &[u32], fixed: u32) -> bool
+    ensures { λ r. ⌜ r ≡ rowsLent (now (rows .entry)) fixed ⌝ }
+{
+    rows_fine(rows) & route_fine(fixed)
 }
 
 fn setting_fine(t: Setting) -> bool

@@ -15,7 +15,7 @@ use Rattle.steps.specs.Wants.{wantedGiven, wantedOf, byRows}
 
 module _ (errors : ℕ) (p : Packet) (source : ℕ) (tables : ChipTables) (t : Setting) where
   found-or-missed : (a b c : Bool) → eqb errors 0 ≡ a → isMc (p .control) ≡ b → eqb (markOf (p .control)) 2 ≡ c
-      → wantedGiven errors p source (cond (byRows errors (p .control)) (routeFor (p .word) (rowsOf (tables .rows))) Missed) (tables .codes) t
+      → wantedGiven errors p source (cond (byRows errors (p .control)) (routeFor (p .word) (rowsOf (tables .rows))) Missed) (tables .codes) (tables .fixed) t
       ≡ wantedOf errors p source tables t
   unfolding wantedOf
   found-or-missed false b c e f g = simp e
@@ -24,7 +24,7 @@ module _ (errors : ℕ) (p : Packet) (source : ℕ) (tables : ChipTables) (t : S
   found-or-missed true true false e f g = simp (e, f, g)
 
   pub wanted-by-rows : (goes : Bool) (found : Matched) → goes ≡ byRows errors (p .control) → found ≡ cond goes (routeFor (p .word) (rowsOf (tables .rows))) Missed
-      → wantedGiven errors p source found (tables .codes) t ≡ wantedOf errors p source tables t
+      → wantedGiven errors p source found (tables .codes) (tables .fixed) t ≡ wantedOf errors p source tables t
   wanted-by-rows goes found e f =
-      ap (λ (m : Matched). wantedGiven errors p source m (tables .codes) t) (f ∙ ap (λ (b : Bool). cond b (routeFor (p .word) (rowsOf (tables .rows))) Missed) e)
+      ap (λ (m : Matched). wantedGiven errors p source m (tables .codes) (tables .fixed) t) (f ∙ ap (λ (b : Bool). cond b (routeFor (p .word) (rowsOf (tables .rows))) Missed) e)
       ∙ found-or-missed (eqb errors 0) (isMc (p .control)) (eqb (markOf (p .control)) 2) refl refl refl

@@ -1,6 +1,7 @@
 pub mod Bounds
 pub mod ByRows
 pub mod BySource
+pub mod Emergency
 pub mod Flags
 pub mod LowestFirst
 pub mod SentBy

@@ -19,14 +19,14 @@ use Rattle.steps.specs.Detour.{carrySet, sendSet, dropSet, plainSendSet,
 use Rattle.steps.specs.Errors.{errorsOf, stampedOf}
 use Rattle.steps.specs.Wants.{wantedOf}
 
--- Step 4: "MC marked 01 or 10 also has a second leg on link (source-1) mod 6." A packet in error has none. Source + 5 is source - 1.
+-- Step 4: "MC marked 01 or 10 also has a second leg on link (source-1) mod 6", and fixed-route as MC. A packet in error has none. Source + 5 is source - 1.
 abbrev pub hasLeg : ℕ → Packet → Bool
 hasLeg errors p = eqb errors 0 && isMarked (p .control) && (eqb (markOf (p .control)) 1 || eqb (markOf (p .control)) 2)
 
 abbrev pub legSet : ℕ → Packet → ℕ → ℕ
 legSet errors p source = cond (hasLeg errors p) (2 ^ link (source + 5)) 0
 
--- Steps 4 to 7, from the packet after stamping and its wanted set: MC with detours, P2P and NN without. Step 6: "The second leg is sent with
+-- Steps 4 to 7, from the packet after stamping and its wanted set: types with a mark with detours, P2P and NN without. Step 6: "The second leg is sent with
 -- mark 11 if its link is ready, else dropped."
 unfoldable pub decided : ℕ → Packet → ℕ → ℕ → Wanted → ℕ → Outcome
 decided errors p source phase w ready =

@@ -44,19 +44,23 @@ p2pWanted p codes t = numberWanted (codeFor codes (t .width) (t .height) (p .wor
 abbrev pub nnWanted : Packet → ℕ → ℕ → ℕ
 nnWanted p source monitor = cond (eqb source 7) (numberWanted (routeOf (p .control)) 63 monitor) (monitorBit monitor)
 
+-- Fixed-route: "a type 11 packet wants that route, local or not, and nothing if marked 10". "It has no default route and ignores the key."
+abbrev pub fixedWanted : ℕ → ℕ → ℕ
+fixedWanted mark fixed = cond (eqb mark 2) 0 fixed
+
 -- By type, given what the rows say to the packet's key.
-abbrev pub kindWanted : ℕ → Packet → ℕ → Matched → List ℕ → Setting → Wanted
-kindWanted kind p source found codes t =
+abbrev pub kindWanted : ℕ → Packet → ℕ → Matched → List ℕ → ℕ → Setting → Wanted
+kindWanted kind p source found codes fixed t =
     cond (eqb kind 0) (markWanted found (markOf (p .control)) source (t .monitor))
-    (wants (cond (eqb kind 1) (p2pWanted p codes t) (nnWanted p source (t .monitor))))
+    (wants (cond (eqb kind 1) (p2pWanted p codes t) (cond (eqb kind 2) (nnWanted p source (t .monitor)) (fixedWanted (markOf (p .control)) fixed))))
 
 -- "A packet in error goes, as it came, to the monitor and nowhere else".
-abbrev pub wantedGiven : ℕ → Packet → ℕ → Matched → List ℕ → Setting → Wanted
-wantedGiven errors p source found codes t =
-    cond (eqb errors 0) (kindWanted (kindOf (p .control)) p source found codes t) (wants (monitorBit (t .monitor)))
+abbrev pub wantedGiven : ℕ → Packet → ℕ → Matched → List ℕ → ℕ → Setting → Wanted
+wantedGiven errors p source found codes fixed t =
+    cond (eqb errors 0) (kindWanted (kindOf (p .control)) p source found codes fixed t) (wants (monitorBit (t .monitor)))
 
 unfoldable pub wantedOf : ℕ → Packet → ℕ → ChipTables → Setting → Wanted
-wantedOf errors p source tables t = wantedGiven errors p source (routeFor (p .word) (rowsOf (tables .rows))) (tables .codes) t
+wantedOf errors p source tables t = wantedGiven errors p source (routeFor (p .word) (rowsOf (tables .rows))) (tables .codes) (tables .fixed) t
 
 -- Whom the rows concern: an MC packet without error and not marked 10.
 abbrev pub byRows : ℕ → ℕ → Bool

@@ -24,15 +24,22 @@ ghost use Rattle.steps.specs.Links.{has};
 ghost use Rattle.steps.specs.Deciding.{hasLeg, legSet, decided, noOutcome, outcomeOf, markOn, packetOn, legPacket, Checked};
 
 // The pass itself, for inputs that have been checked.
-pub fn outcome_of(p: Packet, source: u32, rows: &[u32], codes: &[u8], t: Setting) -> Outcome
-    requires { ⌜ Checked p source (chipTables (now rows) (now codes)) t ⌝ }
-    ensures { λ r. ⌜ r ≡ outcomeOf p source (chipTables (now (rows .entry)) (now (codes .entry))) t ⌝ }
+pub fn outcome_of(
+    p: Packet,
+    source: u32,
+    rows: &[u32],
+    codes: &[u8],
+    fixed: u32,
+    t: Setting,
+) -> Outcome
+    requires { ⌜ Checked p source (chipTables (now rows) (now codes) fixed) t ⌝ }
+    ensures { λ r. ⌜ r ≡ outcomeOf p source (chipTables (now (rows .entry)) (now (codes .entry)) fixed) t ⌝ }
 {
     let errors = errors_of(p, source, t.phase);
     let stamped = stamped_of(p, source, errors, t.phase);
     let goes = by_rows(errors, p.control);
     let found = looked_up(goes, p.word, rows);
-    let wanted = wanted_given(errors, p, source, found, codes, t);
+    let wanted = wanted_given(errors, p, source, found, codes, fixed, t);
     decide(errors, stamped, source, t.phase, wanted, t.ready)
 }
 

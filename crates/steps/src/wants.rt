@@ -16,7 +16,7 @@ ghost use Rattle.steps.specs.Links.{monitorBit};
 ghost use mathlib.Core.Bool.{cond};
 ghost use Rattle.tables.specs.declared.Matched.the-variants.{Missed};
 ghost use Rattle.tables.specs.Rows.{rowsOf, routeFor};
-ghost use Rattle.steps.specs.Wants.{wants, missWanted, matchWanted, markWanted, numberWanted, p2pWanted, nnWanted, wantedGiven, byRows};
+ghost use Rattle.steps.specs.Wants.{wants, missWanted, matchWanted, markWanted, numberWanted, p2pWanted, nnWanted, fixedWanted, wantedGiven, byRows};
 
 // Whether a packet goes by the rows.
 pub fn by_rows(errors: u32, control: u32) -> bool
@@ -44,17 +44,19 @@ pub fn wanted_given(
     source: u32,
     found: Matched,
     codes: &[u8],
+    fixed: u32,
     t: Setting,
 ) -> Wanted
     requires { ⌜ (source < 8) × ((t .monitor < 20) × ((t .width ≤ 12) × ((t .height ≤ 12) × (t .height * t .width ≤ length (now codes))))) ⌝ }
-    ensures { λ r. ⌜ r ≡ wantedGiven errors p source found (now (codes .entry)) t ⌝ }
+    ensures { λ r. ⌜ r ≡ wantedGiven errors p source found (now (codes .entry)) fixed t ⌝ }
 {
     if errors == 0 {
         let kind = kind_of(p.control);
         match kind {
             0 => mark_wanted(found, mark_of(p.control), source, t.monitor),
             1 => alone(p2p_wanted(p, codes, t)),
-            _ => alone(nn_wanted(p, source, t.monitor)),
+            2 => alone(nn_wanted(p, source, t.monitor)),
+            _ => alone(fixed_wanted(mark_of(p.control), fixed)),
         }
     } else {
         alone(monitor_bit(t.monitor))
@@ -121,6 +123,15 @@ fn nn_wanted(p: Packet, source: u32, monitor: u32) -> u32
         number_wanted(route_of(p.control), 63, monitor)
     } else {
         monitor_bit(monitor)
+    }
+}
+
+fn fixed_wanted(mark: u32, fixed: u32) -> u32
+    ensures { λ r. ⌜ r ≡ fixedWanted mark fixed ⌝ }
+{
+    match mark {
+        2 => 0,
+        _ => fixed,
     }
 }
 

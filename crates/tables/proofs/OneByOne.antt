@@ -11,7 +11,7 @@ use lib.Dec.{ltb}
 use lib.Bits.{bitOr, bitAnd, or-lt, or-add-and, and-le-l, and-le-r}
 use borrow.Author.Tests.{lt-ltb, le-ltb, ltb-true, ltb-false}
 use Rattle.tables.specs.Rows.{rowsOf}
-use Rattle.tables.specs.Accept.{allRoutes, allCodes}
+use Rattle.tables.specs.Accept.{allRoutes, allFixed, allCodes}
 use Rattle.tables.proofs.RowByRow.{rows-step, rows-end}
 
 -- two numbers joined are below a power of two when both are
@@ -52,6 +52,21 @@ module _ (s : List ℕ) (i : ℕ) where
 
   pub routes-last : (all : Bool) (joined : ℕ) → length s / 3 ≤ i → all ≡ (ltb joined 67108864 && allRoutes (rowsOf (drop (i * 3) s))) → all ≡ ltb joined 67108864
   routes-last all joined h e = e ∙ ap (λ (r : Bool). ltb joined 67108864 && r) (routes-end h) ∙ and-true (ltb joined 67108864)
+
+  fixed-step : i < length s → allFixed (drop i s) ≡ (ltb (getD s i 0) 67108864 && allFixed (drop (i + 1) s))
+  unfolding allFixed
+  fixed-step h = ap allFixed (drop-cons s i 0 h) ∙ simp add-one
+
+  fixed-end : length s ≤ i → allFixed (drop i s) ≡ true
+  unfolding allFixed
+  fixed-end h = ap allFixed (drop-of-length-le s h)
+
+  pub fixed-joined : (all : Bool) (joined : ℕ) → i < length s → all ≡ (ltb joined 67108864 && allFixed (drop i s))
+      → all ≡ (ltb (bitOr joined (getD s i 0)) 67108864 && allFixed (drop (i + 1) s))
+  fixed-joined all joined h e = or-on 26 joined (getD s i 0) all _ (e ∙ ap (λ (r : Bool). ltb joined 67108864 && r) (fixed-step h))
+
+  pub fixed-last : (all : Bool) (joined : ℕ) → length s ≤ i → all ≡ (ltb joined 67108864 && allFixed (drop i s)) → all ≡ ltb joined 67108864
+  fixed-last all joined h e = e ∙ ap (λ (r : Bool). ltb joined 67108864 && r) (fixed-end h) ∙ and-true (ltb joined 67108864)
 
   pub codes-step : i < length s → allCodes (drop i s) ≡ (ltb (getD s i 0) 8 && allCodes (drop (i + 1) s))
   unfolding allCodes

@@ -1,5 +1,5 @@
--- Which lent tables are acceptable. Refusal 5: "over 1,024 rows for a chip, route bit 26 to 31 set, bad starts", a definition for each cause;
--- 11: "P2P table of wrong size, or a code above 7".
+-- Which lent tables are acceptable. Refusal 5: "over 1,024 rows for a chip, route bit 26 to 31 set, bad starts", and "a fixed route with bits 26 to 31 set is 5, and so is a
+-- wrong number of them", a definition for each cause; 11: "P2P table of wrong size, or a code above 7".
 use Prim.Native.Nat.{ℕ, _+_, _-_, _*_, _/_, _%_, _^_, _<_}
 use mathlib.Core.Path.{_≡_}
 use mathlib.Core.Bool.{Bool, true, _&&_}
@@ -10,9 +10,12 @@ use lib.ListN.{length, getD, drop}
 use Rattle.tables.specs.Rows.{Entry, rowsOf}
 
 -- "Route bits 0 to 5 are links, 6 to 25 are processors 0 to 19."
+abbrev pub routeFine : ℕ → Bool
+routeFine route = ltb route 67108864
+
 unfoldable pub allRoutes : List Entry → Bool
 allRoutes [] = true
-allRoutes (r ∷ rs) = ltb (r .route) 67108864 && allRoutes rs
+allRoutes (r ∷ rs) = routeFine (r .route) && allRoutes rs
 
 -- Numbers that are no whole number of rows are no rows.
 abbrev pub routesFine : List ℕ → Bool
@@ -25,6 +28,14 @@ fewRows n = leb n 1024
 -- One chip's rows.
 abbrev pub rowsFine : List ℕ → Bool
 rowsFine s = fewRows (length s / 3) && routesFine s
+
+-- The fixed routes of all chips: "each chip gets one route of 26 bits".
+unfoldable pub allFixed : List ℕ → Bool
+allFixed [] = true
+allFixed (r ∷ rs) = routeFine r && allFixed rs
+
+abbrev pub fixedFine : List ℕ → ℕ → Bool
+fixedFine s n = eqb (length s) n && allFixed s
 
 unfoldable pub allCodes : List ℕ → Bool
 allCodes [] = true

@@ -7,7 +7,7 @@ ghost use lib.Bits.{bitAnd};
 ghost use lib.ListN.{length, drop};
 ghost use Prim.Native.Nat.{_+_, _*_, _/_, _≤_, _<_};
 ghost use Rattle.tables.specs.Rows.{rowsOf};
-ghost use Rattle.tables.specs.Accept.{allRoutes, routesFine, rowsFine, allCodes, codesFine, aboveSeven, startsFine, SideBySide};
+ghost use Rattle.tables.specs.Accept.{routeFine, allRoutes, routesFine, fixedFine, rowsFine, allCodes, codesFine, aboveSeven, startsFine, SideBySide};
 
 // The most rows that a chip's table has.
 const MOST_ROWS: usize = 1024;
@@ -47,6 +47,29 @@ pub fn routes_fine(rows: &[u32]) -> bool
         i += 1;
     }
     last_routes(rows, joined | other) < ROUTES
+}
+
+// One route: no bit 26 to 31.
+pub fn route_fine(route: u32) -> bool
+    ensures { λ r. ⌜ r ≡ routeFine route ⌝ }
+{
+    route < ROUTES
+}
+
+// Fixed routes: as many as asked for, no bit 26 to 31 in any.
+pub fn fixed_fine(fixed: &[u32], count: usize) -> bool
+    ensures { λ r. ⌜ r ≡ fixedFine (now (fixed .entry)) count ⌝ }
+{
+    if fixed.len() != count {
+        return false;
+    }
+    let mut joined = 0;
+    let mut i = 0;
+    while i < fixed.len() {
+        joined = joined | fixed[i];
+        i += 1;
+    }
+    joined < ROUTES
 }
 
 // P2P codes: as many as asked for, none above 7. Eight of them a turn, as one number, then what is left of them.

@@ -21,10 +21,11 @@ pub fn make(
     rows: &[u32],
     starts: &[u32],
     codes: &[u8],
+    fixed: &[u32],
     tested: Tested,
 ) -> Added
-    requires { ⌜ (call .length ≤ 9) × (tested ≡ testedOf (now mesh) (tablesOf (now rows) (now starts) (now codes))) ⌝ }
-    ensures { λ r. ⌜ Moves (now (mesh .entry)) (now (log .entry)) (madeLeft (now (mesh .entry)) (tablesOf (now (rows .entry)) (now (starts .entry)) (now (codes .entry))) (length (now (log .entry))) call) r (now (mesh .exit)) (now (log .exit)) ⌝ }
+    requires { ⌜ (call .length ≤ 9) × (tested ≡ testedOf (now mesh) (tablesOf (now rows) (now starts) (now codes) (now fixed))) ⌝ }
+    ensures { λ r. ⌜ Moves (now (mesh .entry)) (now (log .entry)) (madeLeft (now (mesh .entry)) (tablesOf (now (rows .entry)) (now (starts .entry)) (now (codes .entry)) (now (fixed .entry))) (length (now (log .entry))) call) r (now (mesh .exit)) (now (log .exit)) ⌝ }
 {
     let kind = call.kind;
     match kind {
@@ -40,10 +41,11 @@ pub fn make(
                 rows,
                 starts,
                 codes,
+                fixed,
                 tested,
             )
         }
-        2 => round_tested(mesh, log, rows, starts, codes, tested),
+        2 => round_tested(mesh, log, rows, starts, codes, fixed, tested),
         3 => {
             let refusal = set_link_tested(mesh, call.chip, call.link, call.up == 1, tested.holds);
             Added { refusal, added: 0 }

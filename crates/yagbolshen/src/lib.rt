@@ -63,8 +63,9 @@ pub extern "C" fn yagbolshen_pass(
     monitor: u32,
     phase: u32,
     ready: u32,
+    fixed: u32,
 ) -> Pass
-    ensures { λ r. ⌜ r ≡ passOf (now (packet .entry)) source (chipTables (now (rows .entry)) (now (codes .entry))) (settingOf width height monitor phase ready) ⌝ }
+    ensures { λ r. ⌜ r ≡ passOf (now (packet .entry)) source (chipTables (now (rows .entry)) (now (codes .entry)) fixed) (settingOf width height monitor phase ready) ⌝ }
 {
     let t = Setting {
         width,
@@ -73,7 +74,7 @@ pub extern "C" fn yagbolshen_pass(
         phase,
         ready,
     };
-    router::call::pass(packet, source, rows, codes, t)
+    router::call::pass(packet, source, rows, codes, fixed, t)
 }
 
 // The first row of a table in row structs that takes a key.
@@ -117,10 +118,11 @@ pub extern "C" fn yagbolshen_inject(
     rows: &[u32],
     starts: &[u32],
     codes: &[u8],
+    fixed: &[u32],
 ) -> Added
-    ensures { λ r. ⌜ Moves (now (mesh .entry)) (now (log .entry)) (injectLeft (now (mesh .entry)) (tablesOf (now (rows .entry)) (now (starts .entry)) (now (codes .entry))) (length (now (log .entry))) chip (now (packet .entry))) r (now (mesh .exit)) (now (log .exit)) ⌝ }
+    ensures { λ r. ⌜ Moves (now (mesh .entry)) (now (log .entry)) (injectLeft (now (mesh .entry)) (tablesOf (now (rows .entry)) (now (starts .entry)) (now (codes .entry)) (now (fixed .entry))) (length (now (log .entry))) chip (now (packet .entry))) r (now (mesh .exit)) (now (log .exit)) ⌝ }
 {
-    buffer::moving::inject(mesh, log, chip, packet, rows, starts, codes)
+    buffer::moving::inject(mesh, log, chip, packet, rows, starts, codes, fixed)
 }
 
 // Passes all that is in flight, once.
@@ -131,10 +133,11 @@ pub extern "C" fn yagbolshen_round(
     rows: &[u32],
     starts: &[u32],
     codes: &[u8],
+    fixed: &[u32],
 ) -> Added
-    ensures { λ r. ⌜ Moves (now (mesh .entry)) (now (log .entry)) (roundLeft (now (mesh .entry)) (tablesOf (now (rows .entry)) (now (starts .entry)) (now (codes .entry))) (length (now (log .entry)))) r (now (mesh .exit)) (now (log .exit)) ⌝ }
+    ensures { λ r. ⌜ Moves (now (mesh .entry)) (now (log .entry)) (roundLeft (now (mesh .entry)) (tablesOf (now (rows .entry)) (now (starts .entry)) (now (codes .entry)) (now (fixed .entry))) (length (now (log .entry)))) r (now (mesh .exit)) (now (log .exit)) ⌝ }
 {
-    buffer::moving::round(mesh, log, rows, starts, codes)
+    buffer::moving::round(mesh, log, rows, starts, codes, fixed)
 }
 
 // Takes one directed link of a chip up or down.
@@ -213,8 +216,9 @@ pub extern "C" fn yagbolshen_replay(
     rows: &[u32],
     starts: &[u32],
     codes: &[u8],
+    fixed: &[u32],
 ) -> Replayed
-    ensures { λ r. ⌜ Replays (now (mesh .entry)) (now (mesh .exit)) (now (log .entry)) (now (log .exit)) r (replayOf (now (mesh .entry)) (tablesOf (now (rows .entry)) (now (starts .entry)) (now (codes .entry))) (length (now (log .entry))) (now (trace .entry))) ⌝ }
+    ensures { λ r. ⌜ Replays (now (mesh .entry)) (now (mesh .exit)) (now (log .entry)) (now (log .exit)) r (replayOf (now (mesh .entry)) (tablesOf (now (rows .entry)) (now (starts .entry)) (now (codes .entry)) (now (fixed .entry))) (length (now (log .entry))) (now (trace .entry))) ⌝ }
 {
-    trace::replaying::replay(mesh, log, trace, rows, starts, codes)
+    trace::replaying::replay(mesh, log, trace, rows, starts, codes, fixed)
 }

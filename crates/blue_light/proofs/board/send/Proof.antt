@@ -16,6 +16,9 @@ slice-aggregate-inject-3 c = search needs
 slice-aggregate-inject-4 : tie.Need-slice-aggregate-inject-4
 slice-aggregate-inject-4 c = search needs
 
+slice-aggregate-inject-5 : tie.Need-slice-aggregate-inject-5
+slice-aggregate-inject-5 c = search needs
+
 inject-requires : tie.Need-inject-requires
 inject-requires c κs = search needs
 
@@ -30,5 +33,6 @@ send-spec =
     slice-aggregate-inject-2
     slice-aggregate-inject-3
     slice-aggregate-inject-4
+    slice-aggregate-inject-5
     inject-requires
     returns)

@@ -13,6 +13,9 @@ slice-aggregate-round-2 c = search needs
 slice-aggregate-round-3 : tie.Need-slice-aggregate-round-3
 slice-aggregate-round-3 c = search needs
 
+slice-aggregate-round-4 : tie.Need-slice-aggregate-round-4
+slice-aggregate-round-4 c = search needs
+
 round-requires : tie.Need-round-requires
 round-requires c κs = search needs
 
@@ -26,5 +29,6 @@ turn-spec =
     slice-aggregate-round
     slice-aggregate-round-2
     slice-aggregate-round-3
+    slice-aggregate-round-4
     round-requires
     returns)

@@ -9,15 +9,15 @@ use Rattle.buffer.proofs.moving.inject_tested.Statement.{statement}
 use Rattle.buffer.proofs.moving.inject_tested.Tie as tie
 
 inject-refusal-requires : tie.Need-inject-refusal-requires
-inject-refusal-requires c κs = ap (λ (x : Tested). x .holds) (c .before .before .before .before .before .before .before .pre)
+inject-refusal-requires c κs = ap (λ (x : Tested). x .holds) (c .before .before .before .before .before .before .before .before .pre)
 
 same-length : tie.Need-same-length
 same-length c = search needs
 
 returns : tie.Need-returns
 returns c =
-    let s = c .before .before .before .before .before .before .before .before .before in
-    let t = tablesOf (s .args .rows .now) (s .args .starts .now) (s .args .codes .now) in
+    let s = c .before .before .before .before .before .before .before .before .before .before in
+    let t = tablesOf (s .args .rows .now) (s .args .starts .now) (s .args .codes .now) (s .args .fixed .now) in
     inject-refused t (s .args .mesh .now) (s .args .log .now) (s .args .chip) (s .args .bytes .now) _ (c .before .inject-refusal .ensures ∙ inject-number (s .args .mesh .now) t (s .args .tested) (s .pre) (s .args .chip) (length (s .args .log .now)) (s .args .bytes .now)) (c .if1 .taken)
 
 take-requires : tie.Need-take-requires
@@ -25,13 +25,13 @@ take-requires c κs = search needs
 
 pass-one-requires : tie.Need-pass-one-requires
 pass-one-requires c κs =
-    let s = c .before .before .before .before .before .before .before .before .before .before .before .before .before in
-    let t = tablesOf (s .args .rows .now) (s .args .starts .now) (s .args .codes .now) in
+    let s = c .before .before .before .before .before .before .before .before .before .before .before .before .before .before in
+    let t = tablesOf (s .args .rows .now) (s .args .starts .now) (s .args .codes .now) (s .args .fixed .now) in
     let whole = taken-packet t (s .args .mesh .now) (s .args .log .now) (s .args .chip) (s .args .bytes .now) (sym (c .before .before .before .before .before .inject-refusal .ensures ∙ inject-number (s .args .mesh .now) t (s .args .tested) (s .pre) (s .args .chip) (length (s .args .log .now)) (s .args .bytes .now)) ∙ c .before .before .before .before .if1 .left) (c .before .before .before .take .result) (c .before .before .before .take .ensures) in
     rw whole (inject-due t (s .args .mesh .now) (s .args .log .now) (s .args .chip) (s .args .bytes .now) (sym (c .before .before .before .before .before .inject-refusal .ensures ∙ inject-number (s .args .mesh .now) t (s .args .tested) (s .pre) (s .args .chip) (length (s .args .log .now)) (s .args .bytes .now)) ∙ c .before .before .before .before .if1 .left))
 
-cast-t21 : tie.Need-cast-t21
-cast-t21 c = search needs
+cast-t22 : tie.Need-cast-t22
+cast-t22 c = search needs
 
 same-length-2 : tie.Need-same-length-2
 same-length-2 c = search needs
@@ -41,8 +41,8 @@ same-length-3 c = search needs
 
 returns-2 : tie.Need-returns-2
 returns-2 c =
-    let s = c .before .before .before .before .before .before .before .before .before .before .before .before .before .before .before .before .before .before in
-    let t = tablesOf (s .args .rows .now) (s .args .starts .now) (s .args .codes .now) in
+    let s = c .before .before .before .before .before .before .before .before .before .before .before .before .before .before .before .before .before .before .before in
+    let t = tablesOf (s .args .rows .now) (s .args .starts .now) (s .args .codes .now) (s .args .fixed .now) in
     let whole = taken-packet t (s .args .mesh .now) (s .args .log .now) (s .args .chip) (s .args .bytes .now) (sym (c .before .before .before .before .before .before .before .before .before .before .inject-refusal .ensures ∙ inject-number (s .args .mesh .now) t (s .args .tested) (s .pre) (s .args .chip) (length (s .args .log .now)) (s .args .bytes .now)) ∙ c .before .before .before .before .before .before .before .before .before .if1 .left) (c .before .before .before .before .before .before .before .before .take .result) (c .before .before .before .before .before .before .before .before .take .ensures) in
     inject-leaves t (s .args .mesh .now) (s .args .log .now) (s .args .chip) (s .args .bytes .now) (sym (c .before .before .before .before .before .before .before .before .before .before .inject-refusal .ensures ∙ inject-number (s .args .mesh .now) t (s .args .tested) (s .pre) (s .args .chip) (length (s .args .log .now)) (s .args .bytes .now)) ∙ c .before .before .before .before .before .before .before .before .before .if1 .left) _ _ _ (rw whole at (c .before .before .before .before .pass-one .ensures))
 
@@ -55,7 +55,7 @@ inject-tested-spec =
     returns
     take-requires
     pass-one-requires
-    cast-t21
+    cast-t22
     same-length-2
     same-length-3
     returns-2)

@@ -12,59 +12,59 @@ use Rattle.buffer.proofs.moving.round_tested.Statement.{statement}
 use Rattle.buffer.proofs.moving.round_tested.Tie as tie
 
 round-refusal-requires : tie.Need-round-refusal-requires
-round-refusal-requires c κs = ap (λ (x : Tested). x .holds) (c .before .before .before .before .before .before .pre)
+round-refusal-requires c κs = ap (λ (x : Tested). x .holds) (c .before .before .before .before .before .before .before .pre)
 
 same-length : tie.Need-same-length
 same-length c = search needs
 
 returns : tie.Need-returns
 returns c =
-    let s = c .before .before .before .before .before .before .before .before in
-    let t = tablesOf (s .args .rows .now) (s .args .starts .now) (s .args .codes .now) in
+    let s = c .before .before .before .before .before .before .before .before .before in
+    let t = tablesOf (s .args .rows .now) (s .args .starts .now) (s .args .codes .now) (s .args .fixed .now) in
     round-refused t (s .args .mesh .now) (s .args .log .now) _ (c .before .round-refusal .ensures ∙ round-number (s .args .mesh .now) t (s .args .tested) (s .pre) (length (s .args .log .now))) (c .if1 .taken)
 
 slice-read-chips : tie.Need-slice-read-chips
 slice-read-chips c =
-    let s = c .before .before .before .before .before .before .before .before .before in
-    let t = tablesOf (s .args .rows .now) (s .args .starts .now) (s .args .codes .now) in
+    let s = c .before .before .before .before .before .before .before .before .before .before in
+    let t = tablesOf (s .args .rows .now) (s .args .starts .now) (s .args .codes .now) (s .args .fixed .now) in
     omega (arith, words-enough (s .args .mesh .now) (round-holds t (s .args .mesh .now) (s .args .log .now) (sym (c .before .before .round-refusal .ensures ∙ round-number (s .args .mesh .now) t (s .args .tested) (s .pre) (length (s .args .log .now))) ∙ c .before .if1 .left)))
 
 slice-read-chips-2 : tie.Need-slice-read-chips-2
 slice-read-chips-2 c =
-    let s = c .before .before .before .before .before .before .before .before .before .before in
-    let t = tablesOf (s .args .rows .now) (s .args .starts .now) (s .args .codes .now) in
+    let s = c .before .before .before .before .before .before .before .before .before .before .before in
+    let t = tablesOf (s .args .rows .now) (s .args .starts .now) (s .args .codes .now) (s .args .fixed .now) in
     omega (arith, words-enough (s .args .mesh .now) (round-holds t (s .args .mesh .now) (s .args .log .now) (sym (c .before .before .before .round-refusal .ensures ∙ round-number (s .args .mesh .now) t (s .args .tested) (s .pre) (length (s .args .log .now))) ∙ c .before .before .if1 .left)))
 
 chips-requires : tie.Need-chips-requires
 chips-requires c κs =
-    let s = c .before .before .before .before .before .before .before .before .before .before in
-    let t = tablesOf (s .args .rows .now) (s .args .starts .now) (s .args .codes .now) in
+    let s = c .before .before .before .before .before .before .before .before .before .before .before in
+    let t = tablesOf (s .args .rows .now) (s .args .starts .now) (s .args .codes .now) (s .args .fixed .now) in
     holds-size (s .args .mesh .now) (round-holds t (s .args .mesh .now) (s .args .log .now) (sym (c .before .before .before .round-refusal .ensures ∙ round-number (s .args .mesh .now) t (s .args .tested) (s .pre) (length (s .args .log .now))) ∙ c .before .before .if1 .left))
 
 set-aside-requires : tie.Need-set-aside-requires
 set-aside-requires c κs =
-    let s = c .before .before .before .before .before .before .before .before .before .before .before .before in
-    let t = tablesOf (s .args .rows .now) (s .args .starts .now) (s .args .codes .now) in
+    let s = c .before .before .before .before .before .before .before .before .before .before .before .before .before in
+    let t = tablesOf (s .args .rows .now) (s .args .starts .now) (s .args .codes .now) (s .args .fixed .now) in
     rw (c .before .chips .ensures) (words-enough (s .args .mesh .now) (round-holds t (s .args .mesh .now) (s .args .log .now) (sym (c .before .before .before .before .before .round-refusal .ensures ∙ round-number (s .args .mesh .now) t (s .args .tested) (s .pre) (length (s .args .log .now))) ∙ c .before .before .before .before .if1 .left)), few-held (s .args .mesh .now) (round-holds t (s .args .mesh .now) (s .args .log .now) (sym (c .before .before .before .before .before .round-refusal .ensures ∙ round-number (s .args .mesh .now) t (s .args .tested) (s .pre) (length (s .args .log .now))) ∙ c .before .before .before .before .if1 .left)))
 
 pass-chips-requires : tie.Need-pass-chips-requires
 pass-chips-requires c κs =
-    let s = c .before .before .before .before .before .before .before .before .before .before .before .before .before .before .before .before .before in
-    let t = tablesOf (s .args .rows .now) (s .args .starts .now) (s .args .codes .now) in
+    let s = c .before .before .before .before .before .before .before .before .before .before .before .before .before .before .before .before .before .before in
+    let t = tablesOf (s .args .rows .now) (s .args .starts .now) (s .args .codes .now) (s .args .fixed .now) in
     let a = s .args in
     let u = rw (c .before .before .before .before .before .before .chips .ensures) at (c .before .before .before .before .set-aside .ensures) in
     rw (c .before .before .before .before .before .before .chips .ensures) (chips-kept (a .mesh .now) (c .before .before .before .before .set-aside .last .0) (u .head), round-due t (s .args .mesh .now) (s .args .log .now) (sym (c .before .before .before .before .before .before .before .before .before .before .round-refusal .ensures ∙ round-number (s .args .mesh .now) t (s .args .tested) (s .pre) (length (s .args .log .now))) ∙ c .before .before .before .before .before .before .before .before .before .if1 .left) _ u)
 
 round-over-requires : tie.Need-round-over-requires
 round-over-requires c κs =
-    let s = c .before .before .before .before .before .before .before .before .before .before .before .before .before .before .before .before .before .before .before .before .before .before .before in
-    let t = tablesOf (s .args .rows .now) (s .args .starts .now) (s .args .codes .now) in
+    let s = c .before .before .before .before .before .before .before .before .before .before .before .before .before .before .before .before .before .before .before .before .before .before .before .before in
+    let t = tablesOf (s .args .rows .now) (s .args .starts .now) (s .args .codes .now) (s .args .fixed .now) in
     over-requires t (s .args .mesh .now) (s .args .log .now) (sym (c .before .before .before .before .before .before .before .before .before .before .before .before .before .before .before .before .round-refusal .ensures ∙ round-number (s .args .mesh .now) t (s .args .tested) (s .pre) (length (s .args .log .now))) ∙ c .before .before .before .before .before .before .before .before .before .before .before .before .before .before .before .if1 .left) _ (rw (c .before .before .before .before .before .before .before .before .before .before .before .before .chips .ensures) at (c .before .before .before .before .before .before .before .before .before .before .set-aside .ensures)) _ _ _ (rw (c .before .before .before .before .before .before .before .before .before .before .before .before .chips .ensures) at (c .before .before .before .before .before .pass-chips .ensures))
 
-cast-t15 : tie.Need-cast-t15
-cast-t15 c =
-    let s = c .before .before .before .before .before .before .before .before .before .before .before .before .before .before .before .before .before .before .before .before .before .before .before .before .before .before in
-    let t = tablesOf (s .args .rows .now) (s .args .starts .now) (s .args .codes .now) in
+cast-t16 : tie.Need-cast-t16
+cast-t16 c =
+    let s = c .before .before .before .before .before .before .before .before .before .before .before .before .before .before .before .before .before .before .before .before .before .before .before .before .before .before .before in
+    let t = tablesOf (s .args .rows .now) (s .args .starts .now) (s .args .codes .now) (s .args .fixed .now) in
     omega (arith, count-small t (s .args .mesh .now) (s .args .log .now) (sym (c .before .before .before .before .before .before .before .before .before .before .before .before .before .before .before .before .before .before .before .round-refusal .ensures ∙ round-number (s .args .mesh .now) t (s .args .tested) (s .pre) (length (s .args .log .now))) ∙ c .before .before .before .before .before .before .before .before .before .before .before .before .before .before .before .before .before .before .if1 .left) _ (rw (c .before .before .before .before .before .before .before .before .before .before .before .before .before .before .before .chips .ensures) at (c .before .before .before .before .before .before .before .before .before .before .before .before .before .set-aside .ensures)) _ _ _ (rw (c .before .before .before .before .before .before .before .before .before .before .before .before .before .before .before .chips .ensures) at (c .before .before .before .before .before .before .before .before .pass-chips .ensures)))
 
 same-length-2 : tie.Need-same-length-2
@@ -75,8 +75,8 @@ same-length-3 c = search needs
 
 returns-2 : tie.Need-returns-2
 returns-2 c =
-    let s = c .before .before .before .before .before .before .before .before .before .before .before .before .before .before .before .before .before .before .before .before .before .before .before .before .before .before in
-    let t = tablesOf (s .args .rows .now) (s .args .starts .now) (s .args .codes .now) in
+    let s = c .before .before .before .before .before .before .before .before .before .before .before .before .before .before .before .before .before .before .before .before .before .before .before .before .before .before .before in
+    let t = tablesOf (s .args .rows .now) (s .args .starts .now) (s .args .codes .now) (s .args .fixed .now) in
     rw (c .before .before .round-over .ensures) (round-leaves t (s .args .mesh .now) (s .args .log .now) (sym (c .before .before .before .before .before .before .before .before .before .before .before .before .before .before .before .before .before .before .before .round-refusal .ensures ∙ round-number (s .args .mesh .now) t (s .args .tested) (s .pre) (length (s .args .log .now))) ∙ c .before .before .before .before .before .before .before .before .before .before .before .before .before .before .before .before .before .before .if1 .left) _ (rw (c .before .before .before .before .before .before .before .before .before .before .before .before .before .before .before .chips .ensures) at (c .before .before .before .before .before .before .before .before .before .before .before .before .before .set-aside .ensures)) _ _ _ (rw (c .before .before .before .before .before .before .before .before .before .before .before .before .before .before .before .chips .ensures) at (c .before .before .before .before .before .before .before .before .pass-chips .ensures)))
 
 pub round-tested-spec : {M : Type 1} → statement M
@@ -92,7 +92,7 @@ round-tested-spec =
     set-aside-requires
     pass-chips-requires
     round-over-requires
-    cast-t15
+    cast-t16
     same-length-2
     same-length-3
     returns-2)

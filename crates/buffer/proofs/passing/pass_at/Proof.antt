@@ -39,17 +39,17 @@ part-ready-of-end c = search needs
 ready-of-requires : tie.Need-ready-of-requires
 ready-of-requires c κs = search needs
 
-slice-read-t18 : tie.Need-slice-read-t18
-slice-read-t18 c = search needs
+slice-read-t19 : tie.Need-slice-read-t19
+slice-read-t19 c = search needs
 
-slice-read-t20 : tie.Need-slice-read-t20
-slice-read-t20 c = search needs
+slice-read-t21 : tie.Need-slice-read-t21
+slice-read-t21 c = search needs
 
-slice-read-t22 : tie.Need-slice-read-t22
-slice-read-t22 c = search needs
+slice-read-t23 : tie.Need-slice-read-t23
+slice-read-t23 c = search needs
 
-slice-read-t24 : tie.Need-slice-read-t24
-slice-read-t24 c = search needs
+slice-read-t25 : tie.Need-slice-read-t25
+slice-read-t25 c = search needs
 
 outcome-of-requires : tie.Need-outcome-of-requires
 outcome-of-requires c κs =
@@ -58,7 +58,7 @@ outcome-of-requires c κs =
     let l = a .mesh .now in
     let at = headerLong + a .chip * chipLong in
     let set : c .before .before .before .before .ready-of .result ≡ readyLinks (chipIn (chipWords (a .chip) l) .lines) = rw (add-sub-cancel-left at chipLong) at (c .before .before .before .before .ready-of .ensures) in
-    let fine : Checked (a .p) (a .source) (chipTables (a .rows .now) (a .codes .now)) (settingIn l (a .chip)) = checked-at l (a .chip) (a .source) (a .p) (chipTables (a .rows .now) (a .codes .now)) r (source-near (a .source) (r .from)) in
+    let fine : Checked (a .p) (a .source) (chipTables (a .rows .now) (a .codes .now) (a .fixed)) (settingIn l (a .chip)) = checked-at l (a .chip) (a .source) (a .p) (chipTables (a .rows .now) (a .codes .now) (a .fixed)) r (source-near (a .source) (r .from)) in
     rw set fine
 
 add-after : tie.Need-add-after
@@ -83,10 +83,10 @@ after-requires c κs =
     let l = a .mesh .now in
     let at = headerLong + a .chip * chipLong in
     let set : c .before .before .before .before .before .before .ready-of .result ≡ readyLinks (chipIn (chipWords (a .chip) l) .lines) = rw (add-sub-cancel-left at chipLong) at (c .before .before .before .before .before .before .ready-of .ensures) in
-    let fine : Checked (a .p) (a .source) (chipTables (a .rows .now) (a .codes .now)) (settingIn l (a .chip)) = checked-at l (a .chip) (a .source) (a .p) (chipTables (a .rows .now) (a .codes .now)) r (source-near (a .source) (r .from)) in
-    let same : c .before .outcome-of .result ≡ outcomeOf (a .p) (a .source) (chipTables (a .rows .now) (a .codes .now)) (settingIn l (a .chip)) =
-    c .before .outcome-of .ensures ∙ ap (λ (n : ℕ). outcomeOf (a .p) (a .source) (chipTables (a .rows .now) (a .codes .now)) (record { width = getD l widthAt 0; height = getD l heightAt 0; monitor = getD l monitorAt 0; phase = getD l phaseAt 0; ready = n })) set in
-    rw (add-sub-cancel-left at chipLong, same) (takes (a .p) (a .source) (chipTables (a .rows .now) (a .codes .now)) (settingIn l (a .chip)) fine (r .from) (chipWords (a .chip) l) (chip-long l (a .chip) (r .fits)) refl)
+    let fine : Checked (a .p) (a .source) (chipTables (a .rows .now) (a .codes .now) (a .fixed)) (settingIn l (a .chip)) = checked-at l (a .chip) (a .source) (a .p) (chipTables (a .rows .now) (a .codes .now) (a .fixed)) r (source-near (a .source) (r .from)) in
+    let same : c .before .outcome-of .result ≡ outcomeOf (a .p) (a .source) (chipTables (a .rows .now) (a .codes .now) (a .fixed)) (settingIn l (a .chip)) =
+    c .before .outcome-of .ensures ∙ ap (λ (n : ℕ). outcomeOf (a .p) (a .source) (chipTables (a .rows .now) (a .codes .now) (a .fixed)) (record { width = getD l widthAt 0; height = getD l heightAt 0; monitor = getD l monitorAt 0; phase = getD l phaseAt 0; ready = n })) set in
+    rw (add-sub-cancel-left at chipLong, same) (takes (a .p) (a .source) (chipTables (a .rows .now) (a .codes .now) (a .fixed)) (settingIn l (a .chip)) fine (r .from) (chipWords (a .chip) l) (chip-long l (a .chip) (r .fits)) refl)
 
 same-length : tie.Need-same-length
 same-length c = search needs
@@ -98,9 +98,9 @@ returns c =
     let l = a .mesh .now in
     let at = headerLong + a .chip * chipLong in
     let set : c .before .before .before .before .before .before .before .before .before .ready-of .result ≡ readyLinks (chipIn (chipWords (a .chip) l) .lines) = rw (add-sub-cancel-left at chipLong) at (c .before .before .before .before .before .before .before .before .before .ready-of .ensures) in
-    let fine : Checked (a .p) (a .source) (chipTables (a .rows .now) (a .codes .now)) (settingIn l (a .chip)) = checked-at l (a .chip) (a .source) (a .p) (chipTables (a .rows .now) (a .codes .now)) r (source-near (a .source) (r .from)) in
-    let same : c .before .before .before .before .outcome-of .result ≡ outcomeOf (a .p) (a .source) (chipTables (a .rows .now) (a .codes .now)) (settingIn l (a .chip)) =
-    c .before .before .before .before .outcome-of .ensures ∙ ap (λ (n : ℕ). outcomeOf (a .p) (a .source) (chipTables (a .rows .now) (a .codes .now)) (record { width = getD l widthAt 0; height = getD l heightAt 0; monitor = getD l monitorAt 0; phase = getD l phaseAt 0; ready = n })) set in
+    let fine : Checked (a .p) (a .source) (chipTables (a .rows .now) (a .codes .now) (a .fixed)) (settingIn l (a .chip)) = checked-at l (a .chip) (a .source) (a .p) (chipTables (a .rows .now) (a .codes .now) (a .fixed)) r (source-near (a .source) (r .from)) in
+    let same : c .before .before .before .before .outcome-of .result ≡ outcomeOf (a .p) (a .source) (chipTables (a .rows .now) (a .codes .now) (a .fixed)) (settingIn l (a .chip)) =
+    c .before .before .before .before .outcome-of .ensures ∙ ap (λ (n : ℕ). outcomeOf (a .p) (a .source) (chipTables (a .rows .now) (a .codes .now) (a .fixed)) (record { width = getD l widthAt 0; height = getD l heightAt 0; monitor = getD l monitorAt 0; phase = getD l phaseAt 0; ready = n })) set in
     (same, rw (add-sub-cancel-left at chipLong) (mesh-step l (c .before .before .after .last .0) (a .chip) (c .before .before .before .before .outcome-of .result) (r .fits) (r .there) (rw (add-sub-cancel-left at chipLong) at (c .before .before .after .ensures))))
 
 pub pass-at-spec : {M : Type 1} → statement M
@@ -115,10 +115,10 @@ pass-at-spec =
     part-ready-of-start
     part-ready-of-end
     ready-of-requires
-    slice-read-t18
-    slice-read-t20
-    slice-read-t22
-    slice-read-t24
+    slice-read-t19
+    slice-read-t21
+    slice-read-t23
+    slice-read-t25
     outcome-of-requires
     add-after
     mul-after

@@ -14,8 +14,11 @@ returns c = simp (sym (c .before .starts-fine .ensures) ∙ not-true _ (c .if1 .
 routes-fine-requires : tie.Need-routes-fine-requires
 routes-fine-requires c κs = search needs
 
+fixed-fine-requires : tie.Need-fixed-fine-requires
+fixed-fine-requires c κs = search needs
+
 returns-2 : tie.Need-returns-2
-returns-2 c = c .routes-fine .ensures ∙ simp (sym (c .before .before .starts-fine .ensures) ∙ not-false _ (c .before .if1 .left), and-true)
+returns-2 c = simp (c .before .routes-fine .ensures, c .fixed-fine .ensures, sym (c .before .before .before .starts-fine .ensures) ∙ not-false _ (c .before .before .if1 .left), and-true)
 
 pub rows-lent-spec : {M : Type 1} → statement M
-rows-lent-spec = tie.close (tie.spec starts-fine-requires returns routes-fine-requires returns-2)
+rows-lent-spec = tie.close (tie.spec starts-fine-requires returns routes-fine-requires fixed-fine-requires returns-2)

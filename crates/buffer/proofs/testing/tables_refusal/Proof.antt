@@ -13,7 +13,7 @@ returns : tie.Need-returns
 returns c = simp (sym (c .before .rows-lent .ensures) ∙ not-true _ (c .if1 .taken))
 
 mul-codes-fine : tie.Need-mul-codes-fine
-mul-codes-fine c = omega (arith, mul-le-mul (c .before .before .before .before .before .pre) (c .before .before .before .before .before .pre))
+mul-codes-fine c = omega (arith, mul-le-mul (c .before .before .before .before .before .before .pre) (c .before .before .before .before .before .before .pre))
 
 codes-fine-requires : tie.Need-codes-fine-requires
 codes-fine-requires c κs = search needs

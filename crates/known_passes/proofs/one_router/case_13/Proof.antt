@@ -37,11 +37,11 @@ slice-aggregate-refused-4 c = search needs
 refused-requires-4 : tie.Need-refused-requires-4
 refused-requires-4 c κs = search needs
 
-slice-aggregate-refused-5 : tie.Need-slice-aggregate-refused-5
-slice-aggregate-refused-5 c = search needs
+slice-aggregate-parity-wrong : tie.Need-slice-aggregate-parity-wrong
+slice-aggregate-parity-wrong c = search needs
 
-refused-requires-5 : tie.Need-refused-requires-5
-refused-requires-5 c κs = search needs
+parity-wrong-requires : tie.Need-parity-wrong-requires
+parity-wrong-requires c κs = search needs
 
 returns : tie.Need-returns
 unfolding case13
@@ -50,7 +50,7 @@ returns c =
     let c₃ = c₄ .before .before in
     let c₂ = c₃ .before .before in
     let c₁ = c₂ .before .before in
-    λ i. c₁ .refused .ensures i && c₂ .refused2 .ensures i && c₃ .refused3 .ensures i && c₄ .refused4 .ensures i && c .refused5 .ensures i
+    λ i. c₁ .refused .ensures i && c₂ .refused2 .ensures i && c₃ .refused3 .ensures i && c₄ .refused4 .ensures i && c .parity-wrong .ensures i
 
 pub case-13-spec : {M : Type 1} → statement M
 case-13-spec =
@@ -67,6 +67,6 @@ case-13-spec =
     refused-requires-3
     slice-aggregate-refused-4
     refused-requires-4
-    slice-aggregate-refused-5
-    refused-requires-5
+    slice-aggregate-parity-wrong
+    parity-wrong-requires
     returns)

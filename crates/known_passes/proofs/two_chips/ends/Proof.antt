@@ -21,6 +21,9 @@ slice-aggregate-round-3 c = search needs
 slice-aggregate-round-4 : tie.Need-slice-aggregate-round-4
 slice-aggregate-round-4 c = search needs
 
+slice-aggregate-round-5 : tie.Need-slice-aggregate-round-5
+slice-aggregate-round-5 c = search needs
+
 round-requires : tie.Need-round-requires
 round-requires c κs = search needs
 
@@ -34,7 +37,7 @@ returns : tie.Need-returns
 unfolding round added ends
 returns c =
     let called = c .before .before .before .before .before .before .before in
-    let a = called .before .before .before .before .before .before .args in
+    let a = called .before .before .before .before .before .before .before .args in
     let e = called .round .ensures in
     let held = round-held (a .mesh .now) (called .round .last .0) (e .buffer) in
     let flies = c .before .before .in-flight .ensures ∙ ap flight held in
@@ -49,6 +52,7 @@ ends-spec =
     slice-aggregate-round-2
     slice-aggregate-round-3
     slice-aggregate-round-4
+    slice-aggregate-round-5
     round-requires
     in-flight-requires
     too-old-requires

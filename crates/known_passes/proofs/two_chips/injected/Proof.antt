@@ -21,6 +21,9 @@ slice-aggregate-inject-4 c = search needs
 slice-aggregate-inject-5 : tie.Need-slice-aggregate-inject-5
 slice-aggregate-inject-5 c = search needs
 
+slice-aggregate-inject-6 : tie.Need-slice-aggregate-inject-6
+slice-aggregate-inject-6 c = search needs
+
 inject-requires : tie.Need-inject-requires
 inject-requires c κs = search needs
 
@@ -28,7 +31,7 @@ returns : tie.Need-returns
 unfolding inject added
 returns c =
     let called = c .before .before .before in
-    let a = called .before .before .before .before .before .before .before .args in
+    let a = called .before .before .before .before .before .before .before .before .args in
     let e = called .inject .ensures in
     (λ i. eqb (e .answered i .refusal) 0 && eqb (e .answered i .added) 0, inject-held (a .mesh .now) _ (a .chip) (e .buffer))
 
@@ -41,5 +44,6 @@ injected-spec =
     slice-aggregate-inject-3
     slice-aggregate-inject-4
     slice-aggregate-inject-5
+    slice-aggregate-inject-6
     inject-requires
     returns)

@@ -19,6 +19,9 @@ slice-aggregate-round-3 c = search needs
 slice-aggregate-round-4 : tie.Need-slice-aggregate-round-4
 slice-aggregate-round-4 c = search needs
 
+slice-aggregate-round-5 : tie.Need-slice-aggregate-round-5
+slice-aggregate-round-5 c = search needs
+
 round-requires : tie.Need-round-requires
 round-requires c κs = search needs
 
@@ -29,7 +32,7 @@ returns : tie.Need-returns
 unfolding round added passesOn
 returns c =
     let called = c .before .before .before .before .before in
-    let a = called .before .before .before .before .before .before .args in
+    let a = called .before .before .before .before .before .before .before .args in
     let e = called .round .ensures in
     let held = round-held (a .mesh .now) (called .round .last .0) (e .buffer) in
     let flies = c .in-flight .ensures ∙ ap flight held in
@@ -43,6 +46,7 @@ passes-on-spec =
     slice-aggregate-round-2
     slice-aggregate-round-3
     slice-aggregate-round-4
+    slice-aggregate-round-5
     round-requires
     in-flight-requires
     returns)

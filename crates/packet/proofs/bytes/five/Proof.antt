@@ -1,4 +1,5 @@
 use borrow.Author.Needs.{needs}
+use Rattle.packet.proofs.Packing.{byte-is}
 use Rattle.packet.proofs.bytes.five.Statement.{statement}
 use Rattle.packet.proofs.bytes.five.Tie as tie
 
@@ -12,7 +13,7 @@ word-at-requires : tie.Need-word-at-requires
 word-at-requires c κs = search needs
 
 returns : tie.Need-returns
-returns c = simp (c .before .wide .ensures .0, c .word-at .ensures, c .before .before .before .before .pre)
+returns c = simp (byte-is _ _ (c .before .wide .ensures .0) (c .before .wide .ensures .1), c .word-at .ensures, c .before .before .before .before .pre)
 
 pub five-spec : {M : Type 1} → statement M
 five-spec = tie.close (tie.spec shared-slice-read-wide wide-requires word-at-requires returns)

@@ -1,4 +1,5 @@
 use borrow.Author.Needs.{needs}
+use Rattle.packet.proofs.Packing.{byte-is}
 use Rattle.packet.proofs.bytes.nine.Statement.{statement}
 use Rattle.packet.proofs.bytes.nine.Tie as tie
 
@@ -15,7 +16,7 @@ word-at-requires-2 : tie.Need-word-at-requires-2
 word-at-requires-2 c κs = search needs
 
 returns : tie.Need-returns
-returns c = simp (c .before .before .wide .ensures .0, c .before .word-at .ensures, c .word-at2 .ensures, c .before .before .before .before .before .pre)
+returns c = simp (byte-is _ _ (c .before .before .wide .ensures .0) (c .before .before .wide .ensures .1), c .before .word-at .ensures, c .word-at2 .ensures, c .before .before .before .before .before .pre)
 
 pub nine-spec : {M : Type 1} → statement M
 nine-spec =

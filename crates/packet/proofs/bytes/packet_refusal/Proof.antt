@@ -1,10 +1,9 @@
 use borrow.Author.Needs.{needs}
 use mathlib.Core.Path.{_≡_, _∙_, sym, ap}
 use mathlib.Core.Bool.{true, false}
-use lib.ListN.{getD}
 use borrow.Author.Tests.{ne-eqb}
 use Rattle.packet.specs.declared.Taken.{Taken}
-use Rattle.packet.specs.Bytes.{takenOf}
+use Rattle.packet.specs.Bytes.{controlAt, takenOf}
 use Rattle.packet.specs.Control.{isDirect}
 use Rattle.packet.proofs.Refusals.{taken-whole, packet-first}
 use Rattle.packet.proofs.bytes.packet_refusal.Statement.{statement}
@@ -28,7 +27,7 @@ returns-2 c =
     let bytes = c .before .before .before .before .before .before .before .args .bytes .now in
     let whole = taken-whole (c .before .before .before .before .before .before .before .args .bytes .now) (c .before .before .before .before .before .take .result) (c .before .before .before .before .before .take .ensures) (c .before .before .before .if1 .left) in
     let none : takenOf bytes .refusal ≡ 0 = ap (λ (x : Taken). x .refusal) (sym (c .before .before .before .before .before .take .ensures) ∙ whole) in
-    let direct : isDirect (getD bytes 0 0) ≡ true = sym (c .before .is-direct .ensures ∙ ap (λ (x : Taken). isDirect (x .packet .control)) whole) ∙ c .if2 .taken in
+    let direct : isDirect (controlAt bytes) ≡ true = sym (c .before .is-direct .ensures ∙ ap (λ (x : Taken). isDirect (x .packet .control)) whole) ∙ c .if2 .taken in
     sym (packet-first bytes ∙ simp (none, direct))
 
 returns-3 : tie.Need-returns-3
@@ -36,7 +35,7 @@ returns-3 c =
     let bytes = c .before .before .before .before .before .before .before .args .bytes .now in
     let whole = taken-whole (c .before .before .before .before .before .before .before .args .bytes .now) (c .before .before .before .before .before .take .result) (c .before .before .before .before .before .take .ensures) (c .before .before .before .if1 .left) in
     let none : takenOf bytes .refusal ≡ 0 = ap (λ (x : Taken). x .refusal) (sym (c .before .before .before .before .before .take .ensures) ∙ whole) in
-    let direct : isDirect (getD bytes 0 0) ≡ false = sym (c .before .is-direct .ensures ∙ ap (λ (x : Taken). isDirect (x .packet .control)) whole) ∙ c .if2 .left in
+    let direct : isDirect (controlAt bytes) ≡ false = sym (c .before .is-direct .ensures ∙ ap (λ (x : Taken). isDirect (x .packet .control)) whole) ∙ c .if2 .left in
     sym (packet-first bytes ∙ simp (none, direct))
 
 pub packet-refusal-spec : {M : Type 1} → statement M

@@ -7,20 +7,20 @@ use Rattle.packet.proofs.bytes.take.Tie as tie
 five-requires : tie.Need-five-requires
 five-requires c κs = search needs
 
-used-requires : tie.Need-used-requires
-used-requires c κs = search needs
+taken-requires : tie.Need-taken-requires
+taken-requires c κs = search needs
 
 returns : tie.Need-returns
-returns c = c .used .ensures ∙ simp (c .before .five .ensures, c .before .before .if1 .taken)
+returns c = c .taken .ensures ∙ simp (c .before .five .ensures, c .before .before .if1 .taken)
 
 nine-requires : tie.Need-nine-requires
 nine-requires c κs = search needs
 
-used-requires-2 : tie.Need-used-requires-2
-used-requires-2 c κs = search needs
+taken-requires-2 : tie.Need-taken-requires-2
+taken-requires-2 c κs = search needs
 
 returns-2 : tie.Need-returns-2
-returns-2 c = c .used2 .ensures ∙ simp (c .before .nine .ensures, c .before .before .if2 .taken)
+returns-2 c = c .taken2 .ensures ∙ simp (c .before .nine .ensures, c .before .before .if2 .taken)
 
 not-taken-requires : tie.Need-not-taken-requires
 not-taken-requires c κs = search needs
@@ -33,10 +33,10 @@ take-spec =
     tie.close
     (tie.spec
     five-requires
-    used-requires
+    taken-requires
     returns
     nine-requires
-    used-requires-2
+    taken-requires-2
     returns-2
     not-taken-requires
     returns-3)

@@ -50,7 +50,7 @@ returns-2 c =
     let passed = c .before .before .before .before .before .before in
     let start = passed .before .before in
     c .bytes-of .ensures
-    ∙ rw (c .before .packet-with .ensures) (packs-as (start .args .f) (simp (start .pre .0, start .pre .1, sym (passed .before .p2p-in-range .ensures) ∙ not-false _ (passed .if1 .left))) (omega arith) _ _ (simp (start .pre .0) (omega arith)) (simp (start .pre .0)))
+    ∙ rw (c .before .packet-with .ensures) (packs-as (start .args .f) (simp (start .pre .0, start .pre .1, sym (passed .before .p2p-in-range .ensures) ∙ not-false _ (passed .if1 .left))) _ _ (simp (start .pre .0) (omega arith)) (simp (start .pre .0)))
 
 pub p2p-packed-spec : {M : Type 1} → statement M
 p2p-packed-spec =

@@ -1,7 +1,8 @@
 use borrow.Author.Needs.{needs}
 use borrow.Author.Tests.{not-true, not-false, le-ltb}
 use mathlib.Core.Bool.{and-false}
-use mathlib.Core.Path.{sym, _∙_}
+use mathlib.Core.Path.{_≡_, sym, _∙_}
+use mathlib.Core.Logic.{inl, inr}
 use native.Mathlib.Omega.{arith}
 use Rattle.packet.specs.Packing.{packedOf}
 use Rattle.packet.proofs.reading.pack.Statement.{statement}
@@ -17,17 +18,14 @@ returns : tie.Need-returns
 unfolding packedOf
 returns c = c .not-packed .ensures ∙ simp (sym (c .before .before .end-in-range .ensures) ∙ not-true _ (c .before .if1 .taken), and-false)
 
-mc-packed-requires : tie.Need-mc-packed-requires
-mc-packed-requires c κs = (c .match .keys1, sym (c .before .before .end-in-range .ensures) ∙ not-false _ (c .before .if1 .left))
+marked-packed-requires : tie.Need-marked-packed-requires
+marked-packed-requires c κs = (c .match .keys1, sym (c .before .before .end-in-range .ensures) ∙ not-false _ (c .before .if1 .left))
 
 p2p-packed-requires : tie.Need-p2p-packed-requires
 p2p-packed-requires c κs = (c .match .keys2, sym (c .before .before .end-in-range .ensures) ∙ not-false _ (c .before .if1 .left))
 
 nn-packed-requires : tie.Need-nn-packed-requires
 nn-packed-requires c κs = (c .match .keys3, sym (c .before .before .end-in-range .ensures) ∙ not-false _ (c .before .if1 .left))
-
-unused-packed-requires : tie.Need-unused-packed-requires
-unused-packed-requires c κs = (c .match .keys4, sym (c .before .before .end-in-range .ensures) ∙ not-false _ (c .before .if1 .left))
 
 not-packed-requires-2 : tie.Need-not-packed-requires-2
 not-packed-requires-2 c κs = search needs
@@ -42,11 +40,12 @@ returns-4 : tie.Need-returns-4
 returns-4 c = search needs
 
 returns-5 : tie.Need-returns-5
-returns-5 c = search needs
-
-returns-6 : tie.Need-returns-6
 unfolding packedOf
-returns-6 c = c .not-packed2 .ensures ∙ simp (le-ltb (c .before .before .before .before .args .f .kind) 4 (omega arith))
+returns-5 c =
+    let none = c .before .match .rest in
+    let neither : c .before .before .before .before .args .f .kind ≡ 0 → ⊥ = λ e. none .0 .0 .1 (inl e) in
+    let nor : c .before .before .before .before .args .f .kind ≡ 3 → ⊥ = λ e. none .0 .0 .1 (inr e) in
+    c .not-packed2 .ensures ∙ simp (le-ltb (c .before .before .before .before .args .f .kind) 4 (omega arith))
 
 pub pack-spec : {M : Type 1} → statement M
 pack-spec =
@@ -55,13 +54,11 @@ pack-spec =
     end-in-range-requires
     not-packed-requires
     returns
-    mc-packed-requires
+    marked-packed-requires
     p2p-packed-requires
     nn-packed-requires
-    unused-packed-requires
     not-packed-requires-2
     returns-2
     returns-3
     returns-4
-    returns-5
-    returns-6)
+    returns-5)

@@ -1,9 +1,8 @@
 use borrow.Author.Needs.{needs}
 use mathlib.Core.Path.{_≡_, sym, ap, _∙_}
 use mathlib.Core.Bool.{true, false}
-use lib.ListN.{getD}
 use Rattle.packet.specs.Refusal.{firstOf}
-use Rattle.packet.specs.Bytes.{takenOf}
+use Rattle.packet.specs.Bytes.{controlAt, takenOf}
 use Rattle.packet.specs.Control.{isDirect}
 use Rattle.router.specs.Call.{settingRefusals}
 use Rattle.packet.specs.declared.Taken.{Taken}
@@ -39,20 +38,20 @@ returns-3 c =
     let a = c .before .before .before .before .before .before .before .before .before .before .before .before .args in
     let bytes = a .bytes .now in
     let whole = taken-whole bytes (c .before .before .before .before .before .before .take .result) (c .before .before .before .before .before .before .take .ensures) (c .before .before .before .before .if2 .left) in
-    let none : firstOf (settingRefusals (a .source) (chipTables (a .rows .now) (a .codes .now)) (a .t)) ≡ 0 = sym (c .before .before .before .before .before .before .before .before .setting-refusal .ensures) ∙ c .before .before .before .before .before .before .before .if1 .left in
-    let direct : isDirect (getD bytes 0 0) ≡ true = sym (c .before .before .is-direct .ensures ∙ ap (λ (x : Taken). isDirect (x .packet .control)) whole) ∙ c .before .if3 .taken in
+    let none : firstOf (settingRefusals (a .source) (chipTables (a .rows .now) (a .codes .now) (a .fixed)) (a .t)) ≡ 0 = sym (c .before .before .before .before .before .before .before .before .setting-refusal .ensures) ∙ c .before .before .before .before .before .before .before .if1 .left in
+    let direct : isDirect (controlAt bytes) ≡ true = sym (c .before .before .is-direct .ensures ∙ ap (λ (x : Taken). isDirect (x .packet .control)) whole) ∙ c .before .if3 .taken in
     let taken : takenOf bytes .refusal ≡ 0 = ap (λ (x : Taken). x .refusal) (sym (c .before .before .before .before .before .before .take .ensures) ∙ whole) in
-    c .not-taken2 .ensures ∙ sym (refused-direct bytes (a .source) (chipTables (a .rows .now) (a .codes .now)) (a .t) none taken direct)
+    c .not-taken2 .ensures ∙ sym (refused-direct bytes (a .source) (chipTables (a .rows .now) (a .codes .now) (a .fixed)) (a .t) none taken direct)
 
 returns-4 : tie.Need-returns-4
 returns-4 c =
     let a = c .before .before .before .before .before .before .before .before .before .before .before .args in
     let bytes = a .bytes .now in
     let whole = taken-whole bytes (c .before .before .before .before .before .take .result) (c .before .before .before .before .before .take .ensures) (c .before .before .before .if2 .left) in
-    let none : firstOf (settingRefusals (a .source) (chipTables (a .rows .now) (a .codes .now)) (a .t)) ≡ 0 = sym (c .before .before .before .before .before .before .before .setting-refusal .ensures) ∙ c .before .before .before .before .before .before .if1 .left in
-    let direct : isDirect (getD bytes 0 0) ≡ false = sym (c .before .is-direct .ensures ∙ ap (λ (x : Taken). isDirect (x .packet .control)) whole) ∙ c .if3 .left in
+    let none : firstOf (settingRefusals (a .source) (chipTables (a .rows .now) (a .codes .now) (a .fixed)) (a .t)) ≡ 0 = sym (c .before .before .before .before .before .before .before .setting-refusal .ensures) ∙ c .before .before .before .before .before .before .if1 .left in
+    let direct : isDirect (controlAt bytes) ≡ false = sym (c .before .is-direct .ensures ∙ ap (λ (x : Taken). isDirect (x .packet .control)) whole) ∙ c .if3 .left in
     let taken : takenOf bytes .refusal ≡ 0 = ap (λ (x : Taken). x .refusal) (sym (c .before .before .before .before .before .take .ensures) ∙ whole) in
-    whole ∙ sym (accepted bytes (a .source) (chipTables (a .rows .now) (a .codes .now)) (a .t) none taken direct)
+    whole ∙ sym (accepted bytes (a .source) (chipTables (a .rows .now) (a .codes .now) (a .fixed)) (a .t) none taken direct)
 
 pub checked-spec : {M : Type 1} → statement M
 checked-spec =

@@ -1,6 +1,8 @@
 use borrow.Author.Needs.{needs}
 use mathlib.Core.Path.{sym, ap, _∙_}
 use Prim.Native.Nat.{_<_}
+use native.Mathlib.Nat.{mod-lt}
+use lib.Dec.{lit<}
 use Rattle.router.proofs.Inputs.{checked, passed}
 use Rattle.router.proofs.Shown.{answer-shown, unless-none, unless-sets}
 use Rattle.router.specs.Showing.{passShown}
@@ -17,24 +19,24 @@ outcome-unless-requires : tie.Need-outcome-unless-requires
 outcome-unless-requires c κs =
     let a = c .before .before .before .before .before .args in
     λ none.
-    let t = passed (c .before .before .before .before .before .args .bytes .now) (c .before .before .before .before .before .args .source) (chipTables (a .rows .now) (a .codes .now)) (c .before .before .before .before .before .args .t) (sym (ap (λ (x : Taken). x .refusal) (c .before .checked .ensures)) ∙ none) in
+    let t = passed (c .before .before .before .before .before .args .bytes .now) (c .before .before .before .before .before .args .source) (chipTables (a .rows .now) (a .codes .now) (a .fixed)) (c .before .before .before .before .before .args .t) (sym (ap (λ (x : Taken). x .refusal) (c .before .checked .ensures)) ∙ none) in
     let control : c .before .checked .result .packet .control < 256 =
-    rw (c .before .checked .ensures ∙ t .packet) (c .before .before .before .before .shared-slice-known .given 0 .fits) in
-    checked _ _ (chipTables (a .rows .now) (a .codes .now)) _ control (t .tests)
+    rw (c .before .checked .ensures ∙ t .packet) (mod-lt _ (lit< tt)) in
+    checked _ _ (chipTables (a .rows .now) (a .codes .now) (a .fixed)) _ control (t .tests)
 
 shown-requires : tie.Need-shown-requires
 shown-requires c κs =
     let a = c .before .before .before .before .before .before .args in
-    let s = unless-sets (c .before .before .checked .result) (a .source) (chipTables (a .rows .now) (a .codes .now)) (a .t) in
-    rw (c .outcome-unless .ensures) (unless-none (c .before .before .checked .result) (a .source) (chipTables (a .rows .now) (a .codes .now)) (a .t), (s .sent, (s .dropped, s .lost)))
+    let s = unless-sets (c .before .before .checked .result) (a .source) (chipTables (a .rows .now) (a .codes .now) (a .fixed)) (a .t) in
+    rw (c .outcome-unless .ensures) (unless-none (c .before .before .checked .result) (a .source) (chipTables (a .rows .now) (a .codes .now) (a .fixed)) (a .t), (s .sent, (s .dropped, s .lost)))
 
 returns : tie.Need-returns
 unfolding passOf
 returns c =
     let a = c .before .before .before .before .before .before .before .args in
     c .shown .ensures ∙ ap (passShown _) (c .before .outcome-unless .ensures)
-    ∙ answer-shown (c .before .before .before .checked .result) (a .source) (chipTables (a .rows .now) (a .codes .now)) (a .t)
-    ∙ ap (λ (x : Taken). answer x (a .source) (chipTables (a .rows .now) (a .codes .now)) (a .t)) (c .before .before .before .checked .ensures)
+    ∙ answer-shown (c .before .before .before .checked .result) (a .source) (chipTables (a .rows .now) (a .codes .now) (a .fixed)) (a .t)
+    ∙ ap (λ (x : Taken). answer x (a .source) (chipTables (a .rows .now) (a .codes .now) (a .fixed)) (a .t)) (c .before .before .before .checked .ensures)
 
 pub pass-spec : {M : Type 1} → statement M
 pass-spec = tie.close (tie.spec checked-requires outcome-unless-requires shown-requires returns)

@@ -31,7 +31,7 @@ returns c =
     let errors = c .before .before .before .before .before .errors-of .result in
     let wanted =
     c .before .wanted-given .ensures
-    ∙ wanted-by-rows errors (a .p) (a .source) (chipTables (a .rows .now) (a .codes .now)) (a .t) _ _ (c .before .before .before .by-rows .ensures) (c .before .before .looked-up .ensures) in
+    ∙ wanted-by-rows errors (a .p) (a .source) (chipTables (a .rows .now) (a .codes .now) (a .fixed)) (a .t) _ _ (c .before .before .before .by-rows .ensures) (c .before .before .looked-up .ensures) in
     c .decide .ensures ∙ simp (wanted, c .before .before .before .before .stamped-of .ensures, c .before .before .before .before .before .errors-of .ensures .0)
 
 pub outcome-of-spec : {M : Type 1} → statement M

@@ -8,32 +8,32 @@ use Rattle.trace.proofs.MadeCalls.{made-injection, made-round, made-cha
 use Rattle.trace.proofs.making.make.Statement.{statement}
 use Rattle.trace.proofs.making.make.Tie as tie
 
-array-read-t17 : tie.Need-array-read-t17
-array-read-t17 c = search needs
+array-read-t18 : tie.Need-array-read-t18
+array-read-t18 c = search needs
 
-array-read-t20 : tie.Need-array-read-t20
-array-read-t20 c = search needs
+array-read-t21 : tie.Need-array-read-t21
+array-read-t21 c = search needs
 
-array-read-t23 : tie.Need-array-read-t23
-array-read-t23 c = search needs
+array-read-t24 : tie.Need-array-read-t24
+array-read-t24 c = search needs
 
-array-read-t26 : tie.Need-array-read-t26
-array-read-t26 c = search needs
+array-read-t27 : tie.Need-array-read-t27
+array-read-t27 c = search needs
 
-array-read-t29 : tie.Need-array-read-t29
-array-read-t29 c = search needs
+array-read-t30 : tie.Need-array-read-t30
+array-read-t30 c = search needs
 
-array-read-t32 : tie.Need-array-read-t32
-array-read-t32 c = search needs
+array-read-t33 : tie.Need-array-read-t33
+array-read-t33 c = search needs
 
-array-read-t35 : tie.Need-array-read-t35
-array-read-t35 c = search needs
+array-read-t36 : tie.Need-array-read-t36
+array-read-t36 c = search needs
 
-array-read-t38 : tie.Need-array-read-t38
-array-read-t38 c = search needs
+array-read-t39 : tie.Need-array-read-t39
+array-read-t39 c = search needs
 
-array-read-t41 : tie.Need-array-read-t41
-array-read-t41 c = search needs
+array-read-t42 : tie.Need-array-read-t42
+array-read-t42 c = search needs
 
 cast-size : tie.Need-cast-size
 cast-size c = search needs
@@ -42,7 +42,7 @@ array-share-prefix-packet : tie.Need-array-share-prefix-packet
 array-share-prefix-packet c = search needs
 
 slice-aggregate-inject-tested : tie.Need-slice-aggregate-inject-tested
-slice-aggregate-inject-tested c = sym (length-take-le (c .before .before .before .before .before .before .before .before .before .before .before .args .call .length) (nineOf (c .before .before .before .before .before .before .before .before .before .before .before .args .call .bytes)) (c .before .before .before .before .before .before .before .before .before .before .before .pre .0))
+slice-aggregate-inject-tested c = sym (length-take-le (c .before .before .before .before .before .before .before .before .before .before .before .before .args .call .length) (nineOf (c .before .before .before .before .before .before .before .before .before .before .before .before .args .call .bytes)) (c .before .before .before .before .before .before .before .before .before .before .before .before .pre .0))
 
 inject-tested-requires : tie.Need-inject-tested-requires
 inject-tested-requires c κs = search needs
@@ -51,10 +51,10 @@ round-tested-requires : tie.Need-round-tested-requires
 round-tested-requires c κs = search needs
 
 set-link-tested-requires : tie.Need-set-link-tested-requires
-set-link-tested-requires c κs = ap (λ (x : Tested). x .holds) (c .before .before .before .before .before .before .before .before .pre .1)
+set-link-tested-requires c κs = ap (λ (x : Tested). x .holds) (c .before .before .before .before .before .before .before .before .before .pre .1)
 
 read-registers-tested-requires : tie.Need-read-registers-tested-requires
-read-registers-tested-requires c κs = ap (λ (x : Tested). x .holds) (c .before .before .before .before .before .before .before .pre .1)
+read-registers-tested-requires c κs = ap (λ (x : Tested). x .holds) (c .before .before .before .before .before .before .before .before .pre .1)
 
 same-length : tie.Need-same-length
 same-length c = search needs
@@ -64,8 +64,8 @@ same-length-2 c = search needs
 
 returns : tie.Need-returns
 returns c =
-    let s = c .before .before .before .before .before .before .before .before .before .before .before .before .before .before .before .before in
-    let t = tablesOf (s .args .rows .now) (s .args .starts .now) (s .args .codes .now) in
+    let s = c .before .before .before .before .before .before .before .before .before .before .before .before .before .before .before .before .before in
+    let t = tablesOf (s .args .rows .now) (s .args .starts .now) (s .args .codes .now) (s .args .fixed .now) in
     made-injection t (s .args .mesh .now) (s .args .log .now) (s .args .call) _ _ _ (c .before .before .before .before .before .before .before .before .before .before .match .keys1) (c .before .before .before .before .inject-tested .ensures)
 
 same-length-3 : tie.Need-same-length-3
@@ -76,8 +76,8 @@ same-length-4 c = search needs
 
 returns-2 : tie.Need-returns-2
 returns-2 c =
-    let s = c .before .before .before .before .before .before .before .before .before .before .before .before .before in
-    let t = tablesOf (s .args .rows .now) (s .args .starts .now) (s .args .codes .now) in
+    let s = c .before .before .before .before .before .before .before .before .before .before .before .before .before .before in
+    let t = tablesOf (s .args .rows .now) (s .args .starts .now) (s .args .codes .now) (s .args .fixed .now) in
     made-round t (s .args .mesh .now) (s .args .log .now) (s .args .call) _ _ _ (c .before .before .before .before .before .before .before .match .keys2) (c .before .before .before .before .round-tested .ensures)
 
 same-length-5 : tie.Need-same-length-5
@@ -85,8 +85,8 @@ same-length-5 c = search needs
 
 returns-3 : tie.Need-returns-3
 returns-3 c =
-    let s = c .before .before .before .before .before .before .before .before .before .before .before in
-    let t = tablesOf (s .args .rows .now) (s .args .starts .now) (s .args .codes .now) in
+    let s = c .before .before .before .before .before .before .before .before .before .before .before .before in
+    let t = tablesOf (s .args .rows .now) (s .args .starts .now) (s .args .codes .now) (s .args .fixed .now) in
     made-change t (s .args .mesh .now) (s .args .log .now) (s .args .call) _ (c .before .before .before .before .before .match .keys3) _ (c .before .before .set-link-tested .ensures .0) (c .before .before .set-link-tested .ensures .1)
 
 same-length-6 : tie.Need-same-length-6
@@ -94,23 +94,23 @@ same-length-6 c = search needs
 
 returns-4 : tie.Need-returns-4
 returns-4 c =
-    let s = c .before .before .before .before .before .before .before .before .before .before in
-    let t = tablesOf (s .args .rows .now) (s .args .starts .now) (s .args .codes .now) in
+    let s = c .before .before .before .before .before .before .before .before .before .before .before in
+    let t = tablesOf (s .args .rows .now) (s .args .starts .now) (s .args .codes .now) (s .args .fixed .now) in
     made-read t (s .args .mesh .now) (s .args .log .now) (s .args .call) _ (c .before .before .before .before .match .rest .0 .0 .1) (c .before .before .before .before .match .rest .0 .1) (c .before .before .before .before .match .rest .1) _ (c .before .before .read-registers-tested .ensures .0) (c .before .before .read-registers-tested .ensures .1)
 
 pub make-spec : {M : Type 1} → statement M
 make-spec =
     tie.close
     (tie.spec
-    array-read-t17
-    array-read-t20
-    array-read-t23
-    array-read-t26
-    array-read-t29
-    array-read-t32
-    array-read-t35
-    array-read-t38
-    array-read-t41
+    array-read-t18
+    array-read-t21
+    array-read-t24
+    array-read-t27
+    array-read-t30
+    array-read-t33
+    array-read-t36
+    array-read-t39
+    array-read-t42
     cast-size
     array-share-prefix-packet
     slice-aggregate-inject-tested
