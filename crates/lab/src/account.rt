@@ -6,7 +6,7 @@ use super::telling::text;
 use buffer::looking::look_flight;
 use buffer::looking::read_counter;
 use libc::STDOUT_FILENO;
-use packet::control::kind_of;
+use packet::control::is_marked;
 use packet::control::mark_of;
 use script::say;
 use sheet::board::WORDS;
@@ -143,7 +143,7 @@ fn weight_at(mesh: &[u32; WORDS], chip: u32, link: u32, place: u32) -> u64 {
         return 0;
     }
     let p = f.packet;
-    if (kind_of(p.control) == 0) & (mark_of(p.control) == 1) {
+    if is_marked(p.control) & (mark_of(p.control) == 1) {
         2
     } else {
         1

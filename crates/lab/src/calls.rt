@@ -38,6 +38,7 @@ pub fn send(
     rows: &[u32],
     starts: &[u32],
     codes: &[u8],
+    fixed: &[u32],
 ) -> Course {
     let a = inject(
         mesh,
@@ -47,6 +48,7 @@ pub fn send(
         rows,
         starts,
         codes,
+        fixed,
     );
     let mut c = answered(before, a.refusal);
     if a.refusal == 0 {
@@ -70,11 +72,12 @@ pub fn rounds(
     rows: &[u32],
     starts: &[u32],
     codes: &[u8],
+    fixed: &[u32],
 ) -> Course {
     let mut c = before;
     let mut left = count;
     while left > 0 {
-        c = one_round(c, mesh, log, rows, starts, codes);
+        c = one_round(c, mesh, log, rows, starts, codes, fixed);
         if c.refused != before.refused {
             break;
         }
@@ -91,8 +94,9 @@ pub fn until_quiet(
     rows: &[u32],
     starts: &[u32],
     codes: &[u8],
+    fixed: &[u32],
 ) -> Course {
-    let c = rounds_until_quiet(before, mesh, log, rows, starts, codes);
+    let c = rounds_until_quiet(before, mesh, log, rows, starts, codes, fixed);
     if (c.refused == before.refused) & !is_quiet(mesh) {
         text(b"packets are still in flight\n");
     }
@@ -106,6 +110,7 @@ fn rounds_until_quiet(
     rows: &[u32],
     starts: &[u32],
     codes: &[u8],
+    fixed: &[u32],
 ) -> Course {
     let mut c = before;
     let mut left = longest(before);
@@ -113,7 +118,7 @@ fn rounds_until_quiet(
         if is_quiet(mesh) {
             break;
         }
-        c = one_round(c, mesh, log, rows, starts, codes);
+        c = one_round(c, mesh, log, rows, starts, codes, fixed);
         if c.refused != before.refused {
             break;
         }
@@ -138,8 +143,9 @@ pub fn one_round(
     rows: &[u32],
     starts: &[u32],
     codes: &[u8],
+    fixed: &[u32],
 ) -> Course {
-    let a = round(mesh, log, rows, starts, codes);
+    let a = round(mesh, log, rows, starts, codes, fixed);
     let mut c = answered(going_on(before), a.refusal);
     if a.refusal == 0 {
         c.rounds = wrapping_add_u64(c.rounds, 1);

@@ -12,6 +12,7 @@ use script::complaints::err;
 use script::lines::LINE;
 use script::pieces::PIECE;
 use script::words::same;
+use sheet::board::CHIPS;
 use sheet::board::CODES;
 use sheet::board::LOG;
 use sheet::board::ROWS;
@@ -32,6 +33,7 @@ pub fn command(
     rows: &mut [u32; ROWS],
     starts: &mut [u32; STARTS],
     codes: &mut [u8; CODES],
+    fixed: &mut [u32; CHIPS],
     mesh: &mut [u32; WORDS],
     log: &mut [u32; LOG],
     piece: &mut [u8; PIECE],
@@ -41,9 +43,9 @@ pub fn command(
     let status = if how == SHOW {
         show(piece)
     } else if how == CHECK {
-        check(rows, starts, codes, piece, line)
+        check(rows, starts, codes, fixed, piece, line)
     } else {
-        played(how, rows, starts, codes, mesh, log, piece, line)
+        played(how, rows, starts, codes, fixed, mesh, log, piece, line)
     };
     text(b"status ");
     small(status);
@@ -88,6 +90,7 @@ fn played(
     rows: &mut [u32; ROWS],
     starts: &mut [u32; STARTS],
     codes: &mut [u8; CODES],
+    fixed: &mut [u32; CHIPS],
     mesh: &mut [u32; WORDS],
     log: &mut [u32; LOG],
     piece: &mut [u8; PIECE],
@@ -95,10 +98,10 @@ fn played(
 ) -> u32 {
     if how == NOTHING {
         err(b"what is wanted: lab run FILE, keep FILE TRACE, replay FILE TRACE, show TRACE, ");
-        err(b"where FILE X Y KEY, check FILE or map FILE OUT.svg\n");
+        err(b"where FILE X Y KEY|fixed, check FILE or map FILE OUT.svg\n");
         return 2;
     }
-    play(how, rows, starts, codes, mesh, log, piece, line)
+    play(how, rows, starts, codes, fixed, mesh, log, piece, line)
 }
 
 fn show(piece: &mut [u8; PIECE]) -> u32 {

@@ -6,7 +6,7 @@ use super::telling::small;
 use super::telling::tell_packet;
 use super::telling::text;
 use packet::control::carries_of;
-use packet::control::kind_of;
+use packet::control::is_marked;
 use packet::control::mark_of;
 use script::cells::word_at;
 use sheet::board::LOG;
@@ -83,7 +83,7 @@ fn weight_in_error(d: Delivery, came: bool) -> u64 {
     if d.errors == 0 {
         return 0;
     }
-    if came & (kind_of(d.control) == 0) & (mark_of(d.control) == 1) {
+    if came & is_marked(d.control) & (mark_of(d.control) == 1) {
         2
     } else {
         1

@@ -1,4 +1,4 @@
-// One spike alone in FILE's mesh: every pass of it, told before the round that makes it.
+// One packet alone in FILE's mesh: every pass of it, told before the round that makes it.
 use super::calls::first_bytes;
 use super::calls::is_quiet;
 use super::passes::tell_pass;
@@ -8,8 +8,8 @@ use buffer::looking::look_flight;
 use buffer::moving::inject;
 use buffer::moving::round;
 use mesh::FlightRead;
+use packet::Packet;
 use packet::bytes::bytes_of;
-use script::sendings::spike_of;
 use sheet::board::Board;
 use sheet::board::LOG;
 use sheet::board::WORDS;
@@ -18,21 +18,21 @@ use sheet::sides::beyond;
 use sheet::sides::opposite;
 use std::num::wrapping_add_u64;
 
-// Sends a spike from a chip, and tells each of its passes.
-pub fn follow_spike(
+// Sends a packet from a chip, and tells each of its passes.
+pub fn follow_packet(
     b: Board,
     chip: u32,
-    key: u32,
+    p: Packet,
     mesh: &mut [u32; WORDS],
     log: &mut [u32; LOG],
     rows: &[u32],
     starts: &[u32],
     codes: &[u8],
+    fixed: &[u32],
 ) {
-    let p = spike_of(key);
     let packed = bytes_of(p);
     let bytes = packed.bytes;
-    tell_pass(b, 0, chip, 7, p, 0, mesh, rows, starts, codes);
+    tell_pass(b, 0, chip, 7, p, 0, mesh, rows, starts, codes, fixed);
     inject(
         mesh,
         log,
@@ -41,8 +41,9 @@ pub fn follow_spike(
         rows,
         starts,
         codes,
+        fixed,
     );
-    tell_end(follow(b, mesh, log, rows, starts, codes));
+    tell_end(follow(b, mesh, log, rows, starts, codes, fixed));
 }
 
 fn tell_end(rounds: u64) {
@@ -63,6 +64,7 @@ fn follow(
     rows: &[u32],
     starts: &[u32],
     codes: &[u8],
+    fixed: &[u32],
 ) -> u64 {
     let mut number = 0;
     let mut left = b.phase as u64 * 2 + 1;
@@ -71,8 +73,8 @@ fn follow(
             break;
         }
         number = wrapping_add_u64(number, 1);
-        tell_round(b, number, mesh, rows, starts, codes);
-        round(mesh, log, rows, starts, codes);
+        tell_round(b, number, mesh, rows, starts, codes, fixed);
+        round(mesh, log, rows, starts, codes, fixed);
         left -= 1;
     }
     number
@@ -85,11 +87,12 @@ fn tell_round(
     rows: &[u32],
     starts: &[u32],
     codes: &[u8],
+    fixed: &[u32],
 ) {
     let all = chips(b);
     let mut chip = 0;
     while chip < all {
-        tell_chip(b, number, chip, mesh, rows, starts, codes);
+        tell_chip(b, number, chip, mesh, rows, starts, codes, fixed);
         chip += 1;
     }
 }
@@ -103,6 +106,7 @@ fn tell_chip(
     rows: &[u32],
     starts: &[u32],
     codes: &[u8],
+    fixed: &[u32],
 ) {
     let mut spent = 0;
     let mut n = 0;
@@ -118,6 +122,7 @@ fn tell_chip(
             rows,
             starts,
             codes,
+            fixed,
         );
         n += 1;
     }
@@ -134,13 +139,26 @@ fn tell_arrival(
     rows: &[u32],
     starts: &[u32],
     codes: &[u8],
+    fixed: &[u32],
 ) -> u32 {
     let f = flight_to(b, chip, source, place, mesh);
     if f.refusal != 0 {
         return spent;
     }
     let p = f.packet;
-    tell_pass(b, number, chip, source, p, spent, mesh, rows, starts, codes)
+    tell_pass(
+        b,
+        number,
+        chip,
+        source,
+        p,
+        spent,
+        mesh,
+        rows,
+        starts,
+        codes,
+        fixed,
+    )
 }
 
 // The packet at a place of the link that leads to a chip's link.

@@ -21,6 +21,7 @@ mod telling;
 
 use script::lines::LINE;
 use script::pieces::PIECE;
+use sheet::board::CHIPS;
 use sheet::board::CODES;
 use sheet::board::LOG;
 use sheet::board::ROWS;
@@ -32,6 +33,7 @@ fn main() {
     let mut rows = [0u32; ROWS];
     let mut starts = [0u32; STARTS];
     let mut codes = [6u8; CODES];
+    let mut fixed = [0u32; CHIPS];
     let mut mesh = [0u32; WORDS];
     let mut log = [0u32; LOG];
     let mut piece = [0u8; PIECE];
@@ -40,6 +42,7 @@ fn main() {
         &mut rows,
         &mut starts,
         &mut codes,
+        &mut fixed,
         &mut mesh,
         &mut log,
         &mut piece,

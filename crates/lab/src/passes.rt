@@ -12,10 +12,12 @@ use buffer::looking::look_mesh;
 use libc::STDOUT_FILENO;
 use packet::Packet;
 use packet::bytes::bytes_of;
+use packet::control::is_fixed;
 use packet::control::mark_of;
 use router::Pass;
 use router::call::pass;
 use script::cells::between;
+use script::cells::word_at;
 use script::names::say_link;
 use sheet::board::Board;
 use sheet::board::WORDS;
@@ -41,6 +43,7 @@ pub fn tell_pass(
     rows: &[u32],
     starts: &[u32],
     codes: &[u8],
+    fixed: &[u32],
 ) -> u32 {
     let own = rows_of(chip, rows, starts);
     let o = pass_at(
@@ -52,9 +55,10 @@ pub fn tell_pass(
         mesh,
         own,
         codes,
+        word_at(fixed, chip as usize),
     );
     tell_place(b, round, chip, source);
-    tell_match(own, p.word, source, o.errors, mark_of(p.control));
+    tell_match(own, p, source, o.errors);
     tell_outcome(o, mark_of(p.control));
     after(spent, o.sent, o.leg_sent)
 }
@@ -69,6 +73,7 @@ fn pass_at(
     mesh: &[u32; WORDS],
     rows: &[u32],
     codes: &[u8],
+    fixed: u32,
 ) -> Pass {
     let packed = bytes_of(p);
     let bytes = packed.bytes;
@@ -82,7 +87,14 @@ fn pass_at(
         ready,
     };
     let own = between(codes, from, wrapping_add_usize(from, all as usize));
-    pass(first_bytes(&bytes, packed.length), source, rows, own, t)
+    pass(
+        first_bytes(&bytes, packed.length),
+        source,
+        rows,
+        own,
+        fixed,
+        t,
+    )
 }
 
 fn tell_place(b: Board, round: u64, chip: u32, source: u32) {
@@ -98,17 +110,21 @@ fn tell_place(b: Board, round: u64, chip: u32, source: u32) {
     }
 }
 
-// The row that takes the key, or what else decides. A packet in error asks no row, nor does one marked 10.
-fn tell_match(rows: &[u32], key: u32, source: u32, errors: u32, mark: u32) {
+// The row that takes the key, or what else decides. A packet in error asks no row, nor does one marked 10, nor a fixed-route packet.
+fn tell_match(rows: &[u32], p: Packet, source: u32, errors: u32) {
     if errors != 0 {
         tell_errors(errors);
         return;
     }
-    if mark == 2 {
+    if mark_of(p.control) == 2 {
         text(b"  on its detour");
         return;
     }
-    match first_match(rows, key) {
+    if is_fixed(p.control) {
+        text(b"  fixed route");
+        return;
+    }
+    match first_match(rows, p.word) {
         Found::At(n) => tell_row(n),
         Found::Nothing => tell_no_row(source),
     }

@@ -2,17 +2,22 @@
 use super::account::tell_account;
 use super::course::Course;
 use super::course::course_on;
-use super::following::follow_spike;
+use super::following::follow_packet;
 use super::picture::draw;
 use super::replaying::replay_trace;
 use super::running::run_file;
 use buffer::opening::open;
+use packet::Packet;
 use script::cells::between;
 use script::complaints::err;
 use script::lines::LINE;
 use script::numbers::Value;
 use script::pieces::PIECE;
+use script::sendings::fixed_of;
+use script::sendings::spike_of;
+use script::words::same;
 use sheet::board::Board;
+use sheet::board::CHIPS;
 use sheet::board::CODES;
 use sheet::board::LOG;
 use sheet::board::NO_CHIP;
@@ -46,6 +51,7 @@ pub fn play(
     rows: &mut [u32; ROWS],
     starts: &mut [u32; STARTS],
     codes: &mut [u8; CODES],
+    fixed: &mut [u32; CHIPS],
     mesh: &mut [u32; WORDS],
     log: &mut [u32; LOG],
     piece: &mut [u8; PIECE],
@@ -54,7 +60,7 @@ pub fn play(
     let mut path = [0u8; PATH];
     let n = os::arg(2, &mut path);
     let file = path_in(&path, n);
-    let r = read_file(file, rows, starts, codes, piece, line);
+    let r = read_file(file, rows, starts, codes, fixed, piece, line);
     if r.wrong != 0 {
         return 2;
     }
@@ -71,6 +77,7 @@ pub fn play(
         rows,
         starts,
         codes,
+        fixed,
         piece,
         line,
     )
@@ -87,14 +94,16 @@ fn play_tables(
     rows: &[u32],
     starts: &[u32],
     codes: &[u8],
+    fixed: &[u32],
     piece: &mut [u8; PIECE],
     line: &mut [u8; LINE],
 ) -> u32 {
     let own = first_words(rows, word_of(count));
     let begin = first_words(starts, chips(b) as usize + 1);
     let all = between(codes, 0, times(chips(b), chips(b)) as usize);
+    let routes = first_words(fixed, chips(b) as usize);
     if how == WHERE {
-        return play_where(file, b, mesh, log, own, begin, all, piece, line);
+        return play_where(file, b, mesh, log, own, begin, all, routes, piece, line);
     }
     let mut path = [0u8; PATH];
     let n = os::arg(3, &mut path);
@@ -108,12 +117,13 @@ fn play_tables(
         own,
         begin,
         all,
+        routes,
         piece,
         line,
     )
 }
 
-// Sets the links as FILE has them, and follows the spike that the arguments name.
+// Sets the links as FILE has them, and follows the packet that the arguments name.
 fn play_where(
     file: &[u8],
     b: Board,
@@ -122,15 +132,17 @@ fn play_where(
     rows: &[u32],
     starts: &[u32],
     codes: &[u8],
+    fixed: &[u32],
     piece: &mut [u8; PIECE],
     line: &mut [u8; LINE],
 ) -> u32 {
     let chip = chip_asked(b);
-    let key = number_of_arg(5);
-    if (chip == NO_CHIP) | !key.good {
+    let asked = packet_asked();
+    if (chip == NO_CHIP) | !asked.good {
         err(
-            b"where FILE X Y KEY: X and Y are those of a chip, and KEY is a number up to 0xffffffff\n",
+            b"where FILE X Y KEY: X and Y are those of a chip, and KEY is a number up to 0xffffffff, ",
         );
+        err(b"or the word fixed for a fixed-route packet\n");
         return 2;
     }
     let fd = readable(file);
@@ -139,9 +151,10 @@ fn play_where(
     }
     let mut c = course_on(b);
     c.links = true;
-    c = run_file(fd, c, mesh, log, rows, starts, codes, piece, line);
+    c = run_file(fd, c, mesh, log, rows, starts, codes, fixed, piece, line);
     libc::close(fd);
-    follow_spike(b, chip, key.value, mesh, log, rows, starts, codes);
+    let p = asked.packet;
+    follow_packet(b, chip, p, mesh, log, rows, starts, codes, fixed);
     if c.refused == 0 { 0 } else { 1 }
 }
 
@@ -152,6 +165,27 @@ fn chip_asked(b: Board) -> u32 {
         chip_at(b, x.value, y.value)
     } else {
         NO_CHIP
+    }
+}
+
+// The packet that is asked for: a spike of a key, or the fixed-route packet of key 0.
+struct Asked {
+    good: bool,
+    packet: Packet,
+}
+
+fn packet_asked() -> Asked {
+    let mut word = [0u8; PATH];
+    let n = os::arg(5, &mut word);
+    if same(path_in(&word, n), b"fixed") {
+        let packet = fixed_of(0);
+        return Asked { good: true, packet };
+    }
+    let key = number_of_arg(5);
+    let packet = spike_of(key.value);
+    Asked {
+        good: key.good,
+        packet,
     }
 }
 
@@ -172,6 +206,7 @@ fn play_calls(
     rows: &[u32],
     starts: &[u32],
     codes: &[u8],
+    fixed: &[u32],
     piece: &mut [u8; PIECE],
     line: &mut [u8; LINE],
 ) -> u32 {
@@ -191,9 +226,9 @@ fn play_calls(
         return 2;
     }
     c = if how == REPLAY {
-        replay_trace(from, c, mesh, log, rows, starts, codes, piece)
+        replay_trace(from, c, mesh, log, rows, starts, codes, fixed, piece)
     } else {
-        run_file(from, c, mesh, log, rows, starts, codes, piece, line)
+        run_file(from, c, mesh, log, rows, starts, codes, fixed, piece, line)
     };
     libc::close(from);
     if how == MAP {

@@ -30,6 +30,7 @@ pub fn replay_trace(
     rows: &[u32],
     starts: &[u32],
     codes: &[u8],
+    fixed: &[u32],
     piece: &mut [u8; PIECE],
 ) -> Course {
     let mut record = [0u8; RECORD];
@@ -39,7 +40,7 @@ pub fn replay_trace(
         if !r.going {
             break;
         }
-        r = replay_record(r, mesh, log, rows, starts, codes, piece, &mut record);
+        r = replay_record(r, mesh, log, rows, starts, codes, fixed, piece, &mut record);
         turns -= 1;
     }
     r.course
@@ -63,6 +64,7 @@ fn replay_record(
     rows: &[u32],
     starts: &[u32],
     codes: &[u8],
+    fixed: &[u32],
     piece: &mut [u8; PIECE],
     record: &mut [u8; RECORD],
 ) -> Replay {
@@ -80,6 +82,7 @@ fn replay_record(
             rows,
             starts,
             codes,
+            fixed,
         );
     }
     let going = (records.state == RECORD_THERE) & (c.refused == 0);
@@ -98,13 +101,14 @@ fn replay_bytes(
     rows: &[u32],
     starts: &[u32],
     codes: &[u8],
+    fixed: &[u32],
 ) -> Course {
     let r = read_record(record);
     if r.refusal != 0 {
         return answered(c, r.refusal);
     }
     let call = r.call;
-    replay_call(c, call, mesh, log, rows, starts, codes)
+    replay_call(c, call, mesh, log, rows, starts, codes, fixed)
 }
 
 fn replay_call(
@@ -115,6 +119,7 @@ fn replay_call(
     rows: &[u32],
     starts: &[u32],
     codes: &[u8],
+    fixed: &[u32],
 ) -> Course {
     let kind = call.kind;
     let bytes = call.bytes;
@@ -129,8 +134,9 @@ fn replay_call(
             rows,
             starts,
             codes,
+            fixed,
         ),
-        2 => calls::one_round(c, mesh, log, rows, starts, codes),
+        2 => calls::one_round(c, mesh, log, rows, starts, codes, fixed),
         3 => calls::change_link(c, call.chip, call.link, call.up == 1, mesh),
         _ => calls::registers(c, call.chip, mesh),
     }

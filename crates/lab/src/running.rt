@@ -32,6 +32,7 @@ pub fn run_file(
     rows: &[u32],
     starts: &[u32],
     codes: &[u8],
+    fixed: &[u32],
     piece: &mut [u8; PIECE],
     line: &mut [u8; LINE],
 ) -> Course {
@@ -41,7 +42,7 @@ pub fn run_file(
         if !r.going {
             break;
         }
-        r = run_line(r, mesh, log, rows, starts, codes, piece, line);
+        r = run_line(r, mesh, log, rows, starts, codes, fixed, piece, line);
         turns -= 1;
     }
     r.course
@@ -63,6 +64,7 @@ fn run_line(
     rows: &[u32],
     starts: &[u32],
     codes: &[u8],
+    fixed: &[u32],
     piece: &mut [u8; PIECE],
     line: &mut [u8; LINE],
 ) -> Run {
@@ -73,7 +75,7 @@ fn run_line(
     if going {
         c.at = lines.number;
         let s = read_statement(before_comment(between(line, 0, lines.length)));
-        c = called(c, s, mesh, log, rows, starts, codes);
+        c = called(c, s, mesh, log, rows, starts, codes, fixed);
     }
     Run {
         lines,
@@ -91,6 +93,7 @@ fn called(
     rows: &[u32],
     starts: &[u32],
     codes: &[u8],
+    fixed: &[u32],
 ) -> Course {
     if c.links {
         return linked(c, s, mesh);
@@ -105,9 +108,10 @@ fn called(
             rows,
             starts,
             codes,
+            fixed,
         ),
-        Statement::Rounds(n) => calls::rounds(c, n, mesh, log, rows, starts, codes),
-        Statement::UntilQuiet => calls::until_quiet(c, mesh, log, rows, starts, codes),
+        Statement::Rounds(n) => calls::rounds(c, n, mesh, log, rows, starts, codes, fixed),
+        Statement::UntilQuiet => calls::until_quiet(c, mesh, log, rows, starts, codes, fixed),
         Statement::Link { x, y, link, up } => calls::change_link(
             c,
             chip_at(c.board, x, y),
@@ -137,6 +141,7 @@ fn sent(
     rows: &[u32],
     starts: &[u32],
     codes: &[u8],
+    fixed: &[u32],
 ) -> Course {
     let packed = bytes_of(p);
     let bytes = packed.bytes;
@@ -150,5 +155,6 @@ fn sent(
         rows,
         starts,
         codes,
+        fixed,
     )
 }

@@ -25,7 +25,8 @@ pub fn tell_packet(control: u32, word: u32, payload: u32, nine: bool) {
     match kind {
         0 => tell_word(b"mc key ", word),
         1 => tell_ids(word),
-        _ => tell_word(b"nn word ", word),
+        2 => tell_word(b"nn word ", word),
+        _ => tell_word(b"fixed key ", word),
     }
     if nine {
         tell_word(b" payload ", payload);
@@ -62,9 +63,10 @@ pub fn tell_refusal(at: u64, replayed: bool, refusal: u32) {
 fn tell_reason(refusal: u32) {
     match refusal {
         2 => text(b"the packet's length is not 5 or 9"),
-        3 => text(b"packet type 11 is not used"),
         4 => text(b"an NN packet with T = 1"),
-        5 => text(b"over 1,024 rows for a chip, a route bit above 25, or bad starts"),
+        5 => text(
+            b"over 1,024 rows for a chip, a route bit above 25, bad starts, or fixed routes of wrong number",
+        ),
         6 => text(b"a monitor above 19"),
         7 => text(b"width, height or rounds in a phase out of range"),
         8 => text(b"no mesh in the buffer"),

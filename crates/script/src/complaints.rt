@@ -72,7 +72,7 @@ pub fn err(t: &[u8]) {
 fn tell_wanted(wanted: u32) {
     match wanted {
         STATEMENT => err(
-            b"a statement is wanted: mesh, row, rows, code, spike, p2p, nn, packet, rounds, until quiet, down, up or registers",
+            b"a statement is wanted: mesh, row, rows, code, route, spike, fixed, p2p, nn, packet, rounds, until quiet, down, up or registers",
         ),
         COORDINATE => err(b"a chip's x or y is wanted, a number from 0 to 255"),
         NUMBER => err(b"a number up to 0xffffffff is wanted, decimal or 0x and hexadecimal digits"),
@@ -118,6 +118,9 @@ fn tell_form(w: &[u8]) {
     if same(w, b"code") {
         err(b": code X Y DX DY LINK|nowhere|monitor");
     }
+    if same(w, b"route") {
+        err(b": route X Y [links and processors]");
+    }
     if same(w, b"rounds") {
         err(b": rounds N");
     }
@@ -130,6 +133,9 @@ fn tell_form(w: &[u8]) {
 fn tell_form_of_call(w: &[u8]) {
     if same(w, b"spike") {
         err(b": spike X Y KEY [payload N]");
+    }
+    if same(w, b"fixed") {
+        err(b": fixed X Y KEY [payload N]");
     }
     if same(w, b"p2p") {
         err(b": p2p X Y DX DY [payload N]");

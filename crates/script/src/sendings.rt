@@ -1,4 +1,4 @@
-// The statements that send a packet: a spike, a P2P packet, an NN packet, and bytes as they are.
+// The statements that send a packet: a spike, a fixed-route packet, a P2P packet, an NN packet, and bytes as they are.
 use super::cells::byte_at;
 use super::complaints as wanted;
 use super::names::code_named;
@@ -21,6 +21,9 @@ use packet::control::stamp_of;
 use packet::parity::with_stamp;
 use std::num::wrapping_add_usize;
 
+// The control byte of type 11, mark 00, stamp 0.
+const FIXED: u32 = 192;
+
 // A payload that may be left out, and where it was looked for.
 struct Payload {
     nine: u32,
@@ -34,6 +37,14 @@ pub fn spike(line: &[u8]) -> Statement {
     let payload = payload_at(line, 4, wanted::PAYLOAD);
     let part = payload.part;
     sent(line, first(key, part), 0, key.value, payload)
+}
+
+// fixed X Y KEY [payload N]: the key is carried and decides nothing.
+pub fn fixed(line: &[u8]) -> Statement {
+    let key = number_at(line, 3);
+    let payload = payload_at(line, 4, wanted::PAYLOAD);
+    let part = payload.part;
+    sent(line, first(key, part), FIXED, key.value, payload)
 }
 
 // p2p X Y DX DY [payload N]: the source ID is that of the chip, which is named by x and y here.
@@ -88,6 +99,11 @@ pub fn bytes(line: &[u8]) -> Statement {
 // The packet of a spike: MC, mark 00, stamp 0, right in parity.
 pub fn spike_of(key: u32) -> Packet {
     with_stamp(packet_of(0, 0, key, 0), 0)
+}
+
+// A fixed-route packet, mark 00, stamp 0, right in parity.
+pub fn fixed_of(key: u32) -> Packet {
+    with_stamp(packet_of(FIXED, 0, key, 0), 0)
 }
 
 // The statement that sends a packet of a type, right in parity.

@@ -48,6 +48,12 @@ pub enum Statement {
         to_y: u32,
         code: u32,
     },
+    // The route of the chip's fixed-route packets.
+    Route {
+        x: u32,
+        y: u32,
+        route: u32,
+    },
     Send {
         x: u32,
         y: u32,
@@ -106,6 +112,9 @@ fn statement_of_packet(line: &[u8]) -> Statement {
     if same(w, b"nn") {
         return sendings::nn(line);
     }
+    if same(w, b"fixed") {
+        return sendings::fixed(line);
+    }
     if same(w, b"packet") {
         return sendings::bytes(line);
     }
@@ -119,6 +128,9 @@ fn other_statement(line: &[u8]) -> Statement {
     }
     if same(w, b"rows") {
         return rows(line);
+    }
+    if same(w, b"route") {
+        return fixed_route(line);
     }
     if same(w, b"until") {
         return until(line);
@@ -202,6 +214,21 @@ fn code(line: &[u8]) -> Statement {
         to_x: to_x.value,
         to_y: to_y.value,
         code: to.value,
+    }
+}
+
+fn fixed_route(line: &[u8]) -> Statement {
+    let x = x_at(line);
+    let y = y_at(line);
+    let to = route(line, 3);
+    let p = first(first(x, y), to);
+    if p.wanted != 0 {
+        return wrong(p);
+    }
+    Statement::Route {
+        x: x.value,
+        y: y.value,
+        route: to.value,
     }
 }
 

@@ -1,5 +1,6 @@
 // What is odd in FILE's tables, a line each. No call is made.
 use super::board::Board;
+use super::board::CHIPS;
 use super::board::CODES;
 use super::board::ROWS;
 use super::board::STARTS;
@@ -34,16 +35,17 @@ pub fn check(
     rows: &mut [u32; ROWS],
     starts: &mut [u32; STARTS],
     codes: &mut [u8; CODES],
+    fixed: &mut [u32; CHIPS],
     piece: &mut [u8; PIECE],
     line: &mut [u8; LINE],
 ) -> u32 {
     let mut path = [0u8; PATH];
     let n = os::arg(2, &mut path);
-    let r = read_counting(path_in(&path, n), rows, starts, codes, piece, line);
+    let r = read_counting(path_in(&path, n), rows, starts, codes, fixed, piece, line);
     if r.wrong != 0 {
         return 2;
     }
-    checked(r, rows, starts, codes)
+    checked(r, rows, starts, codes, fixed)
 }
 
 fn checked(
@@ -51,13 +53,17 @@ fn checked(
     rows: &mut [u32; ROWS],
     starts: &mut [u32; STARTS],
     codes: &[u8; CODES],
+    fixed: &[u32; CHIPS],
 ) -> u32 {
     let b = r.board;
     let over = tell_over(b, starts);
     moved_together(rows, starts, chips(b));
     let odd = wrapping_add_u64(
-        tell_chips(b, rows, starts),
-        tell_codes(r.p2p, between(codes, 0, times(chips(b), chips(b)) as usize)),
+        wrapping_add_u64(
+            tell_chips(b, rows, starts),
+            tell_codes(r.p2p, between(codes, 0, times(chips(b), chips(b)) as usize)),
+        ),
+        tell_fixed(r.fixed, b, fixed),
     );
     if over != 0 {
         return 1;
@@ -212,6 +218,66 @@ fn first_code(codes: &[u8]) -> usize {
         i += 1;
     }
     i
+}
+
+// What is odd in the fixed routes, if the file speaks of fixed-route packets at all.
+fn tell_fixed(speaks: bool, b: Board, fixed: &[u32; CHIPS]) -> u64 {
+    if !speaks {
+        return 0;
+    }
+    if first_route(fixed) < CHIPS {
+        return tell_fixed_chips(b, fixed);
+    }
+    out(b"fixed routes: no chip has one, so every fixed-route packet is swallowed\n");
+    1
+}
+
+// The first chip with a fixed route, or the number of chips of the largest mesh.
+fn first_route(fixed: &[u32; CHIPS]) -> usize {
+    let mut i = 0;
+    while i < CHIPS {
+        if word_at(fixed, i) != 0 {
+            break;
+        }
+        i += 1;
+    }
+    i
+}
+
+fn tell_fixed_chips(b: Board, fixed: &[u32; CHIPS]) -> u64 {
+    let all = chips(b);
+    let mut odd = 0;
+    let mut chip = 0;
+    while chip < all {
+        odd = wrapping_add_u64(odd, tell_fixed_ways(b, chip, fixed));
+        chip += 1;
+    }
+    odd
+}
+
+// The links by which a chip's fixed route leads to a chip that has none.
+fn tell_fixed_ways(b: Board, chip: u32, fixed: &[u32; CHIPS]) -> u64 {
+    let mut odd = 0;
+    let mut link = 0;
+    while link < 6 {
+        odd = wrapping_add_u64(odd, tell_fixed_way(b, chip, link, fixed));
+        link += 1;
+    }
+    odd
+}
+
+fn tell_fixed_way(b: Board, chip: u32, link: u32, fixed: &[u32; CHIPS]) -> u64 {
+    let to = beyond(b, chip, link);
+    if !has_link(word_at(fixed, chip as usize), link) | (word_at(fixed, to as usize) != 0) {
+        return 0;
+    }
+    begin_chip(b, chip);
+    out(b": its fixed route leads by ");
+    say_link(STDOUT_FILENO, link);
+    out(b" to ");
+    begin_chip(b, to);
+    out(b", which has none: fixed-route packets are swallowed there\n");
+    1
 }
 
 fn begin_chip(b: Board, chip: u32) {

@@ -1,5 +1,6 @@
 // FILE's first reading: every line is understood or refused, and the tables are kept.
 use super::board::Board;
+use super::board::CHIPS;
 use super::board::CODES;
 use super::board::NO_CHIP;
 use super::board::ROWS;
@@ -17,8 +18,10 @@ use super::paths::PATH;
 use super::paths::beside;
 use super::paths::path_in;
 use super::storing::keep_code;
+use super::storing::keep_route;
 use super::storing::keep_row;
 use libc::STDERR_FILENO;
+use packet::control::is_fixed;
 use packet::control::kind_of;
 use script::cells::between;
 use script::complaints::begin;
@@ -51,8 +54,9 @@ pub struct Reading {
     pub going: bool,
     // Whether rows past a chip's 1,024 are counted and not wrong.
     pub counting: bool,
-    // Whether there are codes, or P2P packets.
+    // Whether there are codes, or P2P packets; whether there are fixed routes, or fixed-route packets.
     pub p2p: bool,
+    pub fixed: bool,
 }
 
 // Reads FILE. Where something is wrong with it that is told, and the reading's `wrong` is not 0.
@@ -61,10 +65,11 @@ pub fn read_file(
     rows: &mut [u32; ROWS],
     counts: &mut [u32; STARTS],
     codes: &mut [u8; CODES],
+    fixed: &mut [u32; CHIPS],
     piece: &mut [u8; PIECE],
     line: &mut [u8; LINE],
 ) -> Reading {
-    read_as(false, file, rows, counts, codes, piece, line)
+    read_as(false, file, rows, counts, codes, fixed, piece, line)
 }
 
 // Reads FILE to look at its tables: a chip's rows are counted, and those past 1,024 are not wrong.
@@ -73,10 +78,11 @@ pub fn read_counting(
     rows: &mut [u32; ROWS],
     counts: &mut [u32; STARTS],
     codes: &mut [u8; CODES],
+    fixed: &mut [u32; CHIPS],
     piece: &mut [u8; PIECE],
     line: &mut [u8; LINE],
 ) -> Reading {
-    read_as(true, file, rows, counts, codes, piece, line)
+    read_as(true, file, rows, counts, codes, fixed, piece, line)
 }
 
 fn read_as(
@@ -85,6 +91,7 @@ fn read_as(
     rows: &mut [u32; ROWS],
     counts: &mut [u32; STARTS],
     codes: &mut [u8; CODES],
+    fixed: &mut [u32; CHIPS],
     piece: &mut [u8; PIECE],
     line: &mut [u8; LINE],
 ) -> Reading {
@@ -93,7 +100,7 @@ fn read_as(
         os::fail(file);
         return unread(fd);
     }
-    let r = read_lines(counting, fd, file, rows, counts, codes, piece, line);
+    let r = read_lines(counting, fd, file, rows, counts, codes, fixed, piece, line);
     libc::close(fd);
     checked(r, file)
 }
@@ -105,6 +112,7 @@ fn read_lines(
     rows: &mut [u32; ROWS],
     counts: &mut [u32; STARTS],
     codes: &mut [u8; CODES],
+    fixed: &mut [u32; CHIPS],
     piece: &mut [u8; PIECE],
     line: &mut [u8; LINE],
 ) -> Reading {
@@ -114,7 +122,7 @@ fn read_lines(
         if !r.going {
             break;
         }
-        r = read_line(r, file, rows, counts, codes, piece, line);
+        r = read_line(r, file, rows, counts, codes, fixed, piece, line);
         turns -= 1;
     }
     r
@@ -130,6 +138,7 @@ fn begun(counting: bool, fd: i32) -> Reading {
         going: true,
         counting,
         p2p: false,
+        fixed: false,
     }
 }
 
@@ -164,6 +173,7 @@ fn read_line(
     rows: &mut [u32; ROWS],
     counts: &mut [u32; STARTS],
     codes: &mut [u8; CODES],
+    fixed: &mut [u32; CHIPS],
     piece: &mut [u8; PIECE],
     line: &mut [u8; LINE],
 ) -> Reading {
@@ -185,6 +195,7 @@ fn read_line(
         rows,
         counts,
         codes,
+        fixed,
     )
 }
 
@@ -195,10 +206,12 @@ fn understood(
     rows: &mut [u32; ROWS],
     counts: &mut [u32; STARTS],
     codes: &mut [u8; CODES],
+    fixed: &mut [u32; CHIPS],
 ) -> Reading {
     let s = read_statement(line);
     let mut r = before;
     r.p2p = r.p2p | is_p2p(s);
+    r.fixed = r.fixed | is_fixed_route(s);
     match s {
         Statement::Nothing => r,
         Statement::Wrong { wanted, at } => wrong_word(r, line, wanted, at),
@@ -216,7 +229,7 @@ fn understood(
                 monitor,
             },
         ),
-        _ => with_table(r, s, file, line, rows, counts, codes),
+        _ => with_table(r, s, file, line, rows, counts, codes, fixed),
     }
 }
 
@@ -229,6 +242,15 @@ fn is_p2p(s: Statement) -> bool {
     }
 }
 
+// Whether a statement gives a fixed route or sends a fixed-route packet.
+fn is_fixed_route(s: Statement) -> bool {
+    match s {
+        Statement::Route { .. } => true,
+        Statement::Send { packet, .. } => is_fixed(packet.control),
+        _ => false,
+    }
+}
+
 fn with_table(
     r: Reading,
     s: Statement,
@@ -237,6 +259,7 @@ fn with_table(
     rows: &mut [u32; ROWS],
     counts: &mut [u32; STARTS],
     codes: &mut [u8; CODES],
+    fixed: &mut [u32; CHIPS],
 ) -> Reading {
     let b = r.board;
     if b.width == 0 {
@@ -261,6 +284,7 @@ fn with_table(
             to_y,
             code,
         } => with_code(r, x, y, to_x, to_y, code, codes),
+        Statement::Route { x, y, route } => with_route(r, x, y, route, fixed),
         _ => r,
     }
 }
@@ -320,6 +344,15 @@ fn with_code(
         return off_mesh(r, to_x, to_y);
     }
     keep_code(codes, chips(b), chip, to, code);
+    r
+}
+
+fn with_route(r: Reading, x: u32, y: u32, route: u32, fixed: &mut [u32; CHIPS]) -> Reading {
+    let chip = chip_at(r.board, x, y);
+    if chip == NO_CHIP {
+        return off_mesh(r, x, y);
+    }
+    keep_route(fixed, chip, route);
     r
 }
 

@@ -1,5 +1,6 @@
 // The tables as they are read: the rows of chip c from row 1,024 * c on, with a count for each chip. Then they are moved
 // together, and the counts become starts.
+use super::board::CHIPS;
 use super::board::CODES;
 use super::board::DEEP;
 use super::board::ROWS;
@@ -37,6 +38,11 @@ pub fn keep_code(codes: &mut [u8; CODES], chips: u32, chip: u32, to: u32, code: 
         times(chip, chips) as usize + to as usize,
         small(code),
     );
+}
+
+// The route of a chip's fixed-route packets.
+pub fn keep_route(fixed: &mut [u32; CHIPS], chip: u32, route: u32) {
+    put_word(fixed, chip as usize, route);
 }
 
 // Moves all rows together, writes the starts, and answers how many rows there are.

@@ -4,10 +4,10 @@ use Rattle.lab.proofs.calls.rounds.Statement.{statement}
 use Rattle.lab.proofs.calls.rounds.Tie as tie
 
 abbrev Inv-loop : tie.InvT-loop
-Inv-loop before count mesh₀ log₀ rows starts codes c₀ left₀ mesh log c left = Unit {0}
+Inv-loop before count mesh₀ log₀ rows starts codes fixed c₀ left₀ mesh log c left = Unit {0}
 
 abbrev μ-loop : tie.MeasureT-loop
-μ-loop before count mesh₀ log₀ rows starts codes c₀ left₀ mesh log c left = left
+μ-loop before count mesh₀ log₀ rows starts codes fixed c₀ left₀ mesh log c left = left
 
 loop-holds : tie.Need-loop-holds Inv-loop μ-loop
 loop-holds c = search needs

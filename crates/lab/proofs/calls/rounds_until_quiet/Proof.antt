@@ -4,10 +4,10 @@ use Rattle.lab.proofs.calls.rounds_until_quiet.Statement.{statement}
 use Rattle.lab.proofs.calls.rounds_until_quiet.Tie as tie
 
 abbrev Inv-loop : tie.InvT-loop
-Inv-loop before mesh₀ log₀ rows starts codes c₀ left₀ mesh log c left = Unit {0}
+Inv-loop before mesh₀ log₀ rows starts codes fixed c₀ left₀ mesh log c left = Unit {0}
 
 abbrev μ-loop : tie.MeasureT-loop
-μ-loop before mesh₀ log₀ rows starts codes c₀ left₀ mesh log c left = left
+μ-loop before mesh₀ log₀ rows starts codes fixed c₀ left₀ mesh log c left = left
 
 longest-requires : tie.Need-longest-requires Inv-loop μ-loop
 longest-requires c κs = search needs

@@ -4,10 +4,10 @@ use Rattle.lab.proofs.following.follow.Statement.{statement}
 use Rattle.lab.proofs.following.follow.Tie as tie
 
 abbrev Inv-loop : tie.InvT-loop
-Inv-loop b mesh₀ log₀ rows starts codes number₀ left₀ mesh log number left = Unit {0}
+Inv-loop b mesh₀ log₀ rows starts codes fixed number₀ left₀ mesh log number left = Unit {0}
 
 abbrev μ-loop : tie.MeasureT-loop
-μ-loop b mesh₀ log₀ rows starts codes number₀ left₀ mesh log number left = left
+μ-loop b mesh₀ log₀ rows starts codes fixed number₀ left₀ mesh log number left = left
 
 cast-left : tie.Need-cast-left Inv-loop μ-loop
 cast-left c = search needs

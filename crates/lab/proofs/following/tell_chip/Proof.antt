@@ -5,10 +5,10 @@ use Rattle.lab.proofs.following.tell_chip.Statement.{statement}
 use Rattle.lab.proofs.following.tell_chip.Tie as tie
 
 abbrev Inv-loop : tie.InvT-loop
-Inv-loop b number chip mesh rows starts codes spent₀ n₀ spent n = Unit {0}
+Inv-loop b number chip mesh rows starts codes fixed spent₀ n₀ spent n = Unit {0}
 
 abbrev μ-loop : tie.MeasureT-loop
-μ-loop b number chip mesh rows starts codes spent₀ n₀ spent n = 48 - n
+μ-loop b number chip mesh rows starts codes fixed spent₀ n₀ spent n = 48 - n
 
 loop-holds : tie.Need-loop-holds Inv-loop μ-loop
 loop-holds c = search needs

@@ -5,10 +5,10 @@ use Rattle.lab.proofs.following.tell_round.Statement.{statement}
 use Rattle.lab.proofs.following.tell_round.Tie as tie
 
 abbrev Inv-loop : tie.InvT-loop
-Inv-loop b number mesh rows starts codes all chip₀ chip = Unit {0}
+Inv-loop b number mesh rows starts codes fixed all chip₀ chip = Unit {0}
 
 abbrev μ-loop : tie.MeasureT-loop
-μ-loop b number mesh rows starts codes all chip₀ chip = all - chip
+μ-loop b number mesh rows starts codes fixed all chip₀ chip = all - chip
 
 chips-requires : tie.Need-chips-requires Inv-loop μ-loop
 chips-requires c κs = search needs

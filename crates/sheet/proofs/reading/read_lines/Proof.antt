@@ -4,10 +4,10 @@ use Rattle.sheet.proofs.reading.read_lines.Statement.{statement}
 use Rattle.sheet.proofs.reading.read_lines.Tie as tie
 
 abbrev Inv-loop : tie.InvT-loop
-Inv-loop counting fd file rows₀ counts₀ codes₀ piece₀ line₀ r₀ turns₀ rows counts codes piece line r turns = Unit {0}
+Inv-loop counting fd file rows₀ counts₀ codes₀ fixed₀ piece₀ line₀ r₀ turns₀ rows counts codes fixed piece line r turns = Unit {0}
 
 abbrev μ-loop : tie.MeasureT-loop
-μ-loop counting fd file rows₀ counts₀ codes₀ piece₀ line₀ r₀ turns₀ rows counts codes piece line r turns = turns
+μ-loop counting fd file rows₀ counts₀ codes₀ fixed₀ piece₀ line₀ r₀ turns₀ rows counts codes fixed piece line r turns = turns
 
 begun-requires : tie.Need-begun-requires Inv-loop μ-loop
 begun-requires c κs = search needs
