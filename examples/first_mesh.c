@@ -34,6 +34,7 @@ int main(void)
     const uint32_t starts[CHIPS + 1] = {0, 1, 2, 3, 4, 4, 4, 4, 4, 4}; /* chips 4 to 8 have no rows */
     uint8_t codes[CHIPS * CHIPS];
     memset(codes, 6, sizeof codes); /* nowhere: no point-to-point packet is sent here */
+    const uint32_t fixed[CHIPS] = {0}; /* nor is a fixed-route packet */
     yb_tables tables = {0};
     tables.rows = rows;
     tables.rows_len = sizeof rows / sizeof *rows;
@@ -41,6 +42,8 @@ int main(void)
     tables.starts_len = CHIPS + 1;
     tables.codes = codes;
     tables.codes_len = sizeof codes;
+    tables.fixed = fixed;
+    tables.fixed_len = CHIPS;
 
     const size_t words = yagbolshen_size(WIDTH, HEIGHT).words;
     uint32_t *mesh = malloc(words * sizeof *mesh);

@@ -18,6 +18,7 @@ pub struct BusyMesh {
     rows: Vec<u32>,
     starts: Vec<u32>,
     codes: Vec<u8>,
+    fixed: Vec<u32>,
 }
 
 impl BusyMesh {
@@ -57,6 +58,18 @@ impl BusyMesh {
         mesh
     }
 
+    /// On each link east so many fixed-route packets, which every chip sends on east, and no rows.
+    pub fn fixed_east(width: u32, height: u32, on_each: u32) -> BusyMesh {
+        let mut mesh = BusyMesh::open(width, height);
+        mesh.fixed.fill(1 << 0);
+        (0..width * height).for_each(|_| mesh.end_chip());
+        for _ in 0..on_each * width * height {
+            assert_eq!(mesh.inject_by(mesh_calls::inject, &bytes(0xc0, 0)).refusal, 0);
+        }
+        assert_eq!(mesh.in_flight(), on_each * width * height, "every packet is on a link");
+        mesh
+    }
+
     pub fn in_flight(&self) -> u32 {
         mesh_calls::look(&self.words).in_flight
     }
@@ -91,12 +104,13 @@ impl BusyMesh {
             rows: self.rows.clone(),
             starts: self.starts.clone(),
             codes: self.codes.clone(),
+            fixed: self.fixed.clone(),
         }
     }
 
     /// Makes a call that needs no more than buffer, log and tables.
     pub fn on(&mut self, call: fn(&mut [u32], &mut [u32], &LentTables) -> Added) -> Added {
-        let tables = LentTables { rows: &self.rows, starts: &self.starts, codes: &self.codes };
+        let tables = LentTables { rows: &self.rows, starts: &self.starts, codes: &self.codes, fixed: &self.fixed };
         call(&mut self.words, &mut self.log, &tables)
     }
 
@@ -105,7 +119,7 @@ impl BusyMesh {
         call: fn(&mut [u32], &mut [u32], u32, &[u8], &LentTables) -> Added,
         packet: &[u8],
     ) -> Added {
-        let tables = LentTables { rows: &self.rows, starts: &self.starts, codes: &self.codes };
+        let tables = LentTables { rows: &self.rows, starts: &self.starts, codes: &self.codes, fixed: &self.fixed };
         let chip = self.chip;
         self.chip = if chip as usize + 2 < self.starts.len() { chip + 1 } else { 0 };
         call(&mut self.words, &mut self.log, chip, packet, &tables)
@@ -116,7 +130,7 @@ impl BusyMesh {
         call: fn(&mut [u32], &mut [u32], &[u8], &LentTables) -> Replayed,
         trace: &[u8],
     ) -> Replayed {
-        let tables = LentTables { rows: &self.rows, starts: &self.starts, codes: &self.codes };
+        let tables = LentTables { rows: &self.rows, starts: &self.starts, codes: &self.codes, fixed: &self.fixed };
         call(&mut self.words, &mut self.log, trace, &tables)
     }
 
@@ -125,7 +139,8 @@ impl BusyMesh {
         assert_eq!(mesh_calls::open(&mut words, width, height, MOST_ROUNDS, 0), 0);
         let chips = (width * height) as usize;
         let log = vec![0; chips * LINKS as usize * 8 * RECORD];
-        BusyMesh { words, log, chip: 0, rows: vec![], starts: vec![0], codes: vec![6; chips * chips] }
+        let (codes, fixed) = (vec![6; chips * chips], vec![0; chips]);
+        BusyMesh { words, log, chip: 0, rows: vec![], starts: vec![0], codes, fixed }
     }
 
     fn add_row(&mut self, key: u32, route: u32) {

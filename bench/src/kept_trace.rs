@@ -35,6 +35,7 @@ pub struct KeptTrace {
     rows: Vec<u32>,
     starts: Vec<u32>,
     codes: Vec<u8>,
+    fixed: Vec<u32>,
 }
 
 impl KeptTrace {
@@ -50,7 +51,8 @@ impl KeptTrace {
         }
         let codes = (0..CHIPS).flat_map(|chip| (0..CHIPS).map(move |to| code(chip, to))).collect();
         let (trace, rounds) = trace();
-        KeptTrace { words, log: vec![0; 6 * RECORDS], trace, rounds, rows, starts, codes }
+        let fixed = vec![0; CHIPS as usize];
+        KeptTrace { words, log: vec![0; 6 * RECORDS], trace, rounds, rows, starts, codes, fixed }
     }
 
     /// Makes the calls of the trace, in one way or another.
@@ -59,7 +61,7 @@ impl KeptTrace {
     }
 
     pub fn on_part(&mut self, bytes: Range<usize>, replay: Replay) -> Replayed {
-        let tables = LentTables { rows: &self.rows, starts: &self.starts, codes: &self.codes };
+        let tables = LentTables { rows: &self.rows, starts: &self.starts, codes: &self.codes, fixed: &self.fixed };
         replay(&mut self.words, &mut self.log, &self.trace[bytes], &tables)
     }
 

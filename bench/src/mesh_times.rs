@@ -10,6 +10,7 @@ pub fn all(turns: usize) {
     rounds("round, 12 by 12, 1 a link", turns, BusyMesh::circling(SIDE, SIDE, 1, 0));
     rounds("round, 12 by 12, 4 a link", turns, BusyMesh::circling(SIDE, SIDE, 4, 0));
     rounds("round, 12 by 12, 1 a link, mixed", turns, BusyMesh::mixed(SIDE, SIDE, 1).after(100));
+    rounds("round, 12 by 12, 6 east, fixed", turns, BusyMesh::fixed_east(SIDE, SIDE, 6));
     rounds("round, 12 by 12, none in flight", turns, BusyMesh::circling(SIDE, SIDE, 0, 0));
     injections("inject, 12 by 12, none in flight", turns, BusyMesh::circling(SIDE, SIDE, 0, 0));
     injections("inject, 12 by 12, 1 a link", turns, BusyMesh::circling(SIDE, SIDE, 1, 0));

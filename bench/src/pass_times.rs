@@ -1,4 +1,5 @@
-//! The one-router call on the largest mesh, with the match in the last row of a table, or with none.
+//! The one-router call on the largest mesh, with the match in the last row of a table, or with none, and with a fixed-route
+//! packet, for which no row is searched.
 
 use crate::interface::{Pass, PassCall};
 use crate::{lib_calls, model, timing};
@@ -17,13 +18,21 @@ pub fn all(rounds: usize) {
             let name = format!("pass, {row_count} rows, {}", if matches { "last matches" } else { "none matches" });
             timing::line(&name, rounds, &call(&rows), versions);
         }
+        let rows = table(row_count, true);
+        timing::line(&format!("pass, {row_count} rows, fixed route"), rounds, &fixed_call(&rows), versions);
     }
 }
 
 pub fn call(rows: &[u32]) -> PassCall<'_> {
     let packet = &[0x00, 0x00, 0x00, 0x12, 0x34];
     let codes = &[6; (SIDE * SIDE) as usize];
-    PassCall { packet, source: 0, width: SIDE, height: SIDE, rows, codes, monitor: 0, phase: 0, ready: READY }
+    let (monitor, phase, ready, fixed) = (0, 0, READY, ROUTE);
+    PassCall { packet, source: 0, width: SIDE, height: SIDE, rows, codes, monitor, phase, ready, fixed }
+}
+
+/// A fixed-route packet with the route that the rows have.
+fn fixed_call(rows: &[u32]) -> PassCall<'_> {
+    PassCall { packet: &[0xc0, 0x00, 0x00, 0x12, 0x34], ..call(rows) }
 }
 
 /// Rows of other keys; the last one's key is the packet's where it is to match.

@@ -3,13 +3,13 @@
 use super::holding::holds;
 use super::{chips_of, link_at, HELD, RECORD};
 use crate::interface::{LentTables, Packet};
-use crate::model::{codes_fit, direct_of, kind, kind_of, refusal, routes_fit, take, LINKS, MOST_ROWS};
+use crate::model::{codes_fit, direct_of, is_route, kind, kind_of, refusal, routes_fit, take, LINKS, MOST_ROWS};
 
 pub const NO_MESH: u32 = 8;
 pub const NOT_THERE: u32 = 9;
 pub const LOG: u32 = 10;
 
-/// 8, 9, 5, 11, 10, 2, 3, 4.
+/// 8, 9, 5, 11, 10, 2, 4.
 pub fn inject<const JOINED: bool>(
     mesh: &[u32],
     log: &[u32],
@@ -30,7 +30,7 @@ pub fn inject<const JOINED: bool>(
     packet(bytes).map(|_| ())
 }
 
-/// 2, 3, 4.
+/// 2, 4.
 pub fn packet(bytes: &[u8]) -> Result<Packet, u32> {
     let packet = take(bytes)?;
     if kind_of(packet.control) == kind::NN && direct_of(packet.control) == 1 {
@@ -58,13 +58,24 @@ pub fn check_tables<const JOINED: bool>(chips: usize, tables: &LentTables) -> Re
         && starts[0] == 0
         && starts.windows(2).all(|pair| pair[0] <= pair[1] && (pair[1] - pair[0]) as usize <= MOST_ROWS)
         && starts[chips] as usize * 3 == tables.rows.len();
-    if !starts_fit || !routes_fit::<JOINED>(tables.rows) {
+    if !starts_fit || !routes_fit::<JOINED>(tables.rows) || !fixed_fit::<JOINED>(tables.fixed, chips) {
         return Err(refusal::ROWS);
     }
     if !codes_fit::<JOINED>(tables.codes, (chips * chips) as u32) {
         return Err(refusal::CODES);
     }
     Ok(())
+}
+
+fn fixed_fit<const JOINED: bool>(fixed: &[u32], chips: usize) -> bool {
+    if fixed.len() != chips {
+        return false;
+    }
+    if JOINED {
+        is_route(fixed.iter().fold(0, |joined, route| joined | route))
+    } else {
+        fixed.iter().all(|&route| is_route(route))
+    }
 }
 
 pub fn in_flight(mesh: &[u32]) -> usize {

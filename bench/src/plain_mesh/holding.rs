@@ -43,7 +43,6 @@ fn link_fine(link: &[u32]) -> bool {
 fn packet_fine(place: &[u32]) -> bool {
     let (control, word, payload) = (place[0], place[1], place[2]);
     control < 256
-        && kind_of(control) != kind::UNUSED
         && !(kind_of(control) == kind::NN && direct_of(control) == 1)
         && (control ^ word ^ payload).count_ones() % 2 == 1
         && (control >> 1 & 1 == 1 || payload == 0)

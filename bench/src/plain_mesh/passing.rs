@@ -4,7 +4,7 @@ use super::{
     CHIP, COUNTERS_AT, DOWN, HEADER, HEIGHT, HELD, LINK, LINKS_AT, MONITOR, PHASE, PLACE, PLACES_AT, RECORD, WIDTH,
 };
 use crate::interface::{LentTables, Packet, PassCall};
-use crate::model::{self, error, has, kind, kind_of, mark, mark_of, with_mark, with_stamp, LINKS, LOCAL};
+use crate::model::{self, error, has, has_mark, kind, kind_of, mark, mark_of, with_mark, with_stamp, LINKS, LOCAL};
 
 const PASSES: usize = 0;
 const FIRST_ERROR: usize = 1;
@@ -42,6 +42,7 @@ pub fn pass_at(
         monitor: mesh[MONITOR],
         phase: mesh[PHASE],
         ready: ready_set(&mesh[at..at + CHIP]),
+        fixed: tables.fixed[chip],
     };
     let words = &mut mesh[at..at + CHIP];
     count(words, PASSES, 1);
@@ -68,15 +69,16 @@ fn sound_pass(words: &mut [u32], call: &PassCall, packet: Packet) -> (u32, Packe
     let packet = if call.source == LOCAL && kind != kind::NN { with_stamp(&packet, call.phase) } else { packet };
     let (wanted, local_miss) = match kind {
         kind::MC => model::mc_wanted(call, &packet),
+        kind::FIXED => (model::fixed_wanted(call, &packet), false),
         kind::P2P => (model::p2p_wanted(call, packet.word), false),
         _ => (model::nn_wanted(call, packet.control), false),
     };
-    let leg_only = kind == kind::MC && mark_of(packet.control) == mark::EMERGENCY;
+    let leg_only = has_mark(kind) && mark_of(packet.control) == mark::EMERGENCY;
     count(words, DELIVERED, (wanted >> LINKS).count_ones());
     count(words, SWALLOWED, u32::from(wanted == 0 && !leg_only));
     count(words, LOCAL_MISSES, u32::from(local_miss));
-    if kind == kind::MC {
-        send_multicast(words, &packet, wanted & 63, call.ready);
+    if has_mark(kind) {
+        send_with_detours(words, &packet, wanted & 63, call.ready);
         send_second_leg(words, &packet, call);
     } else {
         send_unchanged(words, &packet, wanted & 63, call.ready);
@@ -85,7 +87,7 @@ fn sound_pass(words: &mut [u32], call: &PassCall, packet: Packet) -> (u32, Packe
 }
 
 /// Drops go by link: the one for link 0, which link 5 would carry, is found last but kept first.
-fn send_multicast(words: &mut [u32], packet: &Packet, wanted: u32, ready: u32) {
+fn send_with_detours(words: &mut [u32], packet: &Packet, wanted: u32, ready: u32) {
     let mut dropped = 0;
     for link in 0..LINKS {
         let next = (link + 1) % LINKS;

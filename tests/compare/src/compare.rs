@@ -15,13 +15,13 @@ pub fn read(tally: &mut Tally, bytes: &[u8]) {
 pub fn pack(tally: &mut Tally, fields: &Fields) {
     let answer = model::pack(fields);
     same("pack", fields, &answer, &lib_calls::pack(fields));
-    tally.pack(&answer);
+    tally.pack(fields, &answer);
 }
 
 pub fn pass(tally: &mut Tally, case: &PassCase) {
     let answer = model::pass::<false>(&case.call());
     same("pass", case, &answer, &lib_calls::pass(&case.call()));
-    tally.pass(&answer);
+    tally.pass(&case.call(), &answer);
 }
 
 pub fn same<Input: Debug, Answer: Debug + PartialEq>(call: &str, input: &Input, model: &Answer, library: &Answer) {

@@ -90,6 +90,7 @@ pub struct PassCall<'a> {
     pub monitor: u32,
     pub phase: u32,
     pub ready: u32,
+    pub fixed: u32,
 }
 
 #[repr(C)]
@@ -210,4 +211,6 @@ pub struct LentTables<'a> {
     pub rows: &'a [u32],
     pub starts: &'a [u32],
     pub codes: &'a [u8],
+    /// One route a chip.
+    pub fixed: &'a [u32],
 }

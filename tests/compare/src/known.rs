@@ -30,8 +30,10 @@ pub fn all() {
     known(11, flood.sent == not(&[3]) && flood.dropped == 1 << 3 && flood.counters.count[5..8] == [5, 0, 1]);
     let bad_local = pass(&P_EMERGENCY, LOCAL, 63, &[]);
     known(12, bad_local.errors == 8 && sends(&bad_local, &[]) && bad_local.leg_sent == 0);
-    let refused = |packet: &[u8]| pass(packet, 0, 63, &[]).refusal;
-    known(13, [0, 4, 6, 10].iter().all(|&n| refused(&[0; 10][..n]) == 2) && refused(&[0xc0, 0, 0, 0, 0]) == 3);
+    let passed = |packet: &[u8]| pass(packet, 0, 63, &[]);
+    known(13, [0, 4, 6, 10].iter().all(|&n| passed(&[0; 10][..n]).refusal == 2));
+    let even = passed(&[0xc0, 0, 0, 0, 0]);
+    known(13, even.refusal == 0 && even.errors == 1 && even.processors == 1 && sends(&even, &[]));
 }
 
 fn known(number: u32, holds: bool) {
@@ -51,5 +53,6 @@ fn pass(packet: &[u8], source: u32, ready: u32, rows: &[u32]) -> Pass {
 }
 
 fn pass_in_phase(phase: u32, packet: &[u8], source: u32, ready: u32, rows: &[u32]) -> Pass {
-    model::pass::<false>(&PassCall { packet, source, width: 1, height: 1, rows, codes: &[7], monitor: 0, phase, ready })
+    let (codes, monitor, fixed) = (&[7], 0, 0);
+    model::pass::<false>(&PassCall { packet, source, width: 1, height: 1, rows, codes, monitor, phase, ready, fixed })
 }

@@ -19,6 +19,7 @@ extern "C" {
         monitor: u32,
         phase: u32,
         ready: u32,
+        fixed: u32,
     ) -> Pass;
     fn yagbolshen_find(rows: *const Row, rows_len: usize, key: u32) -> Found;
 }
@@ -46,6 +47,7 @@ pub fn pass(call: &PassCall) -> Pass {
             call.monitor,
             call.phase,
             call.ready,
+            call.fixed,
         )
     }
 }

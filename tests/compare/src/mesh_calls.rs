@@ -27,6 +27,8 @@ extern "C" {
         starts_len: usize,
         codes: *const u8,
         codes_len: usize,
+        fixed: *const u32,
+        fixed_len: usize,
     ) -> Added;
     fn yagbolshen_round(
         mesh: *mut u32,
@@ -39,6 +41,8 @@ extern "C" {
         starts_len: usize,
         codes: *const u8,
         codes_len: usize,
+        fixed: *const u32,
+        fixed_len: usize,
     ) -> Added;
     fn yagbolshen_set_link(mesh: *mut u32, mesh_len: usize, chip: u32, link: u32, up: bool) -> u32;
     fn yagbolshen_read_registers(mesh: *mut u32, mesh_len: usize, chip: u32) -> RegistersRead;
@@ -72,6 +76,8 @@ pub fn inject(mesh: &mut [u32], log: &mut [u32], chip: u32, packet: &[u8], table
             tables.starts.len(),
             pointer(tables.codes),
             tables.codes.len(),
+            pointer(tables.fixed),
+            tables.fixed.len(),
         )
     }
 }
@@ -89,6 +95,8 @@ pub fn round(mesh: &mut [u32], log: &mut [u32], tables: &LentTables) -> Added {
             tables.starts.len(),
             pointer(tables.codes),
             tables.codes.len(),
+            pointer(tables.fixed),
+            tables.fixed.len(),
         )
     }
 }

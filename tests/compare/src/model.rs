@@ -15,7 +15,7 @@ pub mod kind {
     pub const MC: u32 = 0;
     pub const P2P: u32 = 1;
     pub const NN: u32 = 2;
-    pub const UNUSED: u32 = 3;
+    pub const FIXED: u32 = 3;
 }
 
 pub mod mark {
@@ -35,7 +35,6 @@ pub mod error {
 pub mod refusal {
     pub const SOURCE: u32 = 1;
     pub const LENGTH: u32 = 2;
-    pub const TYPE: u32 = 3;
     pub const DIRECT: u32 = 4;
     pub const ROWS: u32 = 5;
     pub const RANGE: u32 = 6;
@@ -53,9 +52,6 @@ pub fn read(bytes: &[u8]) -> Read {
 pub fn pack(fields: &Fields) -> Packed {
     if !in_range(fields) {
         return Packed { refusal: refusal::RANGE, ..Packed::default() };
-    }
-    if fields.kind == kind::UNUSED {
-        return Packed { refusal: refusal::TYPE, ..Packed::default() };
     }
     let mut bytes = [0; 9];
     bytes[0] = control_of(fields) as u8;
@@ -85,11 +81,7 @@ pub fn take(bytes: &[u8]) -> Result<Packet, u32> {
         9 => (1, word_at(bytes, 5)),
         _ => return Err(refusal::LENGTH),
     };
-    let packet = Packet { control: u32::from(bytes[0]), nine, word: word_at(bytes, 1), payload };
-    if kind_of(packet.control) == kind::UNUSED {
-        return Err(refusal::TYPE);
-    }
-    Ok(packet)
+    Ok(Packet { control: u32::from(bytes[0]), nine, word: word_at(bytes, 1), payload })
 }
 
 fn word_at(bytes: &[u8], at: usize) -> u32 {
@@ -107,7 +99,7 @@ fn fields_of(packet: &Packet) -> Fields {
         ..Fields::default()
     };
     match fields.kind {
-        kind::MC => {
+        kind::MC | kind::FIXED => {
             fields.mark = mark_of(control);
             fields.stamp = stamp_of(control);
             fields.word = packet.word;
@@ -127,14 +119,14 @@ fn fields_of(packet: &Packet) -> Fields {
     fields
 }
 
-/// Whether the numbers may be packed, the unused type 3 held to the fields of MC.
+/// Whether the numbers may be packed. A fixed-route packet has the fields of MC.
 fn in_range(f: &Fields) -> bool {
     let common = f.carries <= 1 && f.parity <= 1 && f.nine <= 1 && (f.nine == 1 || f.payload == 0);
     let no_nn = f.direct == 0 && f.route == 0;
     let no_ids = f.source == 0 && f.destination == 0;
     common
         && match f.kind {
-            kind::MC | kind::UNUSED => f.mark <= 3 && f.stamp <= 3 && f.sequence == 0 && no_nn && no_ids,
+            kind::MC | kind::FIXED => f.mark <= 3 && f.stamp <= 3 && f.sequence == 0 && no_nn && no_ids,
             kind::P2P => {
                 let ids = f.source <= 0xffff && f.destination <= 0xffff;
                 f.sequence <= 3 && f.stamp <= 3 && ids && f.mark == 0 && no_nn && f.word == 0
@@ -146,7 +138,7 @@ fn in_range(f: &Fields) -> bool {
 
 fn control_of(f: &Fields) -> u32 {
     let middle = match f.kind {
-        kind::MC => f.mark << 4 | f.stamp << 2,
+        kind::MC | kind::FIXED => f.mark << 4 | f.stamp << 2,
         kind::P2P => f.sequence << 4 | f.stamp << 2,
         _ => f.direct << 5 | f.route << 2,
     };
@@ -202,7 +194,7 @@ pub fn with_stamp(packet: &Packet, stamp: u32) -> Packet {
 
 // One pass
 
-/// The packet, or the first refusal that applies: 7, 6, 5, 11, 1, 2, 3, 4.
+/// The packet, or the first refusal that applies: 7, 6, 5, 11, 1, 2, 4.
 fn accept<const JOINED: bool>(call: &PassCall) -> Result<Packet, u32> {
     if !is_side(call.width) || !is_side(call.height) {
         return Err(refusal::SIZE);
@@ -210,7 +202,7 @@ fn accept<const JOINED: bool>(call: &PassCall) -> Result<Packet, u32> {
     if call.phase > 3 || call.ready >= 1 << LINKS || call.monitor >= PROCESSORS {
         return Err(refusal::RANGE);
     }
-    if !rows_fit::<JOINED>(call.rows) {
+    if !rows_fit::<JOINED>(call.rows) || !is_route(call.fixed) {
         return Err(refusal::ROWS);
     }
     if !codes_fit::<JOINED>(call.codes, call.width * call.height) {
@@ -230,7 +222,11 @@ fn is_side(side: u32) -> bool {
     (1..=MOST_SIDE).contains(&side)
 }
 
-fn rows_fit<const JOINED: bool>(rows: &[u32]) -> bool {
+pub fn is_route(route: u32) -> bool {
+    route < 1 << ROUTE_BITS
+}
+
+pub fn rows_fit<const JOINED: bool>(rows: &[u32]) -> bool {
     if rows.len() % ROW != 0 || rows.len() / ROW > MOST_ROWS {
         return false;
     }
@@ -240,9 +236,9 @@ fn rows_fit<const JOINED: bool>(rows: &[u32]) -> bool {
 pub fn routes_fit<const JOINED: bool>(rows: &[u32]) -> bool {
     let mut rows = rows.chunks_exact(ROW);
     if JOINED {
-        rows.fold(0, |joined, row| joined | row[2]) < 1 << ROUTE_BITS
+        is_route(rows.fold(0, |joined, row| joined | row[2]))
     } else {
-        rows.all(|row| row[2] < 1 << ROUTE_BITS)
+        rows.all(|row| is_route(row[2]))
     }
 }
 
@@ -270,10 +266,15 @@ pub fn errors_of(call: &PassCall, packet: &Packet) -> u32 {
     if packet.nine != carries_of(packet.control) {
         errors |= error::LENGTH;
     }
-    if call.source == LOCAL && kind == kind::MC && mark_of(packet.control) != mark::NORMAL {
+    if call.source == LOCAL && has_mark(kind) && mark_of(packet.control) != mark::NORMAL {
         errors |= error::BAD_LOCAL;
     }
     errors
+}
+
+/// MC and fixed-route packets have a mark, detours and second legs.
+pub fn has_mark(kind: u32) -> bool {
+    kind == kind::MC || kind == kind::FIXED
 }
 
 fn error_pass(call: &PassCall, packet: Packet, errors: u32) -> Pass {
@@ -310,6 +311,7 @@ fn sound_pass(call: &PassCall, packet: Packet) -> Pass {
 
     let (wanted, local_miss) = match kind {
         kind::MC => mc_wanted(call, &packet),
+        kind::FIXED => (fixed_wanted(call, &packet), false),
         kind::P2P => (p2p_wanted(call, packet.word), false),
         _ => (nn_wanted(call, packet.control), false),
     };
@@ -319,13 +321,13 @@ fn sound_pass(call: &PassCall, packet: Packet) -> Pass {
         pass.delivered = packet;
     }
     let wanted_links = wanted & 63;
-    if kind == kind::MC {
-        send_multicast(&mut pass, &packet, wanted_links, call.ready);
+    if has_mark(kind) {
+        send_with_detours(&mut pass, &packet, wanted_links, call.ready);
         send_second_leg(&mut pass, &packet, call);
     } else {
         send_unchanged(&mut pass, &packet, wanted_links, call.ready);
     }
-    let leg_only = kind == kind::MC && mark_of(packet.control) == mark::EMERGENCY;
+    let leg_only = has_mark(kind) && mark_of(packet.control) == mark::EMERGENCY;
     pass.registers = registers_of(&pass, &packet);
     pass.counters = counters_of(&pass, wanted == 0 && !leg_only, local_miss);
     pass
@@ -345,7 +347,16 @@ pub fn mc_wanted(call: &PassCall, packet: &Packet) -> (u32, bool) {
     }
 }
 
-fn first_match(rows: &[u32], key: u32) -> Option<u32> {
+/// The wanted set of a fixed-route packet: the chip's route, local or not, whatever the key. It has no default route.
+pub fn fixed_wanted(call: &PassCall, packet: &Packet) -> u32 {
+    if mark_of(packet.control) == mark::EMERGENCY {
+        0
+    } else {
+        call.fixed
+    }
+}
+
+pub fn first_match(rows: &[u32], key: u32) -> Option<u32> {
     rows.chunks_exact(ROW).find(|row| key & row[1] == row[0]).map(|row| row[2])
 }
 
@@ -377,7 +388,7 @@ fn monitor_route(call: &PassCall) -> u32 {
 }
 
 /// Step 5: a link i that is ready carries the detour of link i+1, which is wanted and not ready.
-fn send_multicast(pass: &mut Pass, packet: &Packet, wanted: u32, ready: u32) {
+fn send_with_detours(pass: &mut Pass, packet: &Packet, wanted: u32, ready: u32) {
     for link in 0..LINKS {
         let next = (link + 1) % LINKS;
         let is_wanted = has(wanted, link);

@@ -15,6 +15,7 @@ pub struct PassCase {
     pub monitor: u32,
     pub phase: u32,
     pub ready: u32,
+    pub fixed: u32,
 }
 
 impl PassCase {
@@ -29,6 +30,7 @@ impl PassCase {
             monitor: self.monitor,
             phase: self.phase,
             ready: self.ready,
+            fixed: self.fixed,
         }
     }
 
@@ -41,10 +43,11 @@ impl PassCase {
         self.monitor = random.below(20);
         self.phase = random.below(4);
         self.ready = if random.one_in(4) { 63 } else { random.below(64) };
-        let kind = random.pick(&[kind::MC, kind::MC, kind::MC, kind::P2P, kind::NN]);
+        let kind = random.pick(&[kind::MC, kind::MC, kind::MC, kind::FIXED, kind::FIXED, kind::P2P, kind::NN]);
         let word = self.random_word(random, kind);
         self.set_packet(random, kind, word);
         self.set_rows(random, word);
+        self.fixed = random_route(random);
         self.codes.clear();
         self.codes.extend((0..self.width * self.height).map(|_| random.below(8) as u8));
     }
@@ -61,7 +64,7 @@ impl PassCase {
     fn set_packet(&mut self, random: &mut Random, kind: u32, word: u32) {
         let middle = match kind {
             kind::NN => random.below(8) << 2,
-            kind::MC if self.source == LOCAL && !random.one_in(8) => random.below(4) << 2,
+            kind::MC | kind::FIXED if self.source == LOCAL && !random.one_in(8) => random.below(4) << 2,
             _ => random.below(4) << 4 | self.random_stamp(random) << 2,
         };
         let nine = random.one_in(2);
@@ -103,10 +106,15 @@ impl PassCase {
             };
             let any = random.word();
             let row_key = if random.one_in(count) { key & mask } else { random.pick(&[any, any & mask, key | !mask]) };
-            let kept = random.pick(&[u32::MAX, u32::MAX, 63, !63, 0]);
-            self.rows.extend_from_slice(&[row_key, mask, random.word() >> 6 & kept]);
+            self.rows.extend_from_slice(&[row_key, mask, random_route(random)]);
         }
     }
+}
+
+/// To links and processors, links alone, processors alone, or nowhere.
+pub fn random_route(random: &mut Random) -> u32 {
+    let kept = random.pick(&[u32::MAX, u32::MAX, 63, !63, 0]);
+    random.word() >> 6 & kept
 }
 
 pub type Damage = fn(&mut PassCase, &mut Random);
@@ -151,7 +159,7 @@ pub const DAMAGES: [Damage; 14] = [
         let wrong = random.pick(&[0, 1, 2, 3, 4, 6, 7, 8, 10, 11, 12]) as usize;
         case.packet.resize(wrong, 0);
     },
-    |case, _| case.set_control(|control| control | 0xc0),
+    |case, random| case.fixed |= 1 << (26 + random.below(6)),
     |case, _| case.set_control(|control| control & 0x3f | 0xa0),
 ];
 

@@ -2,7 +2,7 @@
 
 use crate::compare;
 use crate::model::{kind, LOCAL, MOST_ROWS};
-use crate::pass_case::{PassCase, DAMAGES};
+use crate::pass_case::{random_route, PassCase, DAMAGES};
 use crate::random::Random;
 use crate::tally::Tally;
 
@@ -10,6 +10,9 @@ const SOURCES: [u32; 7] = [0, 1, 2, 3, 4, 5, LOCAL];
 
 pub fn all(tally: &mut Tally, random: &mut Random) {
     wanted_by_ready(tally, random);
+    fixed_by_ready(tally, random);
+    fixed_by_stamp(tally, random);
+    fixed_bits(tally, random);
     misses(tally, random);
     codes(tally, random);
     neighbours(tally, random);
@@ -28,6 +31,60 @@ fn wanted_by_ready(tally: &mut Tally, random: &mut Random) {
                     let processors = random.below(2) * random.below(1 << 20);
                     let mut case = one_chip(random, source, ready, kind::MC << 6 | mark << 4);
                     case.rows = vec![u32::MAX, 0, !wanted & 63, 0, 0, processors << 6 | wanted];
+                    compare::pass(tally, &case);
+                }
+            }
+        }
+    }
+}
+
+/// All links of a fixed route by all ready sets, for each mark and source, with a row that takes the key and says otherwise.
+fn fixed_by_ready(tally: &mut Tally, random: &mut Random) {
+    for source in SOURCES {
+        for mark in 0..4 {
+            for wanted in 0..64 {
+                for ready in 0..64 {
+                    let processors = random.below(2) * random.below(1 << 20);
+                    let mut case = one_chip(random, source, ready, kind::FIXED << 6 | mark << 4);
+                    case.fixed = processors << 6 | wanted;
+                    if random.one_in(2) {
+                        case.rows = vec![0, 0, !case.fixed & 0x03ff_ffff];
+                    }
+                    compare::pass(tally, &case);
+                }
+            }
+        }
+    }
+}
+
+/// Fixed routes to nowhere, to links, to processors and to both, for each mark, stamp, phase and source.
+fn fixed_by_stamp(tally: &mut Tally, random: &mut Random) {
+    for source in SOURCES {
+        for mark_and_stamp in 0..16 {
+            for phase in 0..4 {
+                for kept in [0, 63, 0x03ff_ffc0, 0x03ff_ffff] {
+                    for _ in 0..4 {
+                        let ready = random.below(64);
+                        let mut case = one_chip(random, source, ready, kind::FIXED << 6 | mark_and_stamp << 2);
+                        case.phase = phase;
+                        case.fixed = random.word() & kept;
+                        compare::pass(tally, &case);
+                    }
+                }
+            }
+        }
+    }
+}
+
+/// Each bit of a fixed route, alone and beside others, for each kind of packet.
+fn fixed_bits(tally: &mut Tally, random: &mut Random) {
+    for source in SOURCES {
+        for kind in 0..4 {
+            for bit in 0..32 {
+                for others in [0, 0x03ff_ffff, random.word()] {
+                    let ready = random.below(64);
+                    let mut case = one_chip(random, source, ready, kind << 6);
+                    case.fixed = others | 1 << bit;
                     compare::pass(tally, &case);
                 }
             }
@@ -145,7 +202,7 @@ fn damage_pairs(tally: &mut Tally, random: &mut Random) {
     }
 }
 
-/// A mesh of one chip with no rows, and a packet with this control byte that is right in length and parity.
+/// A mesh of one chip with no rows, some fixed route, and a packet with this control byte that is right in length and parity.
 fn one_chip(random: &mut Random, source: u32, ready: u32, control: u32) -> PassCase {
     let nine = random.one_in(2);
     let mut packet = vec![control as u8 | u8::from(nine) << 1];
@@ -154,8 +211,8 @@ fn one_chip(random: &mut Random, source: u32, ready: u32, control: u32) -> PassC
         packet.extend_from_slice(&random.word().to_be_bytes());
     }
     set_parity_right(&mut packet);
-    let monitor = random.below(20);
-    PassCase { packet, source, width: 1, height: 1, codes: vec![7], monitor, ready, ..PassCase::default() }
+    let (monitor, fixed) = (random.below(20), random_route(random));
+    PassCase { packet, source, width: 1, height: 1, codes: vec![7], monitor, ready, fixed, ..PassCase::default() }
 }
 
 fn set_parity_right(packet: &mut [u8]) {

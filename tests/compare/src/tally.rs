@@ -1,21 +1,31 @@
 //! How often each thing that a call can do was reached.
 
-use crate::interface::{Packed, Packet, Pass, Read};
-use crate::model::{error, kind, kind_of, mark, mark_of, refusal};
+use crate::interface::{Fields, Packed, Packet, Pass, PassCall, Read};
+use crate::model::{self, error, kind, kind_of, mark, mark_of, refusal};
 
 pub type Events<Answer> = &'static [(&'static str, fn(&Answer) -> bool)];
 
 const READ: Events<Read> = &[
     ("read accepted", |read| read.refusal == 0),
     ("read refusal 2, length", |read| read.refusal == refusal::LENGTH),
-    ("read refusal 3, type 11", |read| read.refusal == refusal::TYPE),
+    ("read of a fixed-route packet", |read| read.fields.kind == kind::FIXED && read.fields.mark != 0),
 ];
 
 const PACK: Events<Packed> = &[
     ("pack accepted", |packed| packed.refusal == 0),
     ("pack refusal 6, range", |packed| packed.refusal == refusal::RANGE),
-    ("pack refusal 3, type 11", |packed| packed.refusal == refusal::TYPE),
+    ("pack of a fixed-route packet", |packed| packed.refusal == 0 && kind_of(packed.bytes[0].into()) == kind::FIXED),
 ];
+
+/// Fields that were not packed.
+const UNPACKED: Events<Fields> = &[
+    ("pack refusal 6, type 11 with a field that MC lacks", |fields| fields.kind == kind::FIXED && lacks_in_mc(fields)),
+    ("pack refusal 6, type above 11", |fields| fields.kind > kind::FIXED),
+];
+
+fn lacks_in_mc(fields: &Fields) -> bool {
+    fields.sequence | fields.direct | fields.route | fields.source | fields.destination != 0
+}
 
 const PASS_CALL: Events<Pass> = &[
     ("pass accepted", |pass| pass.refusal == 0),
@@ -25,8 +35,13 @@ const PASS_CALL: Events<Pass> = &[
     ("pass refusal 11, codes", |pass| pass.refusal == refusal::CODES),
     ("pass refusal 1, source", |pass| pass.refusal == refusal::SOURCE),
     ("pass refusal 2, length", |pass| pass.refusal == refusal::LENGTH),
-    ("pass refusal 3, type 11", |pass| pass.refusal == refusal::TYPE),
     ("pass refusal 4, NN with T = 1", |pass| pass.refusal == refusal::DIRECT),
+];
+
+/// Calls that were refused by 5 for their fixed route alone, by the kind of their packet.
+const BAD_FIXED: Events<u32> = &[
+    ("pass refusal 5, fixed route alone, packet of type 11", |&kind| kind == kind::FIXED),
+    ("pass refusal 5, fixed route alone, packet of another type", |&kind| kind != kind::FIXED),
 ];
 
 /// What a pass does, in the one-router call and in a mesh.
@@ -49,14 +64,82 @@ const PASS: Events<Pass> = &[
 ];
 
 fn has_mark(packet: &Packet, mark: u32) -> bool {
-    kind_of(packet.control) == kind::MC && mark_of(packet.control) == mark
+    model::has_mark(kind_of(packet.control)) && mark_of(packet.control) == mark
+}
+
+/// A pass that was accepted, and what it was given.
+#[derive(Debug)]
+pub struct Seen {
+    /// The control byte as it came.
+    pub control: u32,
+    pub local: bool,
+    pub fixed: u32,
+    /// Whether a row takes the packet's word.
+    pub has_row: bool,
+    pub pass: Pass,
+}
+
+/// What a pass of a fixed-route packet does.
+const FIXED: Events<Seen> = &[
+    ("local", |seen| seen.local && seen.is_sound()),
+    ("local, stamp rewritten", |seen| seen.local && seen.pass.processors != 0 && seen.is_restamped()),
+    ("from a link, mark 00", |seen| seen.came(mark::NORMAL)),
+    ("from a link, mark 01", |seen| seen.came(mark::BOTH)),
+    ("from a link, mark 10", |seen| seen.came(mark::EMERGENCY)),
+    ("from a link, mark 11", |seen| seen.came(mark::SECOND_LEG)),
+    ("from a link, mark 11, with a wanted set", |seen| seen.came(mark::SECOND_LEG) && seen.pass.wanted != 0),
+    ("mark 10, nothing wanted of its route", |seen| seen.came(mark::EMERGENCY) && seen.fixed != 0),
+    ("local, though a row takes its key", |seen| seen.local && seen.is_sound() && seen.has_row),
+    ("from a link, though a row takes its key", |seen| !seen.local && seen.is_sound() && seen.has_row),
+    ("local, no row takes its key", |seen| seen.local && seen.is_sound() && !seen.has_row),
+    ("route to links alone", |seen| seen.is_sound() && seen.fixed & 63 != 0 && seen.fixed >> 6 == 0),
+    ("route to processors alone", |seen| seen.is_sound() && seen.fixed & 63 == 0 && seen.fixed >> 6 != 0),
+    ("route to both", |seen| seen.is_sound() && seen.fixed & 63 != 0 && seen.fixed >> 6 != 0),
+    ("route 0, local, swallowed", |seen| seen.local && seen.swallowed()),
+    ("route 0, from a link, swallowed", |seen| !seen.local && seen.swallowed()),
+    ("route 0, mark 01, swallowed beside its second leg", |seen| seen.came(mark::BOTH) && seen.swallowed()),
+    ("route 0, mark 10, not swallowed", |seen| seen.came(mark::EMERGENCY) && seen.fixed == 0),
+    ("parity error", |seen| seen.pass.errors & error::PARITY != 0),
+    ("age error", |seen| seen.pass.errors & error::AGE != 0),
+    ("age error, mark 01", |seen| seen.pass.errors == error::AGE && mark_of(seen.control) == mark::BOTH),
+    ("length error", |seen| seen.pass.errors & error::LENGTH != 0),
+    ("bad local", |seen| seen.pass.errors & error::BAD_LOCAL != 0),
+    ("detour beside a packet, mark 01", |seen| seen.pass.packets.iter().any(|packet| has_mark(packet, mark::BOTH))),
+    ("detour alone, mark 10", |seen| seen.pass.packets.iter().any(|packet| has_mark(packet, mark::EMERGENCY))),
+    ("second leg sent", |seen| seen.pass.leg_sent != 0),
+    ("second leg dropped", |seen| seen.pass.leg_dropped != 0),
+    ("two packets on one link", |seen| seen.pass.sent & seen.pass.leg_sent != 0),
+    ("dropped for a link", |seen| seen.pass.dropped != 0),
+    ("more dropped after the first", |seen| seen.pass.registers.more != 0),
+];
+
+impl Seen {
+    fn is_sound(&self) -> bool {
+        self.pass.errors == 0
+    }
+
+    /// Processors got another stamp than came.
+    fn is_restamped(&self) -> bool {
+        self.is_sound() && (self.pass.delivered.control ^ self.control) & 12 != 0
+    }
+
+    /// From a link, without error, with this mark.
+    fn came(&self, mark: u32) -> bool {
+        !self.local && self.is_sound() && mark_of(self.control) == mark
+    }
+
+    fn swallowed(&self) -> bool {
+        self.is_sound() && self.pass.counters.count[8] == 1
+    }
 }
 
 #[derive(Default)]
 pub struct Tally {
     read: [u64; READ.len()],
     pack: [u64; PACK.len()],
+    unpacked: [u64; UNPACKED.len()],
     pass_call: [u64; PASS_CALL.len()],
+    bad_fixed: [u64; BAD_FIXED.len()],
     passes: PassTally,
 }
 
@@ -65,32 +148,54 @@ impl Tally {
         count(READ, &mut self.read, answer);
     }
 
-    pub fn pack(&mut self, answer: &Packed) {
+    pub fn pack(&mut self, fields: &Fields, answer: &Packed) {
         count(PACK, &mut self.pack, answer);
+        if answer.refusal != 0 {
+            count(UNPACKED, &mut self.unpacked, fields);
+        }
     }
 
-    pub fn pass(&mut self, answer: &Pass) {
+    pub fn pass(&mut self, call: &PassCall, answer: &Pass) {
         count(PASS_CALL, &mut self.pass_call, answer);
-        self.passes.pass(answer);
+        if answer.refusal == refusal::ROWS && model::rows_fit::<false>(call.rows) && !call.packet.is_empty() {
+            count(BAD_FIXED, &mut self.bad_fixed, &kind_of(call.packet[0].into()));
+        }
+        if answer.refusal == 0 {
+            let word = u32::from_be_bytes([call.packet[1], call.packet[2], call.packet[3], call.packet[4]]);
+            self.passes.pass(&Seen {
+                control: call.packet[0].into(),
+                local: call.source == model::LOCAL,
+                fixed: call.fixed,
+                has_row: model::first_match(call.rows, word).is_some(),
+                pass: *answer,
+            });
+        }
     }
 
     /// Prints a line for each, and answers whether all were reached.
     pub fn print(&self) -> bool {
         let calls = print_all("", READ, &self.read) & print_all("", PACK, &self.pack);
-        calls & print_all("", PASS_CALL, &self.pass_call) & self.passes.print("")
+        let refused = print_all("", UNPACKED, &self.unpacked) & print_all("", PASS_CALL, &self.pass_call);
+        calls & refused & print_all("", BAD_FIXED, &self.bad_fixed) & self.passes.print("")
     }
 }
 
 #[derive(Default)]
-pub struct PassTally([u64; PASS.len()]);
+pub struct PassTally {
+    all: [u64; PASS.len()],
+    fixed: [u64; FIXED.len()],
+}
 
 impl PassTally {
-    pub fn pass(&mut self, pass: &Pass) {
-        count(PASS, &mut self.0, pass);
+    pub fn pass(&mut self, seen: &Seen) {
+        count(PASS, &mut self.all, &seen.pass);
+        if kind_of(seen.control) == kind::FIXED {
+            count(FIXED, &mut self.fixed, seen);
+        }
     }
 
     pub fn print(&self, before: &str) -> bool {
-        print_all(before, PASS, &self.0)
+        print_all(before, PASS, &self.all) & print_all(&format!("{before}fixed route, "), FIXED, &self.fixed)
     }
 }
 

@@ -20,6 +20,8 @@ extern "C" {
         starts_len: usize,
         codes: *const u8,
         codes_len: usize,
+        fixed: *const u32,
+        fixed_len: usize,
     ) -> Replayed;
 }
 
@@ -46,6 +48,8 @@ pub fn replay(mesh: &mut [u32], log: &mut [u32], trace: &[u8], tables: &LentTabl
             tables.starts.len(),
             pointer(tables.codes),
             tables.codes.len(),
+            pointer(tables.fixed),
+            tables.fixed.len(),
         )
     }
 }

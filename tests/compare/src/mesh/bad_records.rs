@@ -1,15 +1,16 @@
-//! Records to put into a trace: such as no writer writes, such as a mesh refuses, and one that it passes as an error.
+//! Records to put into a trace: such as no writer writes, such as a mesh refuses, and some that it passes, of type 11 or as an
+//! error.
 
 use crate::interface::KeptCall;
 use crate::random::Random;
 use crate::records::model::{kind, record_of};
 
-/// Every record that stops a replay wherever it stands, for a mesh of so many chips, and one that does not.
+/// Every record that stops a replay wherever it stands, for a mesh of so many chips, and some that do not.
 pub fn all(random: &mut Random, chips: u32) -> Vec<Vec<u8>> {
     let chip = random.below(chips);
     let mut records = without_call(chip);
     records.extend(refused_by_the_mesh(chip, chips).iter().map(|call| record_of(call).expect("it can be kept")));
-    records.push(even_parity(chip));
+    records.extend([0x01, 0xc1, 0xc0, 0xd1, 0xe1, 0xf0].map(|control| taken(chip, control)));
     records
 }
 
@@ -40,14 +41,14 @@ fn without_call(chip: u32) -> Vec<Vec<u8>> {
     records
 }
 
-/// 9, 3 and 4.
+/// 9 and 4.
 fn refused_by_the_mesh(chip: u32, chips: u32) -> Vec<KeptCall> {
     let none = KeptCall::default();
     let inject = |chip: u32, control: u8| {
         let bytes = [control, 0, 0, 0, 1, 0, 0, 0, 0];
         KeptCall { kind: kind::INJECTION, chip, length: 5, bytes, ..none }
     };
-    let mut calls = vec![inject(chip, 0xc0), inject(chip, 0xc1), inject(chip, 0xa0), inject(chip, 0xbf)];
+    let mut calls = vec![inject(chip, 0xa0), inject(chip, 0xbf)];
     for chip in [chips, chips + 1, 60_000, 65_535] {
         calls.push(inject(chip, 0));
         calls.push(KeptCall { kind: kind::LINK_CHANGE, chip, up: 1, ..none });
@@ -55,12 +56,12 @@ fn refused_by_the_mesh(chip: u32, chips: u32) -> Vec<KeptCall> {
     }
     calls.extend([6, 7, 200, 255].map(|link| KeptCall { kind: kind::LINK_CHANGE, chip, link, ..none }));
     // A chip that is not there goes before a packet that is not taken.
-    calls.push(inject(chips, 0xc0));
+    calls.push(inject(chips, 0xa0));
     calls
 }
 
-/// A packet that is taken, and shown to the monitor.
-fn even_parity(chip: u32) -> Vec<u8> {
+/// A packet that is taken: of even parity, of type 11, or a bad local one.
+fn taken(chip: u32, control: u8) -> Vec<u8> {
     let [high, low] = (chip as u16).to_be_bytes();
-    vec![0, 9, 1, 1, high, low, 1, 0, 0, 0, 1]
+    vec![0, 9, 1, 1, high, low, control, 0, 0, 0, 1]
 }

@@ -1,5 +1,6 @@
 //! Each call on a mesh, made on the library's buffer and on the model's mesh, and what both answer and leave compared.
 
+use super::account;
 use super::layout::{link_at, words_for, CHIP, HEADER};
 use super::model::{Done, Mesh};
 use super::pair::Pair;
@@ -41,6 +42,7 @@ impl Pair {
     ) -> Added {
         self.begin("inject", || format!("at {chip:x}, log {room:x}, {packet:x?}, {tables:x?}"));
         let refusal = refusals::inject(self.mesh.as_ref(), room, chip, packet, tables);
+        let in_flight = account::in_flight(self.mesh.as_ref());
         let done = match &mut self.mesh {
             Some(mesh) if refusal == 0 => mesh.inject(chip, packet, tables),
             _ => Done::default(),
@@ -48,7 +50,9 @@ impl Pair {
         let (words, log) = (&mut self.words[..self.lent], &mut self.log[..room]);
         let answer = mesh_calls::inject(words, log, chip, packet, tables);
         self.settle_moved(refusal, &done, answer);
+        self.settle_account(in_flight, &done);
         tally.refusal(Call::Inject, refusal);
+        tally.tables(self.mesh.as_ref(), tables, refusal);
         tally.moved(&done, self.mesh.as_ref());
         answer
     }
@@ -56,6 +60,7 @@ impl Pair {
     pub fn round(&mut self, tally: &mut MeshTally, room: usize, tables: &LentTables) -> Added {
         self.begin("round", || format!("log {room:x}, {tables:x?}"));
         let refusal = refusals::round(self.mesh.as_ref(), room, tables);
+        let in_flight = account::in_flight(self.mesh.as_ref());
         let done = match &mut self.mesh {
             Some(mesh) if refusal == 0 => {
                 tally.round_begins(mesh, room);
@@ -66,7 +71,9 @@ impl Pair {
         let (words, log) = (&mut self.words[..self.lent], &mut self.log[..room]);
         let answer = mesh_calls::round(words, log, tables);
         self.settle_moved(refusal, &done, answer);
+        self.settle_account(in_flight, &done);
         tally.refusal(Call::Round, refusal);
+        tally.tables(self.mesh.as_ref(), tables, refusal);
         tally.moved(&done, self.mesh.as_ref());
         if refusal == 0 {
             tally.round_over(self.mesh.as_ref());

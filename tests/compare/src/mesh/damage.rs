@@ -74,6 +74,8 @@ fn packet(random: &mut Random, mesh: &Mesh, words: &[u32], chip: usize, link: us
             old ^ two_bits,
             any & 0xff,
             old | 0xc0,
+            old ^ 0xc0,
+            old ^ 0xc0,
             old & 0x1f | 0xa0,
             old | 256,
         ]),

@@ -111,6 +111,7 @@ impl Trial<'_> {
     fn bad_records(&mut self, random: &mut Random) {
         let tables = self.kept.tables.clone();
         let bad_tables = LentTables { codes: &[8], ..tables.lent() };
+        let bad_fixed = LentTables { fixed: &[1 << 26], ..tables.lent() };
         let ends: Vec<usize> = self.kept.records.iter().copied().chain([self.kept.trace.len()]).collect();
         for record in bad_records::all(random, self.kept.chips()) {
             for &at in &ends {
@@ -119,6 +120,7 @@ impl Trial<'_> {
                 self.replay(self.kept.room, &trace, &tables.lent());
                 self.replay(self.kept.room, &trace[..at + record.len()], &tables.lent());
                 self.replay(self.kept.room, &trace, &bad_tables);
+                self.replay(self.kept.room, &trace, &bad_fixed);
             }
             self.replay(self.kept.room, &record, &bad_tables);
             self.without_mesh(&record, &tables.lent());
@@ -146,7 +148,7 @@ impl Trial<'_> {
             self.replay(self.kept.room, &[&passes_nothing[..], &round].concat(), &tables.lent());
             self.replay(self.kept.room, &[&passes_nothing[..], &trace].concat(), &tables.lent());
         }
-        let none = LentTables { rows: &[], starts: &[], codes: &[] };
+        let none = LentTables { rows: &[], starts: &[], codes: &[], fixed: &[] };
         self.replay(self.kept.room, &passes_nothing, &none);
         self.replay(0, &passes_nothing, &none);
         self.replay(self.kept.room, &trace, &none);
@@ -189,7 +191,8 @@ impl Trial<'_> {
 /// Nothing is lent at all.
 fn of_nothing(tally: &mut MeshTally) {
     let mut pair = Pair::new("a replay of nothing".to_string(), false, vec![0; 8], 0, vec![0; 8]);
-    pair.replay(tally, 0, &[], &LentTables { rows: &[], starts: &[], codes: &[] });
-    pair.replay(tally, 0, &[0, 2, 1, 2], &LentTables { rows: &[], starts: &[], codes: &[] });
+    let none = LentTables { rows: &[], starts: &[], codes: &[], fixed: &[] };
+    pair.replay(tally, 0, &[], &none);
+    pair.replay(tally, 0, &[0, 2, 1, 2], &none);
     tally.replays.of_nothing += 1;
 }

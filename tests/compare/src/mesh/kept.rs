@@ -46,7 +46,7 @@ impl Kept {
         let mut packet = packets::random(random, self.mesh().width, self.mesh().height, &self.keys);
         match random.below(32) {
             0 => chip = random.pick(&[self.chips(), 60_000, u32::MAX]),
-            1 => PACKET_DAMAGES[random.below(3) as usize](&mut packet, random),
+            1 => PACKET_DAMAGES[random.below(2) as usize](&mut packet, random),
             _ => {}
         }
         let added = self.pair.inject(tally, 6, chip, &packet, &self.tables.lent());

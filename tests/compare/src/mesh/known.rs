@@ -52,7 +52,7 @@ fn ready_before_the_seventh() {
 fn most_rows() {
     let mesh = Mesh::open(1, 1, 1, 0);
     for (rows, expected) in [(1024, 0), (1025, refusal::ROWS)] {
-        let tables = Tables { rows: vec![0; 3 * rows], starts: vec![0, rows as u32], codes: vec![0] };
+        let tables = Tables { rows: vec![0; 3 * rows], starts: vec![0, rows as u32], codes: vec![0], fixed: vec![0] };
         assert_eq!(refusals::inject(Some(&mesh), 6, 0, &P, &tables.lent()), expected, "known pass 15: {rows} rows");
     }
 }
@@ -63,5 +63,6 @@ fn to_link_0(chips: u32) -> Tables {
         rows: [1, u32::MAX, 1].repeat(chips as usize),
         starts: (0..=chips).collect(),
         codes: vec![6; (chips * chips) as usize],
+        fixed: vec![0; chips as usize],
     }
 }

@@ -86,7 +86,7 @@ fn packet_in(place: &[u32]) -> Option<Packet> {
     let nine = carries_payload(control);
     let packet = Packet { control, nine: nine.into(), word, payload };
     let sound_type = match control >> 6 {
-        kind::MC | kind::P2P => true,
+        kind::MC | kind::P2P | kind::FIXED => true,
         kind::NN => direct_of(control) == 0,
         _ => false,
     };

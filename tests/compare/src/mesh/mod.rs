@@ -1,5 +1,6 @@
 //! Whole sequences of calls on a mesh, and replays of them, the library's beside those of a mesh in plain Rust.
 
+mod account;
 mod bad_records;
 mod calls;
 mod damage;

@@ -2,7 +2,9 @@
 //! (passing.rs).
 
 use super::passing::{Router, Source};
-use crate::interface::{LentTables, LinkLook, MeshLook, Packet, Pass, Registers};
+use crate::interface::{LentTables, LinkLook, MeshLook, Packet, Registers};
+use crate::model::{first_match, kind, kind_of};
+use crate::tally::Seen;
 
 pub const COUNTERS: u32 = 10;
 const MOST_HELD_WHEN_READY: usize = 6;
@@ -40,7 +42,7 @@ pub struct Done {
     /// The log records in order.
     pub records: Vec<[u32; 6]>,
     /// Every pass made, in order.
-    pub passes: Vec<Pass>,
+    pub passes: Vec<Seen>,
     /// How often a counter went past its width.
     pub wraps: u64,
 }
@@ -113,6 +115,11 @@ impl Mesh {
         self.chips.iter().flat_map(|chip| &chip.links).map(|link| link.held.len() as u32).sum()
     }
 
+    pub fn fixed_in_flight(&self) -> usize {
+        let held = self.chips.iter().flat_map(|chip| &chip.links).flat_map(|link| &link.held);
+        held.filter(|packet| kind_of(packet.control) == kind::FIXED).count()
+    }
+
     pub fn look(&self) -> MeshLook {
         MeshLook {
             refusal: 0,
@@ -155,7 +162,8 @@ impl Mesh {
     }
 
     fn pass_at(&mut self, number: u32, packet: Packet, source: Source, tables: &LentTables, done: &mut Done) {
-        let passed = self.router(number, tables).pass(packet, source);
+        let router = self.router(number, tables);
+        let passed = router.pass(packet, source);
         let chip = &mut self.chips[number as usize];
         for (link, packet) in passed.sendings() {
             chip.links[link].held.push(packet);
@@ -163,7 +171,13 @@ impl Mesh {
         passed.note_drops(&mut chip.registers);
         done.wraps += chip.count(&passed.counts());
         done.records.extend(passed.record(number));
-        done.passes.push(passed.answer());
+        done.passes.push(Seen {
+            control: packet.control,
+            local: source == Source::Local,
+            fixed: router.fixed,
+            has_row: first_match(router.rows, packet.word).is_some(),
+            pass: passed.answer(),
+        });
     }
 
     /// A chip's router as it now stands, with its own part of the lent tables.
@@ -177,6 +191,7 @@ impl Mesh {
             phase: self.phase,
             rows: &tables.rows[3 * first..3 * end],
             codes: &tables.codes[number * chips..(number + 1) * chips],
+            fixed: tables.fixed[number],
             ready: self.chips[number].links.each_ref().map(Link::is_ready),
         }
     }

@@ -1,6 +1,7 @@
 //! The library's buffer and log beside the model's mesh: what a call left is compared with what it has to leave, word
 //! for word where the call may not touch a word. The first difference ends the program.
 
+use super::account;
 use super::layout::{mesh_in, words_for};
 use super::model::{Done, Mesh};
 use crate::interface::Added;
@@ -56,6 +57,17 @@ impl Pair {
         self.same("answer", &Added { refusal, added: done.records.len() as u32 }, &answer);
         self.logs(&done.records);
         self.settle(refusal);
+    }
+
+    /// The account closes over what was done, which found so much in flight, by weight.
+    pub fn settle_account(&self, before: u32, done: &Done) {
+        let (came, ended) = account::came_and_ended(done);
+        let after = account::in_flight(self.mesh.as_ref());
+        self.same(
+            "account (in flight before and what came, in flight after and what ended)",
+            &(before + came),
+            &(after + ended),
+        );
     }
 
     /// The log has to begin with these records now.

@@ -27,6 +27,7 @@ pub struct Router<'a> {
     pub phase: u32,
     pub rows: &'a [u32],
     pub codes: &'a [u8],
+    pub fixed: u32,
     pub ready: [bool; 6],
 }
 
@@ -60,10 +61,10 @@ impl Router<'_> {
             return Passed { errors, wanted: self.to_monitor(), packet, ..Passed::default() };
         }
         let mut passed = Passed { packet: self.stamped(packet, source), ..Passed::default() };
-        if kind_of(packet.control) == kind::MC {
-            self.pass_multicast(&mut passed, source);
-        } else {
-            self.pass_other(&mut passed, source);
+        match kind_of(packet.control) {
+            kind::MC => self.pass_multicast(&mut passed, source),
+            kind::FIXED => self.pass_fixed(&mut passed, source),
+            _ => self.pass_other(&mut passed, source),
         }
         passed
     }
@@ -71,19 +72,20 @@ impl Router<'_> {
     /// Step 1.
     fn errors(&self, packet: &Packet, source: Source) -> u32 {
         let (kind, control) = (kind_of(packet.control), packet.control);
-        let stamped_kind = kind == kind::MC || kind == kind::P2P;
+        let stamped_kind = kind == kind::MC || kind == kind::P2P || kind == kind::FIXED;
+        let marked_kind = kind == kind::MC || kind == kind::FIXED;
         let too_old = stamp_of(control) == !self.phase & 3;
         let flag = |found: bool, number: u32| if found { number } else { 0 };
         flag(!is_odd(packet), error::PARITY)
             + flag(source != Source::Local && stamped_kind && too_old, error::AGE)
             + flag(carries_payload(control) != (packet.nine == 1), error::LENGTH)
-            + flag(source == Source::Local && kind == kind::MC && mark_of(control) != mark::NORMAL, error::BAD_LOCAL)
+            + flag(source == Source::Local && marked_kind && mark_of(control) != mark::NORMAL, error::BAD_LOCAL)
     }
 
     /// Step 2.
     fn stamped(&self, packet: Packet, source: Source) -> Packet {
         match (source, kind_of(packet.control)) {
-            (Source::Local, kind::MC | kind::P2P) => rewritten(packet, STAMP_AT, self.phase),
+            (Source::Local, kind::MC | kind::P2P | kind::FIXED) => rewritten(packet, STAMP_AT, self.phase),
             _ => packet,
         }
     }
@@ -97,6 +99,22 @@ impl Router<'_> {
             passed.wanted = matching.unwrap_or_else(|| self.unmatched(mark, source));
             passed.swallowed = passed.wanted == 0;
         }
+        self.send_as_multicast(passed, source);
+    }
+
+    /// "a type 11 packet wants that route, local or not, and nothing if marked 10. ... It has no default route and ignores the
+    /// key."
+    fn pass_fixed(&self, passed: &mut Passed, source: Source) {
+        if mark_of(passed.packet.control) != mark::EMERGENCY {
+            passed.wanted = self.fixed;
+            passed.swallowed = self.fixed == 0;
+        }
+        self.send_as_multicast(passed, source);
+    }
+
+    /// Steps 4 to 6.
+    fn send_as_multicast(&self, passed: &mut Passed, source: Source) {
+        let mark = mark_of(passed.packet.control);
         self.send_with_detours(passed);
         match source {
             Source::Link(link) if mark == mark::BOTH || mark == mark::EMERGENCY => {

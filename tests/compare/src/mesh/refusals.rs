@@ -1,4 +1,4 @@
-//! Which calls on a mesh are refused, and by which number: the first that applies of 8, 7, 9, 6, 5, 11, 10, 1, 2, 3, 4,
+//! Which calls on a mesh are refused, and by which number: the first that applies of 8, 7, 9, 6, 5, 11, 10, 1, 2, 4,
 //! or on opening of 7, 6, 8. 0 is a call that is accepted.
 
 use super::layout::{is_rounds, is_side, words_for, PROCESSORS};
@@ -76,14 +76,30 @@ fn no_chip(mesh: &Mesh, chip: u32) -> u32 {
 
 pub fn of_tables(mesh: &Mesh, tables: &LentTables) -> u32 {
     let chips = mesh.chips.len();
-    let rows_fit = routes_fit(tables.rows) && starts_fit(tables.starts, chips, tables.rows.len() / ROW);
+    let fixed_fit = tables.fixed.len() == chips && tables.fixed.iter().all(|&route| is_route(route));
     let codes_fit = tables.codes.len() == chips * chips && tables.codes.iter().all(|&code| code <= MOST_CODE);
-    first(&[number(!rows_fit, refusal::ROWS), number(!codes_fit, refusal::CODES)])
+    let routes_fit = rows_fit(mesh, tables) && fixed_fit;
+    first(&[number(!routes_fit, refusal::ROWS), number(!codes_fit, refusal::CODES)])
+}
+
+/// The tables are in order, fixed routes and codes apart.
+pub fn rows_fit(mesh: &Mesh, tables: &LentTables) -> bool {
+    routes_fit(tables.rows) && starts_fit(tables.starts, mesh.chips.len(), tables.rows.len() / ROW)
+}
+
+/// The tables are refused by 5 for their fixed routes alone.
+pub fn of_fixed_alone(mesh: &Mesh, tables: &LentTables) -> bool {
+    rows_fit(mesh, tables) && of_tables(mesh, tables) == refusal::ROWS
+}
+
+/// No "bits 26 to 31 set".
+fn is_route(route: u32) -> bool {
+    route >> ROUTE_BITS == 0
 }
 
 /// "A count that is no multiple of 3 is refusal 5", and so is a "route bit 26 to 31 set".
 fn routes_fit(rows: &[u32]) -> bool {
-    rows.len() % ROW == 0 && rows.chunks(ROW).all(|row| row[2] >> ROUTE_BITS == 0)
+    rows.len() % ROW == 0 && rows.chunks(ROW).all(|row| is_route(row[2]))
 }
 
 /// "first 0, never falling, last the number of rows, one more number than chips", and at most 1,024 rows for a chip.
@@ -99,7 +115,6 @@ fn of_packet(packet: &[u8]) -> u32 {
     }
     let control = packet[0].into();
     match kind_of(control) {
-        kind::UNUSED => refusal::TYPE,
         kind::NN => number(direct_of(control) == 1, refusal::DIRECT),
         _ => 0,
     }

@@ -32,7 +32,7 @@ impl Sequence<'_> {
             match self.random.below(7) {
                 0 => chip = self.wrong_chip(),
                 1 => room = self.random.below(6) as usize,
-                2..=4 => PACKET_DAMAGES[self.random.below(3) as usize](&mut packet, &mut self.random),
+                2..=4 => PACKET_DAMAGES[self.random.below(2) as usize](&mut packet, &mut self.random),
                 _ => self.damage_tables(&mut tables),
             }
         }
@@ -81,11 +81,11 @@ impl Sequence<'_> {
     /// and the word is put back.
     pub fn changed_word(&mut self) {
         let Some(mesh) = &self.pair.mesh else { return };
-        let sides = (mesh.width, mesh.height);
+        let (sides, fixed) = ((mesh.width, mesh.height), mesh.fixed_in_flight());
         let (at, old) = damage(&mut self.random, mesh, &mut self.pair.words);
         self.pair.read_anew();
         let holds = self.pair.mesh.is_some();
-        self.tally.changed_word(holds);
+        self.tally.changed_word(self.pair.mesh.as_ref(), fixed);
         if holds && self.sides() != Some(sides) {
             self.new_tables();
         }

@@ -1,10 +1,11 @@
 //! How often each thing that a replay can do was reached.
 
 use super::model::Mesh;
+use super::packets::is_fixed;
 use super::refusals::{self, LOG, NOT_THERE, NO_MESH};
 use super::replay::Played;
 use crate::interface::{KeptCall, LentTables, Registers, Replayed};
-use crate::model::{error, refusal};
+use crate::model::{error, kind::FIXED, kind_of, refusal};
 use crate::records::model::{kind, refusal as of_record};
 use crate::tally::{count, print_all, print_line, Events};
 
@@ -15,13 +16,16 @@ pub struct ReplayCase {
     trace: usize,
     room: usize,
     holds_mesh: bool,
-    /// What the tables are refused by, or 0.
+    /// What the tables are refused by, or 0, and whether their fixed routes alone are why.
     tables: u32,
+    fixed_alone: bool,
     answer: Replayed,
     calls: Vec<KeptCall>,
     /// The kind of the call that was refused, or 0 where a record was.
     refused: u32,
     parity: bool,
+    /// Whether a round passed a packet of type 11.
+    fixed_in_round: bool,
     drop_emptied: bool,
     phase_steps: bool,
 }
@@ -29,8 +33,9 @@ pub struct ReplayCase {
 impl ReplayCase {
     pub fn begun(mesh: Option<&Mesh>, room: usize, trace: &[u8], tables: &LentTables) -> ReplayCase {
         let holds_mesh = mesh.is_some();
+        let fixed_alone = mesh.is_some_and(|mesh| refusals::of_fixed_alone(mesh, tables));
         let tables = mesh.map_or(0, |mesh| refusals::of_tables(mesh, tables));
-        ReplayCase { trace: trace.len(), room, holds_mesh, tables, ..ReplayCase::default() }
+        ReplayCase { trace: trace.len(), room, holds_mesh, tables, fixed_alone, ..ReplayCase::default() }
     }
 
     pub fn over(self, played: &Played, phase_steps: bool) -> ReplayCase {
@@ -38,7 +43,8 @@ impl ReplayCase {
             answer: played.answer,
             calls: played.calls.clone(),
             refused: played.refused.map_or(0, |call| call.kind),
-            parity: played.done.passes.iter().any(|pass| pass.errors & error::PARITY != 0),
+            parity: played.done.passes.iter().any(|seen| seen.pass.errors & error::PARITY != 0),
+            fixed_in_round: played.done.passes.iter().any(|seen| kind_of(seen.control) == FIXED && !seen.local),
             drop_emptied: played.registers.iter().any(|registers| *registers != Registers::default()),
             phase_steps,
             ..self
@@ -58,6 +64,11 @@ impl ReplayCase {
         self.answer.refusal == number && !self.calls.is_empty()
     }
 
+    /// Stopped by 5 at a call of this kind, behind others, for fixed routes alone.
+    fn by_fixed(&self, kind: u32) -> bool {
+        self.later(refusal::ROWS) && self.refused == kind && self.fixed_alone
+    }
+
     /// Stopped by this number though the buffer holds no mesh.
     fn before_mesh(&self, number: u32) -> bool {
         self.answer.refusal == number && !self.holds_mesh
@@ -75,6 +86,8 @@ const REPLAY: Events<ReplayCase> = &[
     ("of no bytes, with bad tables", |case| case.trace == 0 && case.tables != 0),
     ("of all four kinds", |case| case.whole() && (1..=4).all(|kind| case.made(kind))),
     ("with a parity error passed", |case| case.whole() && case.parity),
+    ("with fixed-route packets passed in a round", |case| case.whole() && case.fixed_in_round),
+    ("of calls that pass nothing, with bad fixed routes", |case| case.whole() && case.fixed_alone),
     ("with a drop emptied from registers", |case| case.whole() && case.drop_emptied),
     ("over a step of the phase", |case| case.whole() && case.phase_steps),
     ("that fills the log", |case| case.whole() && case.answer.added > 0 && case.room == 6 * case.answer.added),
@@ -97,7 +110,8 @@ const STOPPED: Events<ReplayCase> = &[
     ("later, by 11 at a round", |case| case.later(refusal::CODES) && case.refused == kind::ROUND),
     ("later, by 10 at an injection", |case| case.later(LOG) && case.refused == kind::INJECTION),
     ("later, by 10 at a round", |case| case.later(LOG) && case.refused == kind::ROUND),
-    ("later, by 3", |case| case.later(refusal::TYPE)),
+    ("later, by 5 at an injection, for a fixed route", |case| case.by_fixed(kind::INJECTION)),
+    ("later, by 5 at a round, for a fixed route", |case| case.by_fixed(kind::ROUND)),
     ("later, by 4", |case| case.later(refusal::DIRECT)),
     ("by 12, without a mesh", |case| case.before_mesh(of_record::CUT_SHORT)),
     ("by 13, without a mesh", |case| case.before_mesh(of_record::VERSION)),
@@ -112,6 +126,7 @@ const STOPPED: Events<ReplayCase> = &[
 const MADE: Events<KeptCall> = &[
     ("injections of five bytes", |call| call.kind == kind::INJECTION && call.length == 5),
     ("injections of nine bytes", |call| call.kind == kind::INJECTION && call.length == 9),
+    ("injections of a fixed-route packet", |call| call.kind == kind::INJECTION && is_fixed(&call.bytes)),
     ("rounds", |call| call.kind == kind::ROUND),
     ("links taken down", |call| call.kind == kind::LINK_CHANGE && call.up == 0),
     ("links brought up", |call| call.kind == kind::LINK_CHANGE && call.up == 1),

@@ -1,6 +1,7 @@
 //! A replay by the library beside one by the model: answer, mesh and log are compared as after every call. What a refused
 //! record came after has to stand, word for word, as if the trace had ended there.
 
+use super::account;
 use super::pair::Pair;
 use super::replay::{replay, Played};
 use super::replay_tally::ReplayCase;
@@ -15,6 +16,7 @@ impl Pair {
         let begun = ReplayCase::begun(self.mesh.as_ref(), room, trace, tables);
         let phase = self.mesh.as_ref().map(|mesh| mesh.phase);
         let (mut words, mut log) = (self.words.clone(), self.log.clone());
+        let in_flight = account::in_flight(self.mesh.as_ref());
         let played = replay(&mut self.mesh, room, trace, tables);
         let answer = trace_calls::replay(&mut self.words[..self.lent], &mut self.log[..room], trace, tables);
         self.same("answer", &played.answer, &answer);
@@ -30,6 +32,7 @@ impl Pair {
             self.same_words("buffer beside that of the trace up to there", &words, &self.words);
             self.same_words("log beside that of the trace up to there", &log, &self.log);
         }
+        self.settle_account(in_flight, &played.done);
         tally.refusal(Call::Replay, answer.refusal);
         tally.moved(&played.done, self.mesh.as_ref());
         let phase_steps = phase != self.mesh.as_ref().map(|mesh| mesh.phase);

@@ -9,6 +9,7 @@ pub struct Tables {
     pub rows: Vec<u32>,
     pub starts: Vec<u32>,
     pub codes: Vec<u8>,
+    pub fixed: Vec<u32>,
 }
 
 /// What the routes of one mesh's tables are like.
@@ -24,18 +25,13 @@ enum Routes {
 
 impl Tables {
     pub fn lent(&self) -> LentTables<'_> {
-        LentTables { rows: &self.rows, starts: &self.starts, codes: &self.codes }
+        LentTables { rows: &self.rows, starts: &self.starts, codes: &self.codes, fixed: &self.fixed }
     }
 
     /// Rows for these keys, with what matches more than one of them between.
     pub fn random(random: &mut Random, chips: usize, keys: &[u32]) -> Tables {
         let mut tables = Tables { starts: vec![0], ..Tables::default() };
-        let routes = match random.below(4) {
-            0 => Routes::OneLink(random.below(6)),
-            1 => Routes::Any,
-            2 => Routes::Flood,
-            _ => [Routes::Any, Routes::OneLink(random.below(6))][random.below(2) as usize],
-        };
+        let routes = random_routes(random);
         let most = random.pick(&[0, 1, 3, 6, 6, 10, 20]);
         let full_chip = if random.one_in(64) { random.below(chips as u32) as usize } else { chips };
         for chip in 0..chips {
@@ -46,6 +42,7 @@ impl Tables {
             tables.starts.push(tables.rows.len() as u32 / 3);
         }
         tables.codes = random_codes(random, chips * chips);
+        tables.fixed = random_fixed(random, chips);
         tables
     }
 
@@ -58,15 +55,39 @@ impl Tables {
         };
         let outside = if random.one_in(4) { random.word() & !mask } else { 0 };
         let key = keys[random.below(keys.len() as u32) as usize] & mask | outside;
-        let (one_link, any_links) = (1 << random.below(6), random.below(64));
-        let processors = random.word() & random.word() & 0x03ff_ffc0;
-        let route = match routes {
-            Routes::OneLink(link) => 1 << link | if random.one_in(4) { processors } else { 0 },
-            Routes::Any => random.pick(&[any_links, any_links | processors, processors, one_link, 0]),
-            Routes::Flood => any_links | random.below(64) | if random.one_in(4) { processors } else { 0 },
-        };
-        self.rows.extend_from_slice(&[key, mask, route]);
+        self.rows.extend_from_slice(&[key, mask, random_route(random, routes)]);
     }
+}
+
+fn random_routes(random: &mut Random) -> Routes {
+    match random.below(4) {
+        0 => Routes::OneLink(random.below(6)),
+        1 => Routes::Any,
+        2 => Routes::Flood,
+        _ => [Routes::Any, Routes::OneLink(random.below(6))][random.below(2) as usize],
+    }
+}
+
+fn random_route(random: &mut Random, routes: Routes) -> u32 {
+    let (one_link, any_links) = (1 << random.below(6), random.below(64));
+    let processors = random.word() & random.word() & 0x03ff_ffc0;
+    match routes {
+        Routes::OneLink(link) => 1 << link | if random.one_in(4) { processors } else { 0 },
+        Routes::Any => random.pick(&[any_links, any_links | processors, processors, one_link, 0]),
+        Routes::Flood => any_links | random.below(64) | if random.one_in(4) { processors } else { 0 },
+    }
+}
+
+/// One route a chip, of one kind, with some that end at processors or nowhere.
+fn random_fixed(random: &mut Random, chips: usize) -> Vec<u32> {
+    let routes = random_routes(random);
+    let usual = random.below(4);
+    let route = |_| match random.below(4 + usual) {
+        0 => random.word() & 0x03ff_ffc0,
+        1 if random.one_in(4) => 0,
+        _ => random_route(random, routes),
+    };
+    (0..chips).map(route).collect()
 }
 
 fn random_codes(random: &mut Random, count: usize) -> Vec<u8> {
@@ -77,8 +98,8 @@ fn random_codes(random: &mut Random, count: usize) -> Vec<u8> {
 
 pub type TableDamage = fn(&mut Tables, &mut Random);
 
-/// Each gives tables that were accepted a reason to be refused. The first eight are refusal 5, the others 11.
-pub const TABLE_DAMAGES: [TableDamage; 10] = [
+/// Each gives tables that were accepted a reason to be refused. The first ten are refusal 5, the others 11.
+pub const TABLE_DAMAGES: [TableDamage; 12] = [
     |tables, random| tables.rows.extend(std::iter::repeat(0).take(1 + random.below(2) as usize)),
     |tables, random| {
         // One chip with too many rows, and the starts behind it moved along.
@@ -124,6 +145,17 @@ pub const TABLE_DAMAGES: [TableDamage; 10] = [
         if at + 1 < tables.starts.len() {
             tables.starts[at] = tables.starts[at + 1].saturating_add(random.pick(&[1, 1, 2, 1024, u32::MAX]));
         }
+    },
+    |tables, random| {
+        let at = random.below(tables.fixed.len().max(1) as u32) as usize;
+        if let Some(route) = tables.fixed.get_mut(at) {
+            *route |= 1 << (26 + random.below(6));
+        }
+    },
+    |tables, random| {
+        let count = tables.fixed.len();
+        let wrong = [0, count + 1, count + 1, count.saturating_sub(1), 2 * count, 145][random.below(6) as usize];
+        tables.fixed.resize(if wrong == count { count + 2 } else { wrong }, 0);
     },
     |tables, random| {
         let count = tables.codes.len();

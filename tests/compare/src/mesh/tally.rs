@@ -2,8 +2,10 @@
 
 use super::layout::MOST_HELD;
 use super::model::{Done, Mesh};
+use super::refusals;
 use super::replay_tally::ReplayTally;
-use crate::interface::{Packet, Registers};
+use crate::interface::{LentTables, Packet, Registers};
+use crate::model::{kind, kind_of};
 use crate::tally::{print_line, PassTally};
 
 #[derive(Clone, Copy)]
@@ -25,7 +27,7 @@ pub enum Call {
 const CALLS: [(&str, &[u32]); 11] = [
     ("size", &[0, 7]),
     ("open", &[0, 7, 6, 8]),
-    ("inject", &[0, 8, 9, 5, 11, 10, 2, 3, 4]),
+    ("inject", &[0, 8, 9, 5, 11, 10, 2, 4]),
     ("round", &[0, 8, 5, 11, 10]),
     ("set link", &[0, 8, 9]),
     ("read registers", &[0, 8, 9]),
@@ -33,7 +35,7 @@ const CALLS: [(&str, &[u32]); 11] = [
     ("look at the mesh", &[0, 8]),
     ("look at link", &[0, 8, 9]),
     ("flight", &[0, 8, 9]),
-    ("replay", &[0, 12, 13, 14, 8, 9, 5, 11, 10, 3, 4]),
+    ("replay", &[0, 12, 13, 14, 8, 9, 5, 11, 10, 4]),
 ];
 const NUMBERS: usize = 15;
 
@@ -67,6 +69,12 @@ pub struct MeshTally {
     flights_of_five: u64,
     flights_of_nine: u64,
     flights_at_last: u64,
+    flights_of_fixed: u64,
+    changed_to_fixed: u64,
+    most_fixed_in_flight: u64,
+    fixed_bits: u64,
+    fixed_too_few: u64,
+    fixed_too_many: u64,
     pub replays: ReplayTally,
 }
 
@@ -91,6 +99,7 @@ impl MeshTally {
     pub fn round_begins(&mut self, mesh: &Mesh, room: usize) {
         let in_flight = u64::from(mesh.in_flight());
         self.most_in_flight = self.most_in_flight.max(in_flight);
+        self.most_fixed_in_flight = self.most_fixed_in_flight.max(mesh.fixed_in_flight() as u64);
         self.rounds_with_none += u64::from(in_flight == 0);
         self.exact_log += u64::from(in_flight != 0 && room as u64 == 6 * in_flight);
         let links = mesh.chips.iter().flat_map(|chip| &chip.links);
@@ -119,12 +128,23 @@ impl MeshTally {
         self.flights_of_five += u64::from(packet.nine == 0);
         self.flights_of_nine += u64::from(packet.nine == 1);
         self.flights_at_last += u64::from(place + 1 == MOST_HELD);
+        self.flights_of_fixed += u64::from(kind_of(packet.control) == kind::FIXED);
     }
 
-    /// A word of a buffer was changed.
-    pub fn changed_word(&mut self, holds: bool) {
-        self.changed_holds += u64::from(holds);
-        self.changed_holds_none += u64::from(!holds);
+    /// An injection or a round was refused, if it was, with these tables.
+    pub fn tables(&mut self, mesh: Option<&Mesh>, tables: &LentTables, refusal: u32) {
+        let Some(mesh) = mesh.filter(|mesh| refusal == 5 && refusals::of_fixed_alone(mesh, tables)) else { return };
+        let (routes, chips) = (tables.fixed.len(), mesh.chips.len());
+        self.fixed_bits += u64::from(routes == chips);
+        self.fixed_too_few += u64::from(routes < chips);
+        self.fixed_too_many += u64::from(routes > chips);
+    }
+
+    /// A word of a buffer was changed; with so many packets of type 11 in flight before.
+    pub fn changed_word(&mut self, mesh: Option<&Mesh>, fixed_before: usize) {
+        self.changed_holds += u64::from(mesh.is_some());
+        self.changed_holds_none += u64::from(mesh.is_none());
+        self.changed_to_fixed += u64::from(mesh.is_some_and(|mesh| mesh.fixed_in_flight() > fixed_before));
     }
 
     /// Prints a line for each, and answers whether all were reached.
@@ -148,7 +168,7 @@ impl MeshTally {
         all
     }
 
-    fn events(&self) -> [(&'static str, u64); 25] {
+    fn events(&self) -> [(&'static str, u64); 31] {
         [
             ("sequences", self.sequences),
             ("sequences on one chip", self.one_chip),
@@ -175,6 +195,12 @@ impl MeshTally {
             ("flight of five bytes", self.flights_of_five),
             ("flight of nine bytes", self.flights_of_nine),
             ("flight at the last of eight places", self.flights_at_last),
+            ("flight of a fixed-route packet", self.flights_of_fixed),
+            ("changed word, one more of type 11 in flight", self.changed_to_fixed),
+            ("most fixed-route packets in flight when a round begins", self.most_fixed_in_flight),
+            ("injection or round refused by 5, bad bit of a fixed route alone", self.fixed_bits),
+            ("injection or round refused by 5, too few fixed routes alone", self.fixed_too_few),
+            ("injection or round refused by 5, too many fixed routes alone", self.fixed_too_many),
         ]
     }
 }
