@@ -86,6 +86,6 @@ module _ (i : ℕ) (hi : i < 6) (ys l : List ℕ) (long : length l ≡ chipLong)
 
   pub chip-line : chipIn (putBack (linePlace i) lineLong ys l) ≡ withLine (chipIn l) i (lineIn ys)
   chip-line =
-      let r : part 0 registersLong (putBack (linePlace i) lineLong ys l) ≡ part 0 registersLong l = part-before (linePlace i) lineLong ys l fits sized 0 6 (omega arith) in
-      let c : part countersAt countersLong (putBack (linePlace i) lineLong ys l) ≡ part countersAt countersLong l = part-before (linePlace i) lineLong ys l fits sized 6 10 (omega arith) in
+      let r : part 0 registersLong (putBack (linePlace i) lineLong ys l) ≡ part 0 registersLong l = part-before (linePlace i) lineLong ys l fits sized 0 registersLong (omega arith) in
+      let c : part countersAt countersLong (putBack (linePlace i) lineLong ys l) ≡ part countersAt countersLong l = part-before (linePlace i) lineLong ys l fits sized countersAt countersLong (omega arith) in
       λ k. record { registers = registersIn (r k); counters = record { count = c k }; lines = all-lines k }

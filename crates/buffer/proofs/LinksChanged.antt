@@ -88,7 +88,7 @@ pub sends-long : (k : ℕ) (l : List ℕ) (o : Outcome) → k < 6 → Takes l o 
 sends-long k l o hk t = length-sent (lineWords k l) o k (line-long k l hk (t .long)) (t .room k hk)
 
 -- a chip after a pass: registers and counters first, then all six links
-module _ (l ws cs : List ℕ) (o : Outcome) (h : length l ≡ chipLong) (lw : length ws ≡ 6) (lc : length cs ≡ 10) where
+module _ (l ws cs : List ℕ) (o : Outcome) (h : length l ≡ chipLong) (lw : length ws ≡ registersLong) (lc : length cs ≡ countersLong) where
   fits₀ : 0 + registersLong ≤ length l
   fits₀ = omega arith
 

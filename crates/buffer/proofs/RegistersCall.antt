@@ -36,10 +36,10 @@ module _ (w : List ℕ) (long : length w ≡ chipLong) where
   fits = omega arith
 
   behind : (b k : ℕ) → registersLong ≤ b → part b k (putBack 0 registersLong (registerWords empty) w) ≡ part b k w
-  behind b k h = part-behind 0 6 (registerWords empty) w fits refl b k (omega arith)
+  behind b k h = part-behind 0 registersLong (registerWords empty) w fits refl b k (omega arith)
 
   emptied-long : length (putBack 0 registersLong (registerWords empty) w) ≡ chipLong
-  emptied-long = length-back 0 6 (registerWords empty) w fits refl ∙ long
+  emptied-long = length-back 0 registersLong (registerWords empty) w fits refl ∙ long
 
   line-kept : (j : ℕ) → lineWords j (putBack 0 registersLong (registerWords empty) w) ≡ lineWords j w
   line-kept j = behind (linePlace j) lineLong (omega arith)
@@ -47,7 +47,7 @@ module _ (w : List ℕ) (long : length w ≡ chipLong) where
   chip-emptied : chipIn (putBack 0 registersLong (registerWords empty) w) ≡ record { registers = empty; counters = chipIn w .counters; lines = chipIn w .lines }
   chip-emptied =
       λ i. record {
-        registers = (ap registersIn (part-same 0 6 (registerWords empty) w fits refl) ∙ registers-back empty) i;
+        registers = (ap registersIn (part-same 0 registersLong (registerWords empty) w fits refl) ∙ registers-back empty) i;
         counters = record { count = behind countersAt countersLong (omega arith) i };
         lines = lineIn (line-kept 0 i) ∷ lineIn (line-kept 1 i) ∷ lineIn (line-kept 2 i) ∷ lineIn (line-kept 3 i) ∷ lineIn (line-kept 4 i) ∷ lineIn (line-kept 5 i) ∷ [];
       }
@@ -61,7 +61,7 @@ module _ (l : List ℕ) (chip r : ℕ) (e : r ≡ firstOf (chipRefusals (holdsMe
         f .buffer,
       )
 
-  pub registers-leave : r ≡ 0 → (found : Registers) → found ≡ registersIn (part (chipPlace chip) 6 l)
+  pub registers-leave : r ≡ 0 → (found : Registers) → found ≡ registersIn (part (chipPlace chip) registersLong l)
       → (record { refusal = 0; registers = found } ≡ registersRead (holdsMesh l) (meshOf l) chip)
       × Leaves l (putBack (chipPlace chip) chipLong (putBack 0 registersLong (registerWords empty) (chipWords chip l)) l) (registersLeft l chip)
   unfolding meshOf

@@ -76,7 +76,7 @@ fn send_on(chip: &mut [u32], o: Outcome, i: u32)
     send(&mut chip[at..at + LINE], o, i);
 }
 
-// Keeps a pass's first dropped unit in the six words of the registers.
+// Keeps a pass's first dropped unit, and counts all of them, in the nine words of the registers.
 fn keep(words: &mut [u32], o: Outcome)
     requires { ⌜ (length (now words) ≡ registersLong) × ((o .dropped < 64) × (o .«leg_dropped» < 64)) ⌝ }
     ensures { λ _. ⌜ now (words .exit) ≡ registerWords (keptOf (registersIn (now (words .entry))) o) ⌝ }

@@ -3,6 +3,8 @@ use super::opening::rounds_fine;
 use super::opening::words_for;
 use super::registers::registers_at;
 use kept::Registers;
+use kept::keeping::MOST_UNITS;
+use kept::keeping::more_of;
 use links::line::packet_at;
 use links::offsets::CHIP;
 use links::offsets::ELAPSED;
@@ -31,7 +33,7 @@ use tables::size::size_fine;
 ghost use mathlib.Core.Path.{_≡_};
 ghost use lib.ListN.{length, drop};
 ghost use Prim.Native.Nat.{_+_, _*_, _≤_};
-ghost use Rattle.mesh.specs.Sound.{packetFine, registersFine};
+ghost use Rattle.mesh.specs.Sound.{packetFine, allZeros, registersFine};
 ghost use Rattle.buffer.specs.Holding.{placesFine, lineFine, chipFine, chipsFine, headFine, holdsMesh};
 ghost use Rattle.links.specs.Offsets.{headerLong, placesAt, placeLong, lineLong, chipLong};
 
@@ -91,9 +93,25 @@ fn registers_fine(r: Registers) -> bool
     (r.control < 256)
         & (r.link < 6)
         & (r.leg <= 1)
-        & (r.more <= 1)
-        & (!((r.control == 0) & (r.word == 0) & (r.payload == 0))
-            | ((r.link == 0) & (r.leg == 0) & (r.more == 0)))
+        & (r.more == more_of(r.units))
+        & ((r.source < 6) | (r.source == 7))
+        & (r.phase <= 3)
+        & (r.units <= MOST_UNITS)
+        & (!(r.units == 0) | all_zeros(r))
+}
+
+// Whether each number but that of the units is 0.
+fn all_zeros(r: Registers) -> bool
+    ensures { λ b. ⌜ b ≡ allZeros r ⌝ }
+{
+    (r.control == 0)
+        & (r.word == 0)
+        & (r.payload == 0)
+        & (r.link == 0)
+        & (r.leg == 0)
+        & (r.more == 0)
+        & (r.source == 0)
+        & (r.phase == 0)
 }
 
 fn chip_fine(chip: &[u32]) -> bool

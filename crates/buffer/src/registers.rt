@@ -16,6 +16,9 @@ pub fn registers_at(words: &[u32]) -> Registers
         link: words[3],
         leg: words[4],
         more: words[5],
+        source: words[6],
+        phase: words[7],
+        units: words[8],
     }
 }
 
@@ -29,4 +32,7 @@ pub fn put_registers(words: &mut [u32], r: Registers)
     words[3] = r.link;
     words[4] = r.leg;
     words[5] = r.more;
+    words[6] = r.source;
+    words[7] = r.phase;
+    words[8] = r.units;
 }

@@ -1,27 +1,22 @@
--- Every pass, whatever the packet, the tables and the setting: its account closes, and a packet in error is dropped nowhere.
-use mathlib.Core.Path.{_≡_, refl, sym, ap, _∙_}
+-- Every pass, whatever the packet, the tables and the setting: its account closes.
+use mathlib.Core.Path.{_≡_, sym, ap, _∙_}
 use mathlib.Core.Logic.{⊎-elim}
-use mathlib.Core.Bool.{Bool, true, false, cond, _&&_, not, true≢false}
+use mathlib.Core.Bool.{true, false, cond, _&&_, true≢false}
 use Prim.Native.Nat.{ℕ, _+_}
-use lib.Count.{ones}
 use lib.Dec.{eqb, ltb}
-use borrow.Author.Tests.{ne-eqb}
 use Rattle.packet.specs.declared.Packet.{Packet}
 use Rattle.packet.specs.Control.{markOf}
 use Rattle.packet.specs.Types.{isMarked}
 use Rattle.packet.proofs.Types.{same-marked}
 use Rattle.tables.specs.Tables.{ChipTables}
 use Rattle.steps.specs.declared.Setting.{Setting}
-use Rattle.steps.specs.Links.{has, setOf}
-use Rattle.steps.specs.Detour.{drops}
 use Rattle.steps.specs.Errors.{errorsOf, stampedOf, badLocal}
 use Rattle.steps.specs.Wants.{wantedOf}
-use Rattle.steps.specs.Deciding.{legSet, decided, outcomeOf, Source, Checked}
+use Rattle.steps.specs.Deciding.{outcomeOf, Source, Checked}
 use Rattle.steps.proofs.Emergency.{emergency-wants-nothing}
 use Rattle.steps.proofs.Flags.{without-error}
 use Rattle.steps.proofs.Stamping.{Stamped, stamped}
 use Rattle.steps.proofs.SentBy.{no-link-wanted}
-use Rattle.kept.specs.Keeping.{dropCount}
 use Rattle.kept.specs.Units.{weightIn, extra, weightSent, settled}
 use Rattle.kept.proofs.Account.{Consistent, account-decided}
 
@@ -56,18 +51,3 @@ module _ (p : Packet) (s : ℕ) (tables : ChipTables) (t : Setting) (h : Checked
       λ i. cond (ltb s 6) (cond (same-marked _ _ (sym (q .kind)) i && eqb (sym (q .mark) i) 1) 2 1) 1 in
       ap (λ (n : ℕ). n + extra (outcomeOf p s tables t)) same
       ∙ account-decided e (stampedOf p s e (t .phase)) s (t .phase) (wantedOf e p s tables t) (t .ready) (h .ready) consistent
-
-  -- a packet in error is dropped nowhere
-  pub error-drops-none : (errorsOf p s (t .phase) ≡ 0 → ⊥) → dropCount (outcomeOf p s tables t) ≡ 0
-  unfolding outcomeOf decided ones
-  error-drops-none some =
-      let e = errorsOf p s (t .phase) in
-      let q = stampedOf p s e (t .phase) in
-      let w = no-link-wanted p s tables t h from some in
-      let g : legSet e q s ≡ 0 = simp (ne-eqb _ _ some) in
-      (λ i. ones (cond (isMarked (q .control)) (setOf (drops (w i) (t .ready))) (setOf (λ j. has (w i) j && not (has (t .ready) j)))) + ones (setOf (λ j. has (g i) j && not (has (t .ready) j))))
-      ∙ none (isMarked (q .control))
-    where
-      none : (b : Bool) → ones (cond b (setOf (drops 0 (t .ready))) (setOf (λ j. has 0 j && not (has (t .ready) j)))) + ones (setOf (λ j. has 0 j && not (has (t .ready) j))) ≡ 0
-      none true = refl
-      none false = refl

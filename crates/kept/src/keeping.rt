@@ -1,23 +1,27 @@
-// The error registers: the first dropped unit, and whether more followed.
+// The error registers: the first dropped unit, and how many were dropped.
 use super::Registers;
 use steps::Outcome;
 use steps::errors::flag_of;
 ghost use mathlib.Core.Path.{_≡_};
 ghost use Prim.Native.Nat.{_<_, _≤_};
-ghost use Rattle.kept.specs.Keeping.{empty, isEmpty, dropCount, lowest, firstDrop, withMore, keptOf};
+ghost use Rattle.kept.specs.Keeping.{empty, isEmpty, dropCount, mostUnits, capped, moreOf, withUnits, lowest, firstDrop, keptOf};
 
-// The registers after a pass.
+// "Stopping at 65,535".
+pub const MOST_UNITS: u32 = 65535;
+
+// The registers after a pass. The number is stopped before the sum too: lent registers may have any, and no sum wraps.
 pub fn kept_of(r: Registers, o: Outcome) -> Registers
     requires { ⌜ (o .dropped < 64) × (o .«leg_dropped» < 64) ⌝ }
     ensures { λ k. ⌜ k ≡ keptOf r o ⌝ }
 {
-    if drop_count(o) == 0 {
+    let dropped = drop_count(o);
+    if dropped == 0 {
         return r;
     }
     if is_empty(r) {
         first_drop(o)
     } else {
-        with_more(r)
+        with_units(r, capped_units(capped_units(r.units) + dropped))
     }
 }
 
@@ -31,6 +35,9 @@ pub fn empty_registers() -> Registers
         link: 0,
         leg: 0,
         more: 0,
+        source: 0,
+        phase: 0,
+        units: 0,
     }
 }
 
@@ -43,17 +50,30 @@ pub fn drop_count(o: Outcome) -> u32
     u32::count_ones(o.dropped) + u32::count_ones(o.leg_dropped)
 }
 
+pub fn more_of(units: u32) -> u32
+    ensures { λ r. ⌜ r ≡ moreOf units ⌝ }
+{
+    flag_of(1 < units, 1)
+}
+
 fn is_empty(r: Registers) -> bool
     ensures { λ b. ⌜ b ≡ isEmpty r ⌝ }
 {
-    (r.control == 0) & (r.word == 0) & (r.payload == 0)
+    r.units == 0
 }
 
-fn with_more(r: Registers) -> Registers
-    ensures { λ k. ⌜ k ≡ withMore r ⌝ }
+fn capped_units(n: u32) -> u32
+    ensures { λ r. ⌜ (r ≡ capped n) × (r ≤ mostUnits) ⌝ }
+{
+    if MOST_UNITS < n { MOST_UNITS } else { n }
+}
+
+fn with_units(r: Registers, n: u32) -> Registers
+    ensures { λ k. ⌜ k ≡ withUnits r n ⌝ }
 {
     let mut k = r;
-    k.more = 1;
+    k.more = more_of(n);
+    k.units = n;
     k
 }
 
@@ -62,15 +82,18 @@ fn first_drop(o: Outcome) -> Registers
     ensures { λ r. ⌜ r ≡ firstDrop o ⌝ }
 {
     let p = o.packet;
+    let units = capped_units(drop_count(o));
     let mut r = Registers {
         control: p.control,
         word: p.word,
         payload: p.payload,
         link: 0,
         leg: 0,
-        more: 0,
+        more: more_of(units),
+        source: o.source,
+        phase: o.phase,
+        units,
     };
-    r.more = flag_of(1 < drop_count(o), 1);
     if o.dropped == 0 {
         r.link = lowest_link(o.leg_dropped);
         r.leg = 1;

@@ -3,7 +3,8 @@ pub mod counting;
 pub mod keeping;
 pub mod lent;
 
-// The first dropped unit since the registers were last read, and whether more followed. Empty ones are all zeros.
+// The first dropped unit since the registers were last read, where it came in and in which phase, how many were dropped since then, stopping at 65,535, and whether that is
+// more than one. Empty ones are all zeros.
 #[repr(C)]
 pub struct Registers {
     pub control: u32,
@@ -12,6 +13,9 @@ pub struct Registers {
     pub link: u32,
     pub leg: u32,
     pub more: u32,
+    pub source: u32,
+    pub phase: u32,
+    pub units: u32,
 }
 
 // Passes, parity, age, length, bad local, sent, delivered, dropped, swallowed, local misses.

@@ -56,7 +56,7 @@ lineLong = asidePlacesAt + depth * placeLong
 -- ---- a chip's block: registers, counters, six links
 
 abbrev pub registersLong : ℕ
-registersLong = 6
+registersLong = 9
 
 abbrev pub countersLong : ℕ
 countersLong = 10

@@ -19,7 +19,7 @@ pub const ELAPSED: usize = 5;
 pub const HEADER: usize = 6;
 
 // ---- a chip's block: registers, counters, six links
-pub const REGISTERS: usize = 6;
+pub const REGISTERS: usize = 9;
 
 pub const COUNTERS: usize = 10;
 

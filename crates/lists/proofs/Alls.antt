@@ -1,5 +1,4 @@
 -- What holds of every element of a list: of two lists put together, of a list's images, of one element, of a list with one element changed.
-use mathlib.Core.Path.{_≡_}
 use mathlib.Core.List.{List, [], _∷_, _++_, map}
 use Prim.Native.Nat.{ℕ, zero, suc, _<_}
 use native.Mathlib.Omega.{arith}
@@ -10,11 +9,6 @@ module _ {X : Type 0} (P : X → Type 0) where
   pub all-nil : All P []
   unfolding All
   all-nil = tt
-
-  pub all-empty : (xs : List X) → length xs ≡ 0 → All P xs
-  unfolding All
-  all-empty [] e = tt
-  all-empty (x ∷ xs) e = absurd (omega arith)
 
   -- of every element, where it holds of anything
   pub all-any : ((x : X) → P x) → (xs : List X) → All P xs

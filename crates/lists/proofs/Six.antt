@@ -1,4 +1,4 @@
--- Lists of six written out, and stores to every place of a list of six or ten, one after the other.
+-- Lists of six or nine written out, and stores to every place of a list of nine or ten, one after the other.
 use mathlib.Core.Path.{_≡_, refl, ap}
 use mathlib.Core.List.{List, [], _∷_}
 use Prim.Native.Nat.{ℕ}
@@ -16,8 +16,18 @@ six d (a ∷ b ∷ c ∷ e ∷ f ∷ []) h = absurd (omega arith)
 six d (a ∷ b ∷ c ∷ e ∷ f ∷ g ∷ []) h = refl
 six d (a ∷ b ∷ c ∷ e ∷ f ∷ g ∷ i ∷ l) h = absurd (omega arith)
 
-pub six-stores : (l : List ℕ) (a b c d e f : ℕ) → length l ≡ 6 → set (set (set (set (set (set l 0 a) 1 b) 2 c) 3 d) 4 e) 5 f ≡ a ∷ b ∷ c ∷ d ∷ e ∷ f ∷ []
-six-stores l a b c d e f h = ap (λ (k : List ℕ). set (set (set (set (set (set k 0 a) 1 b) 2 c) 3 d) 4 e) 5 f) (six 0 l h)
+-- nine numbers
+pub nine : (l : List ℕ) → length l ≡ 9
+    → l ≡ getD l 0 0 ∷ getD l 1 0 ∷ getD l 2 0 ∷ getD l 3 0 ∷ getD l 4 0 ∷ getD l 5 0 ∷ getD l 6 0 ∷ getD l 7 0 ∷ getD l 8 0 ∷ []
+nine [] h = absurd (omega arith)
+nine (a ∷ []) h = absurd (omega arith)
+nine (a ∷ b ∷ []) h = absurd (omega arith)
+nine (a ∷ b ∷ c ∷ l) h = ap (λ (k : List ℕ). a ∷ b ∷ c ∷ k) (six 0 l (omega arith))
+
+pub nine-stores : (l : List ℕ) (a b c d e f g i j : ℕ) → length l ≡ 9
+    → set (set (set (set (set (set (set (set (set l 0 a) 1 b) 2 c) 3 d) 4 e) 5 f) 6 g) 7 i) 8 j ≡ a ∷ b ∷ c ∷ d ∷ e ∷ f ∷ g ∷ i ∷ j ∷ []
+nine-stores l a b c d e f g i j h =
+    ap (λ (k : List ℕ). set (set (set (set (set (set (set (set (set k 0 a) 1 b) 2 c) 3 d) 4 e) 5 f) 6 g) 7 i) 8 j) (nine l h)
 
 pub ten-stores : (l : List ℕ) (a b c d e f g i j k : ℕ) → length l ≡ 10 → set (set (set (set (set (set (set (set (set (set l 0 a) 1 b) 2 c) 3 d) 4 e) 5 f) 6 g) 7 i) 8 j) 9 k ≡ a ∷ b ∷ c ∷ d ∷ e ∷ f ∷ g ∷ i ∷ j ∷ k ∷ []
 ten-stores [] a b c d e f g i j k h = absurd (omega arith)

@@ -14,7 +14,7 @@ use Rattle.links.specs.Line.{Flight, Line, Right}
 use Rattle.mesh.specs.Mesh.{Chip, Mesh, roundsFine}
 use Rattle.mesh.specs.Steps.{Arrival}
 use Rattle.kept.specs.declared.Registers.{Registers}
-use Rattle.kept.specs.Keeping.{isEmpty}
+use Rattle.kept.specs.Keeping.{isEmpty, mostUnits, moreOf}
 use Rattle.lists.specs.Lists.{All}
 
 -- A packet in flight; its length is right as it is read, and a payload that is not there is 0.
@@ -22,11 +22,17 @@ abbrev pub packetFine : Packet → Bool
 packetFine p =
     ltb (p .control) 256 && not (isDirect (p .control)) && isOdd p && (eqb (p .nine) 1 || eqb (p .payload) 0)
 
+-- Each number but that of the units is 0.
+abbrev pub allZeros : Registers → Bool
+allZeros r =
+    eqb (r .control) 0 && eqb (r .word) 0 && eqb (r .payload) 0 && eqb (r .link) 0 && eqb (r .leg) 0 && eqb (r .more) 0 && eqb (r .source) 0 && eqb (r .phase) 0
+
 -- Registers, number by number; "empty ones are all zeros".
 abbrev pub registersFine : Registers → Bool
 registersFine r =
-    ltb (r .control) 256 && ltb (r .link) 6 && leb (r .leg) 1 && leb (r .more) 1
-    && (not (isEmpty r) || (eqb (r .link) 0 && eqb (r .leg) 0 && eqb (r .more) 0))
+    ltb (r .control) 256 && ltb (r .link) 6 && leb (r .leg) 1 && eqb (r .more) (moreOf (r .units)) && (ltb (r .source) 6 || eqb (r .source) 7) && leb (r .phase) 3
+    && leb (r .units) mostUnits
+    && (not (isEmpty r) || allZeros r)
 
 -- A packet that may pass: one in flight, or one that an injection has accepted.
 pub record Passable (p : Packet) : Type 0 where

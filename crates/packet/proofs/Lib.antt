@@ -3,7 +3,6 @@ pub mod FieldsBack
 pub mod First
 pub mod Folded
 pub mod Masks
-pub mod Odd
 pub mod Packing
 pub mod Ranges
 pub mod Refusals

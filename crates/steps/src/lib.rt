@@ -23,7 +23,7 @@ pub struct Wanted {
 
 // What a pass does: the errors found, the packet after stamping, the wanted set, whether a local packet found no row, the
 // links that send the packet and those of them that carry a detour, the links dropped for, and the second leg's link as a
-// set, where it is sent and where it is dropped; and where the packet came from, and the phase, which no rule asks for yet.
+// set, where it is sent and where it is dropped; and where the packet came from, and the phase.
 pub struct Outcome {
     pub errors: u32,
     pub packet: Packet,

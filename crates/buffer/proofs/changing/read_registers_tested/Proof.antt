@@ -7,7 +7,7 @@ use Rattle.buffer.proofs.Looks.{chip-there}
 use Rattle.buffer.proofs.RegistersCall.{registers-refused, registers-leave}
 use Rattle.buffer.proofs.changing.read_registers_tested.Statement.{statement}
 use Rattle.buffer.proofs.changing.read_registers_tested.Tie as tie
-use Rattle.links.specs.Offsets.{headerLong, chipLong}
+use Rattle.links.specs.Offsets.{headerLong, registersLong, chipLong}
 
 chip-refusal-requires : tie.Need-chip-refusal-requires
 chip-refusal-requires c κs = search needs
@@ -71,7 +71,7 @@ returns-2 c =
     let a = c .before .before .before .before .before .before .before .before .before .before .before .args in
     let at = headerLong + a .chip * chipLong in
     rw (add-sub-cancel-left at chipLong, rw (add-sub-cancel-left at chipLong) at (c .before .before .empty-chip .ensures))
-    (registers-leave (a .mesh .now) (a .chip) _ (c .before .before .before .before .before .before .before .before .chip-refusal .ensures) (c .before .before .before .before .before .before .before .if1 .left) _ (rw (add-sub-cancel-left at 6) at (c .before .before .before .before .registers-at .ensures)))
+    (registers-leave (a .mesh .now) (a .chip) _ (c .before .before .before .before .before .before .before .before .chip-refusal .ensures) (c .before .before .before .before .before .before .before .if1 .left) _ (rw (add-sub-cancel-left at registersLong) at (c .before .before .before .before .registers-at .ensures)))
 
 pub read-registers-tested-spec : {M : Type 1} → statement M
 read-registers-tested-spec =

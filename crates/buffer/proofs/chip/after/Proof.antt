@@ -1,6 +1,7 @@
 use borrow.Author.Needs.{needs}
 use mathlib.Core.Path.{_≡_, ap}
 use lib.ListN.{length}
+use Rattle.links.specs.Offsets.{registersLong, countersLong}
 use Rattle.buffer.proofs.LinksChanged.{takes-on, finish}
 use Rattle.buffer.proofs.chip.after.Statement.{statement}
 use Rattle.buffer.proofs.chip.after.Tie as tie
@@ -34,8 +35,8 @@ send-all-requires c κs =
     let a = c .before .before .before .before .before .before .before .before .before .before .args in
     let ws = c .before .before .before .before .before .before .before .keep .last .0 in
     let cs = c .before .before .before .count .last .0 in
-    let lw : length ws ≡ 6 = ap length (c .before .before .before .before .before .before .before .keep .ensures) in
-    let lc : length cs ≡ 10 = ap length (c .before .before .before .count .ensures) in
+    let lw : length ws ≡ registersLong = ap length (c .before .before .before .before .before .before .before .keep .ensures) in
+    let lc : length cs ≡ countersLong = ap length (c .before .before .before .count .ensures) in
     takes-on (a .chip .now) ws cs (a .o) (c .before .before .before .before .before .before .before .before .before .before .pre .long) lw lc (c .before .before .before .before .before .before .before .before .before .before .pre)
 
 same-length : tie.Need-same-length
@@ -46,8 +47,8 @@ returns c =
     let a = c .before .before .before .before .before .before .before .before .before .before .before .before .before .args in
     let ws = c .before .before .before .before .before .before .before .before .before .before .keep .last .0 in
     let cs = c .before .before .before .before .before .before .count .last .0 in
-    let lw : length ws ≡ 6 = ap length (c .before .before .before .before .before .before .before .before .before .before .keep .ensures) in
-    let lc : length cs ≡ 10 = ap length (c .before .before .before .before .before .before .count .ensures) in
+    let lw : length ws ≡ registersLong = ap length (c .before .before .before .before .before .before .before .before .before .before .keep .ensures) in
+    let lc : length cs ≡ countersLong = ap length (c .before .before .before .before .before .before .count .ensures) in
     finish (a .chip .now) ws cs (a .o) (c .before .before .before .before .before .before .before .before .before .before .before .before .before .pre .long) lw lc (c .before .before .before .before .before .before .before .before .before .before .keep .ensures) (c .before .before .before .before .before .before .count .ensures) (c .before .before .before .before .before .before .before .before .before .before .before .before .before .pre) (c .before .before .send-all .last .0) (c .before .before .send-all .ensures)
 
 pub after-spec : {M : Type 1} → statement M

@@ -6,7 +6,7 @@ use borrow.Author.Tests.{eqb-true}
 use Rattle.packet.proofs.Folded.{ones-zero}
 use Rattle.kept.specs.declared.Registers.{Registers}
 use Rattle.kept.specs.Keeping.{keptOf}
-use Rattle.lists.proofs.Six.{six}
+use Rattle.lists.proofs.Six.{nine}
 use Rattle.buffer.specs.Layout.{registerWords}
 use Rattle.buffer.proofs.chip.keep.Statement.{statement}
 use Rattle.buffer.proofs.chip.keep.Tie as tie
@@ -15,7 +15,7 @@ returns : tie.Need-returns
 returns c =
     let o = c .before .before .before .before .args .o in
     let none = and-eq-true-iff (eqb (o .dropped) 0) (eqb (o .«leg_dropped») 0) .0 (c .if1 .taken) in
-    six 0 (c .before .before .before .before .args .words .now) (c .before .before .before .before .pre .0) ∙ simp (eqb-true (o .dropped) 0 (none .0), eqb-true (o .«leg_dropped») 0 (none .1), ones-zero)
+    nine (c .before .before .before .before .args .words .now) (c .before .before .before .before .pre .0) ∙ simp (eqb-true (o .dropped) 0 (none .0), eqb-true (o .«leg_dropped») 0 (none .1), ones-zero)
 
 registers-at-requires : tie.Need-registers-at-requires
 registers-at-requires c κs = search needs

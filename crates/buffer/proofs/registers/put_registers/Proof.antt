@@ -1,7 +1,7 @@
 use borrow.Author.Needs.{needs}
 use native.Mathlib.Omega.{arith}
 use lib.ListN.{length-set}
-use Rattle.lists.proofs.Six.{six-stores}
+use Rattle.lists.proofs.Six.{nine-stores}
 use Rattle.buffer.proofs.registers.put_registers.Statement.{statement}
 use Rattle.buffer.proofs.registers.put_registers.Tie as tie
 
@@ -23,11 +23,20 @@ slice-write-words-5 c = simp length-set (omega arith)
 slice-write-words-6 : tie.Need-slice-write-words-6
 slice-write-words-6 c = simp length-set (omega arith)
 
+slice-write-words-7 : tie.Need-slice-write-words-7
+slice-write-words-7 c = simp length-set (omega arith)
+
+slice-write-words-8 : tie.Need-slice-write-words-8
+slice-write-words-8 c = simp length-set (omega arith)
+
+slice-write-words-9 : tie.Need-slice-write-words-9
+slice-write-words-9 c = simp length-set (omega arith)
+
 same-length : tie.Need-same-length
 same-length c = search needs
 
 returns : tie.Need-returns
-returns c = six-stores (c .args .words .now) _ _ _ _ _ _ (c .pre)
+returns c = nine-stores (c .args .words .now) _ _ _ _ _ _ _ _ _ (c .pre)
 
 pub put-registers-spec : {M : Type 1} → statement M
 put-registers-spec =
@@ -39,5 +48,8 @@ put-registers-spec =
     slice-write-words-4
     slice-write-words-5
     slice-write-words-6
+    slice-write-words-7
+    slice-write-words-8
+    slice-write-words-9
     same-length
     returns)
