@@ -92,7 +92,8 @@ abbrev pub Counts : Type 0
 Counts = Always (λ f s. (chip k : ℕ) → chip < s .mesh .height * s .mesh .width → k < 10
     → getD (getD (s .mesh .chips) chip fresh .counters .count) k 0 ≡ sumOf (countAt chip k) (s .events) % 2 ^ 32)
 
--- 6. The error registers of each chip: "the first dropped unit since they were last read ... and a flag that more followed".
+-- 6. The error registers of each chip: "the first dropped unit since they were last read", where it came in and in which phase, "the number of units dropped since the last
+-- read, stopping at 65,535", and whether that is above 1.
 abbrev pub Registers : Type 0
 Registers = Always (λ f s. (chip : ℕ) → chip < s .mesh .height * s .mesh .width
     → getD (s .mesh .chips) chip fresh .registers ≡ firstOfUnits (dropsSince chip (s .events)))

@@ -4,16 +4,15 @@ use mathlib.Core.Path.{_≡_}
 use mathlib.Core.Bool.{Bool, true, cond, _&&_, not}
 use mathlib.Core.List.{List, [], _∷_, _++_, foldl, map}
 use lib.Dec.{eqb}
-use lib.ListN.{getD}
+use lib.ListN.{length, getD}
 use Rattle.packet.specs.declared.Packet.{Packet}
 use Rattle.packet.specs.Types.{isMc, isStamped}
 use Rattle.packet.specs.Parity.{isOdd}
 use Rattle.tables.specs.Shown.{foundShown}
 use Rattle.tables.specs.Rows.{rowsOf, firstMatch}
-use Rattle.steps.specs.declared.Outcome.{Outcome}
 use Rattle.kept.specs.declared.Registers.{Registers}
 use Rattle.steps.specs.Links.{has}
-use Rattle.kept.specs.Keeping.{empty, withMore, dropCount}
+use Rattle.kept.specs.Keeping.{empty, dropCount, capped, withUnits}
 use Rattle.steps.specs.Errors.{flag, tooOld, wrongLength, badLocal}
 use Rattle.kept.specs.Counting.{delivered, swallowed}
 use Rattle.links.specs.Line.{Flight, Line}
@@ -72,37 +71,48 @@ countAt chip k p = cond (eqb (p .arrival .chip) chip) (getD (ownCounts p) k 0) 0
 
 -- ---- dropped units
 
-abbrev pub unit : Outcome → ℕ → ℕ → Registers
-unit o link leg =
-    record { control = o .packet .control; word = o .packet .word; payload = o .packet .payload; link = link; leg = leg; more = 0 }
+-- A unit that a pass drops, by itself: the packet as it stood after stamping, the link, whether it was a second leg, and the source and the phase of that pass.
+abbrev pub unit : Passage → ℕ → ℕ → Registers
+unit p link leg =
+    record {
+      control = p .outcome .packet .control;
+      word = p .outcome .packet .word;
+      payload = p .outcome .packet .payload;
+      link = link;
+      leg = leg;
+      more = 0;
+      source = p .arrival .source;
+      phase = p .setting .phase;
+      units = 1;
+    }
 
 abbrev pub unitIf : Bool → Registers → List Registers
 unitIf b r = cond b (r ∷ []) []
 
-abbrev pub unitsOf : Outcome → ℕ → ℕ → List Registers
-unitsOf o links leg =
-    unitIf (has links 0) (unit o 0 leg) ++ unitIf (has links 1) (unit o 1 leg) ++ unitIf (has links 2) (unit o 2 leg)
-    ++ unitIf (has links 3) (unit o 3 leg)
-    ++ unitIf (has links 4) (unit o 4 leg)
-    ++ unitIf (has links 5) (unit o 5 leg)
+abbrev pub unitsOf : Passage → ℕ → ℕ → List Registers
+unitsOf p links leg =
+    unitIf (has links 0) (unit p 0 leg) ++ unitIf (has links 1) (unit p 1 leg) ++ unitIf (has links 2) (unit p 2 leg)
+    ++ unitIf (has links 3) (unit p 3 leg)
+    ++ unitIf (has links 4) (unit p 4 leg)
+    ++ unitIf (has links 5) (unit p 5 leg)
 
 -- "Within a pass drops go by link 0 to 5, the second leg last."
-abbrev pub droppedUnits : Outcome → List Registers
-droppedUnits o = unitsOf o (o .dropped) 0 ++ unitsOf o (o .«leg_dropped») 1
+abbrev pub droppedUnits : Passage → List Registers
+droppedUnits p = unitsOf p (p .outcome .dropped) 0 ++ unitsOf p (p .outcome .«leg_dropped») 1
 
 abbrev pub noted : ℕ → List Registers → Event → List Registers
-noted chip units (passed p) = cond (eqb (p .arrival .chip) chip) (units ++ droppedUnits (p .outcome)) units
+noted chip units (passed p) = cond (eqb (p .arrival .chip) chip) (units ++ droppedUnits p) units
 noted chip units (emptied c) = cond (eqb c chip) [] units
 
 -- The units dropped at a chip since its registers were last read.
 unfoldable pub dropsSince : ℕ → List Event → List Registers
 dropsSince chip es = foldl (noted chip) [] es
 
--- "The first dropped unit since they were last read ... and a flag that more followed"; empty registers where there is none.
+-- "The first dropped unit since they were last read", with its source and phase, and "the number of units dropped since the last read, stopping at 65,535"; "the
+-- 'more followed' flag means that this number is above 1". Empty registers where there is none.
 abbrev pub firstOfUnits : List Registers → Registers
 firstOfUnits [] = empty
-firstOfUnits (u ∷ []) = u
-firstOfUnits (u ∷ v ∷ us) = withMore u
+firstOfUnits (u ∷ us) = withUnits u (capped (length (u ∷ us)))
 
 -- ---- records
 
