@@ -112,9 +112,11 @@ typedef struct {
     uint32_t kind, mark, sequence, stamp, direct, route, carries, parity, nine, word, source, destination, payload;
 } yb_fields;
 
-/* The first dropped unit: `link` is a number, `leg` is 1 for a second leg, `more` is 1 if others followed. */
+/* The first dropped unit: `link` is a number, `leg` is 1 for a second leg, `source` is where it came in (0 to 5 a link, 7
+ * local), `phase` the phase code at that pass. `units` is the number of units dropped since the last read, this one and
+ * second legs among them, stopping at 65,535, and `more` is 1 if it is above 1. All are 0 where nothing was dropped. */
 typedef struct {
-    uint32_t control, word, payload, link, leg, more;
+    uint32_t control, word, payload, link, leg, more, source, phase, units;
 } yb_registers;
 
 /* As YB_PASSES to YB_LOCAL_MISSES name them. */

@@ -1,8 +1,9 @@
 //! Whether a buffer holds a mesh.
 
+use super::{CAME_IN_PHASE, MORE, MOST_UNITS, SOURCE, UNITS};
 use super::{CHIP, COUNTERS_AT, HEADER, HELD, LINK, LINKS_AT, PLACE, PLACES_AT};
 use super::{DOWN, HEIGHT, MONITOR, PHASE, ROUNDS_IN_PHASE, ROUNDS_PER_PHASE, WIDTH};
-use crate::model::{direct_of, kind, kind_of};
+use crate::model::{direct_of, kind, kind_of, LOCAL};
 
 pub fn holds(mesh: &[u32]) -> bool {
     if mesh.len() < HEADER || !header_fine(mesh) {
@@ -26,11 +27,16 @@ fn chip_fine(chip: &[u32]) -> bool {
 }
 
 fn registers_fine(words: &[u32]) -> bool {
-    let empty = words[0] == 0 && words[1] == 0 && words[2] == 0;
-    if empty {
-        words[3] == 0 && words[4] == 0 && words[5] == 0
+    if words[UNITS] == 0 {
+        words.iter().all(|&word| word == 0)
     } else {
-        words[0] < 256 && words[3] <= 5 && words[4] <= 1 && words[5] <= 1
+        words[0] < 256
+            && words[3] <= 5
+            && words[4] <= 1
+            && words[MORE] == u32::from(words[UNITS] > 1)
+            && (words[SOURCE] <= 5 || words[SOURCE] == LOCAL)
+            && words[CAME_IN_PHASE] <= 3
+            && words[UNITS] <= MOST_UNITS
     }
 }
 

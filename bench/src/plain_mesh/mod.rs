@@ -20,9 +20,15 @@ const MONITOR: usize = 3;
 const PHASE: usize = 4;
 const ROUNDS_IN_PHASE: usize = 5;
 
-const CHIP: usize = 322;
-const COUNTERS_AT: usize = 6;
-const LINKS_AT: usize = 16;
+const CHIP: usize = 325;
+const COUNTERS_AT: usize = 9;
+const LINKS_AT: usize = 19;
+
+const MORE: usize = 5;
+const SOURCE: usize = 6;
+const CAME_IN_PHASE: usize = 7;
+const UNITS: usize = 8;
+const MOST_UNITS: u32 = 65_535;
 
 const LINK: usize = 51;
 const DOWN: usize = 0;

@@ -1,7 +1,8 @@
 //! One pass at a chip: its words, and its record in the log.
 
 use super::{
-    CHIP, COUNTERS_AT, DOWN, HEADER, HEIGHT, HELD, LINK, LINKS_AT, MONITOR, PHASE, PLACE, PLACES_AT, RECORD, WIDTH,
+    CHIP, COUNTERS_AT, DOWN, HEADER, HEIGHT, HELD, LINK, LINKS_AT, MONITOR, MORE, MOST_UNITS, PHASE, PLACE, PLACES_AT,
+    RECORD, UNITS, WIDTH,
 };
 use crate::interface::{LentTables, Packet, PassCall};
 use crate::model::{self, error, has, has_mark, kind, kind_of, mark, mark_of, with_mark, with_stamp, LINKS, LOCAL};
@@ -78,16 +79,17 @@ fn sound_pass(words: &mut [u32], call: &PassCall, packet: Packet) -> (u32, Packe
     count(words, SWALLOWED, u32::from(wanted == 0 && !leg_only));
     count(words, LOCAL_MISSES, u32::from(local_miss));
     if has_mark(kind) {
-        send_with_detours(words, &packet, wanted & 63, call.ready);
+        send_with_detours(words, &packet, wanted & 63, call);
         send_second_leg(words, &packet, call);
     } else {
-        send_unchanged(words, &packet, wanted & 63, call.ready);
+        send_unchanged(words, &packet, wanted & 63, call);
     }
     (wanted >> LINKS, packet)
 }
 
 /// Drops go by link: the one for link 0, which link 5 would carry, is found last but kept first.
-fn send_with_detours(words: &mut [u32], packet: &Packet, wanted: u32, ready: u32) {
+fn send_with_detours(words: &mut [u32], packet: &Packet, wanted: u32, call: &PassCall) {
+    let ready = call.ready;
     let mut dropped = 0;
     for link in 0..LINKS {
         let next = (link + 1) % LINKS;
@@ -103,7 +105,7 @@ fn send_with_detours(words: &mut [u32], packet: &Packet, wanted: u32, ready: u32
             send(words, link, &with_mark(packet, mark));
         }
     }
-    drop_for(words, packet, dropped);
+    drop_for(words, packet, dropped, call);
 }
 
 fn send_second_leg(words: &mut [u32], packet: &Packet, call: &PassCall) {
@@ -114,15 +116,15 @@ fn send_second_leg(words: &mut [u32], packet: &Packet, call: &PassCall) {
     if has(call.ready, link) {
         send(words, link, &with_mark(packet, mark::SECOND_LEG));
     } else {
-        keep(words, packet, link, 1);
+        keep(words, packet, link, 1, call);
     }
 }
 
-fn send_unchanged(words: &mut [u32], packet: &Packet, wanted: u32, ready: u32) {
-    for link in (0..LINKS).filter(|&link| has(wanted & ready, link)) {
+fn send_unchanged(words: &mut [u32], packet: &Packet, wanted: u32, call: &PassCall) {
+    for link in (0..LINKS).filter(|&link| has(wanted & call.ready, link)) {
         send(words, link, packet);
     }
-    drop_for(words, packet, wanted & !ready);
+    drop_for(words, packet, wanted & !call.ready, call);
 }
 
 fn send(words: &mut [u32], link: u32, packet: &Packet) {
@@ -133,20 +135,22 @@ fn send(words: &mut [u32], link: u32, packet: &Packet) {
     line[HELD] += 1;
 }
 
-fn drop_for(words: &mut [u32], packet: &Packet, links: u32) {
+fn drop_for(words: &mut [u32], packet: &Packet, links: u32, call: &PassCall) {
     for link in (0..LINKS).filter(|&link| has(links, link)) {
-        keep(words, packet, link, 0);
+        keep(words, packet, link, 0, call);
     }
 }
 
-/// Keeps the first dropped unit in the registers, and whether more followed.
-fn keep(words: &mut [u32], packet: &Packet, link: u32, leg: u32) {
+/// Keeps the first dropped unit in the registers, and the number of units.
+fn keep(words: &mut [u32], packet: &Packet, link: u32, leg: u32, call: &PassCall) {
     count(words, DROPPED, 1);
     let registers = &mut words[..COUNTERS_AT];
-    if registers[0] == 0 && registers[1] == 0 && registers[2] == 0 {
-        registers.copy_from_slice(&[packet.control, packet.word, packet.payload, link, leg, 0]);
+    if registers[UNITS] == 0 {
+        let Packet { control, word, payload, .. } = *packet;
+        registers.copy_from_slice(&[control, word, payload, link, leg, 0, call.source, call.phase, 1]);
     } else {
-        registers[5] = 1;
+        registers[MORE] = 1;
+        registers[UNITS] = MOST_UNITS.min(registers[UNITS] + 1);
     }
 }
 

@@ -9,6 +9,7 @@ use super::keeping::link_change;
 use super::keeping::registers_read;
 use super::keeping::round_made;
 use super::telling::place;
+use super::telling::small;
 use super::telling::tell_packet;
 use super::telling::text;
 use buffer::changing::read_registers;
@@ -17,6 +18,7 @@ use buffer::looking::look_mesh;
 use buffer::moving::inject;
 use buffer::moving::round;
 use kept::Registers;
+use kept::keeping::MOST_UNITS;
 use libc::STDOUT_FILENO;
 use packet::control::carries_of;
 use script::cells::between;
@@ -180,7 +182,7 @@ pub fn registers(before: Course, chip: u32, mesh: &mut [u32; WORDS]) -> Course {
 }
 
 fn tell_registers(r: Registers) {
-    if (r.control == 0) & (r.word == 0) & (r.payload == 0) {
+    if r.units == 0 {
         text(b": empty\n");
         return;
     }
@@ -191,8 +193,40 @@ fn tell_registers(r: Registers) {
     }
     text(b" ");
     tell_packet(r.control, r.word, r.payload, carries_of(r.control) == 1);
-    if r.more == 1 {
-        text(b", more followed");
-    }
+    tell_source(r.source);
+    tell_phase(r.phase);
+    tell_units(r.units);
     text(b"\n");
+}
+
+fn tell_source(source: u32) {
+    if source < 6 {
+        text(b", came in by link ");
+        say_link(STDOUT_FILENO, source);
+    } else {
+        text(b", local");
+    }
+}
+
+fn tell_phase(phase: u32) {
+    match phase {
+        0 => text(b", phase 00"),
+        1 => text(b", phase 01"),
+        2 => text(b", phase 10"),
+        _ => text(b", phase 11"),
+    }
+}
+
+// The number stops at the most, and says no more from there on.
+fn tell_units(units: u32) {
+    text(b", ");
+    small(units);
+    if units == 1 {
+        text(b" unit");
+    } else {
+        text(b" units");
+    }
+    if units == MOST_UNITS {
+        text(b" or more");
+    }
 }

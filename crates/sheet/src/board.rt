@@ -16,7 +16,7 @@ pub const STARTS: usize = 145;
 pub const CODES: usize = 20736;
 
 // A mesh buffer, and a log of six words for each packet that can be in flight.
-pub const WORDS: usize = 46374;
+pub const WORDS: usize = 46806;
 
 pub const LOG: usize = 41472;
 

@@ -36,6 +36,9 @@ pub struct Registers {
     pub link: u32,
     pub leg: u32,
     pub more: u32,
+    pub source: u32,
+    pub phase: u32,
+    pub units: u32,
 }
 
 /// Passes, parity, age, length, bad local, sent, delivered, dropped, swallowed, local misses.

@@ -328,7 +328,7 @@ fn sound_pass(call: &PassCall, packet: Packet) -> Pass {
         send_unchanged(&mut pass, &packet, wanted_links, call.ready);
     }
     let leg_only = has_mark(kind) && mark_of(packet.control) == mark::EMERGENCY;
-    pass.registers = registers_of(&pass, &packet);
+    pass.registers = registers_of(&pass, &packet, call);
     pass.counters = counters_of(&pass, wanted == 0 && !leg_only, local_miss);
     pass
 }
@@ -438,8 +438,8 @@ pub fn has(set: u32, member: u32) -> bool {
     set >> member & 1 == 1
 }
 
-/// The first dropped unit: by link, the second leg last.
-fn registers_of(pass: &Pass, packet: &Packet) -> Registers {
+/// The first dropped unit, by link, the second leg last, where it came in and when; and how many were dropped.
+fn registers_of(pass: &Pass, packet: &Packet, call: &PassCall) -> Registers {
     let leg = pass.dropped == 0;
     let first = if leg { pass.leg_dropped } else { pass.dropped };
     if first == 0 {
@@ -452,6 +452,9 @@ fn registers_of(pass: &Pass, packet: &Packet) -> Registers {
         link: first.trailing_zeros(),
         leg: u32::from(leg),
         more: u32::from(dropped_units(pass) > 1),
+        source: call.source,
+        phase: call.phase,
+        units: dropped_units(pass),
     }
 }
 

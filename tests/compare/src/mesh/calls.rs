@@ -1,7 +1,7 @@
 //! Each call on a mesh, made on the library's buffer and on the model's mesh, and what both answer and leave compared.
 
 use super::account;
-use super::layout::{link_at, words_for, CHIP, HEADER};
+use super::layout::{link_at, words_for, CHIP, COUNTERS_AT, HEADER};
 use super::model::{Done, Mesh};
 use super::pair::Pair;
 use super::refusals;
@@ -111,7 +111,7 @@ impl Pair {
         self.same("answer", &RegistersRead { refusal, registers }, &answer);
         if refusal == 0 {
             let at = HEADER + chip as usize * CHIP;
-            self.before[at..at + 6].fill(0);
+            self.before[at..at + COUNTERS_AT].fill(0);
             self.settle_exactly();
             tally.registers(&registers);
         }

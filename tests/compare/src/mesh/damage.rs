@@ -37,11 +37,14 @@ fn header(random: &mut Random, mesh: &Mesh) -> (usize, u32) {
 
 fn registers(random: &mut Random, chip: usize) -> (usize, u32) {
     let any = random.word();
-    let at = random.below(6);
+    let at = random.below(COUNTERS_AT as u32);
     let value = match at {
         0 => random.pick(&[0, 1, any & 0xff, any & 0xff, 255, 256, 257, 0x8000_0000, u32::MAX]),
         1 | 2 => random.pick(&[0, 0, 1, any]),
         3 => random.pick(&[0, 1, 4, 5, 6, 7, 0x8000_0000, u32::MAX]),
+        6 => random.pick(&[0, 1, 5, 6, 7, 7, 8, 0x8000_0000, u32::MAX]),
+        7 => random.pick(&[0, 1, 2, 3, 4, 7, 0x8000_0000, u32::MAX]),
+        8 => random.pick(&[0, 1, 2, 65_530, 65_534, 65_535, 65_536, 0x8000_0000, u32::MAX]),
         _ => random.pick(&[0, 1, 1, 2, 3, 0x8000_0000, u32::MAX]),
     };
     (HEADER + chip * CHIP + at as usize, value)

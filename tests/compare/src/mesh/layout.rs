@@ -1,18 +1,18 @@
 //! The words of a mesh buffer, as docs/LAYOUT.md has them: where each stands, and the mesh that they hold.
 
 use super::model::{Chip, Link, Mesh};
-use super::passing::{carries_payload, is_odd};
+use super::passing::{carries_payload, is_odd, MOST_UNITS};
 use crate::interface::{Packet, Registers};
 use crate::model::{direct_of, kind, MOST_SIDE};
 
 /// Words of the header, of a chip, of a directed link, and of a packet's place.
 pub const HEADER: usize = 6;
-pub const CHIP: usize = 322;
+pub const CHIP: usize = 325;
 pub const LINK: usize = 51;
 pub const PLACE: usize = 3;
 /// Where counters and links begin in a chip, and a link's count and places in a link.
-pub const COUNTERS_AT: usize = 6;
-pub const LINKS_AT: usize = 16;
+pub const COUNTERS_AT: usize = 9;
+pub const LINKS_AT: usize = 19;
 pub const HELD: usize = 1;
 pub const PLACES_AT: usize = 2;
 /// The most packets that a link holds.
@@ -63,13 +63,14 @@ fn chip_in(words: &[u32]) -> Option<Chip> {
 
 /// Some(None) where the registers are empty, None where they are out of range.
 fn registers_in(words: &[u32]) -> Option<Option<Registers>> {
-    let [control, word, payload, link, leg, more] = words.try_into().ok()?;
-    let registers = Registers { control, word, payload, link, leg, more };
+    let [control, word, payload, link, leg, more, source, phase, units] = words.try_into().ok()?;
+    let registers = Registers { control, word, payload, link, leg, more, source, phase, units };
     if registers == Registers::default() {
         return Some(None);
     }
-    let keeps_a_packet = control != 0 || word != 0 || payload != 0;
-    (keeps_a_packet && control < 256 && link < 6 && leg < 2 && more < 2).then_some(Some(registers))
+    let unit_fits = control < 256 && link < 6 && leg < 2 && source < 8 && source != 6 && phase < 4;
+    let number_fits = units >= 1 && units <= MOST_UNITS && more == u32::from(units > 1);
+    (unit_fits && number_fits).then_some(Some(registers))
 }
 
 fn link_in(words: &[u32]) -> Option<Link> {

@@ -10,6 +10,7 @@ mod kept;
 mod known;
 mod layout;
 mod model;
+mod most_units;
 mod packets;
 mod pair;
 mod passing;
@@ -28,9 +29,11 @@ pub use sequence::run;
 pub use tally::MeshTally;
 pub use traces::run as run_trace;
 
-/// What is no sequence of random calls: the known passes, every word of some buffers, and every byte of some traces.
+/// What is no sequence of random calls: the known passes, every word of some buffers, every byte of some traces, and more
+/// drops on a chip than its registers count.
 pub fn systematic(tally: &mut MeshTally, seed: u64) {
     known::all();
     every_word::all(tally, seed);
     every_byte::all(tally, seed);
+    most_units::all(tally, seed);
 }

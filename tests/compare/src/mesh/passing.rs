@@ -2,7 +2,7 @@
 //! rules, without sight of the Rattle sources.
 
 use crate::interface::{Counters, Packet, Pass, Registers};
-use crate::model::{error, kind, kind_of, mark, LINKS};
+use crate::model::{error, kind, kind_of, mark, LINKS, LOCAL};
 
 const MARK_AT: u32 = 4;
 const STAMP_AT: u32 = 2;
@@ -11,6 +11,7 @@ const CODE_MONITOR: u32 = 7;
 const ROUTE_ALL: u32 = 6;
 const ROUTE_MONITOR: u32 = 7;
 const ALL_LINKS: u32 = (1 << LINKS) - 1;
+pub const MOST_UNITS: u32 = 65_535;
 
 /// Where a packet comes from.
 #[derive(Clone, Copy, PartialEq)]
@@ -41,6 +42,9 @@ struct Dropped {
 /// What one pass did.
 #[derive(Default)]
 pub struct Passed {
+    /// Its number: 0 to 5 a link, 7 local.
+    source: u32,
+    phase: u32,
     errors: u32,
     /// Bits as in a route.
     wanted: u32,
@@ -60,7 +64,12 @@ impl Router<'_> {
         if errors != 0 {
             return Passed { errors, wanted: self.to_monitor(), packet, ..Passed::default() };
         }
-        let mut passed = Passed { packet: self.stamped(packet, source), ..Passed::default() };
+        let number = match source {
+            Source::Link(link) => link,
+            Source::Local => LOCAL,
+        };
+        let packet = self.stamped(packet, source);
+        let mut passed = Passed { source: number, phase: self.phase, packet, ..Passed::default() };
         match kind_of(packet.control) {
             kind::MC => self.pass_multicast(&mut passed, source),
             kind::FIXED => self.pass_fixed(&mut passed, source),
@@ -228,11 +237,15 @@ impl Passed {
         by_link.chain(self.leg.map(|(link, packet)| (link as usize, packet)))
     }
 
-    /// "keep the first dropped unit since they were last read"
+    /// "keep the first dropped unit since they were last read", and "the number of units dropped since the last read,
+    /// stopping at 65,535"
     pub fn note_drops(&self, registers: &mut Option<Registers>) {
         for dropped in &self.dropped {
             match registers {
-                Some(first) => first.more = 1,
+                Some(first) => {
+                    first.units = MOST_UNITS.min(first.units + 1);
+                    first.more = 1;
+                }
                 None => *registers = Some(self.first_drop(*dropped)),
             }
         }
@@ -240,7 +253,8 @@ impl Passed {
 
     fn first_drop(&self, dropped: Dropped) -> Registers {
         let Packet { control, word, payload, .. } = self.packet;
-        Registers { control, word, payload, link: dropped.link, leg: dropped.leg.into(), more: 0 }
+        let (link, leg) = (dropped.link, dropped.leg.into());
+        Registers { control, word, payload, link, leg, more: 0, source: self.source, phase: self.phase, units: 1 }
     }
 
     /// What is added to the ten counters.

@@ -81,7 +81,7 @@ pub fn random_size(random: &mut Random) -> (u32, u32) {
 
 /// Buffer and log full of anything, the words at times zeros: a larger mesh may then fit where a side is changed.
 pub fn new_pair(random: &mut Random, name: String, prints: bool, width: u32, height: u32) -> Pair {
-    let lent = words_for(width, height) + random.pick(&[0, 0, 1, 5, 322, 2000]) as usize;
+    let lent = words_for(width, height) + random.pick(&[0, 0, 1, 5, CHIP as u32, 2000]) as usize;
     let mut words: Vec<u32> = (0..lent + CANARY).map(|_| random.word()).collect();
     if random.one_in(4) {
         words.fill(0);

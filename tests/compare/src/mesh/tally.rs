@@ -2,10 +2,11 @@
 
 use super::layout::MOST_HELD;
 use super::model::{Done, Mesh};
+use super::passing::MOST_UNITS;
 use super::refusals;
 use super::replay_tally::ReplayTally;
 use crate::interface::{LentTables, Packet, Registers};
-use crate::model::{kind, kind_of};
+use crate::model::{kind, kind_of, LOCAL};
 use crate::tally::{print_line, PassTally};
 
 #[derive(Clone, Copy)]
@@ -61,6 +62,9 @@ pub struct MeshTally {
     registers_one: u64,
     registers_more: u64,
     registers_leg: u64,
+    registers_local: u64,
+    registers_later_phase: u64,
+    registers_most: u64,
     pub full_table: u64,
     changed_holds: u64,
     changed_holds_none: u64,
@@ -122,6 +126,9 @@ impl MeshTally {
         self.registers_one += u64::from(!empty && registers.more == 0);
         self.registers_more += u64::from(registers.more == 1);
         self.registers_leg += u64::from(registers.leg == 1);
+        self.registers_local += u64::from(registers.source == LOCAL);
+        self.registers_later_phase += u64::from(registers.phase != 0);
+        self.registers_most += u64::from(registers.units == MOST_UNITS);
     }
 
     pub fn flight(&mut self, place: u32, packet: &Packet) {
@@ -168,7 +175,7 @@ impl MeshTally {
         all
     }
 
-    fn events(&self) -> [(&'static str, u64); 31] {
+    fn events(&self) -> [(&'static str, u64); 34] {
         [
             ("sequences", self.sequences),
             ("sequences on one chip", self.one_chip),
@@ -187,6 +194,9 @@ impl MeshTally {
             ("registers read, one drop", self.registers_one),
             ("registers read, more followed", self.registers_more),
             ("registers read, a second leg", self.registers_leg),
+            ("registers read, a local packet", self.registers_local),
+            ("registers read, a drop in another phase than 00", self.registers_later_phase),
+            ("registers read, 65,535 units", self.registers_most),
             ("tables with 1,024 rows for a chip", self.full_table),
             ("changed word, buffer still holds a mesh", self.changed_holds),
             ("changed word, buffer holds none", self.changed_holds_none),
