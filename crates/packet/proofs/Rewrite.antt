@@ -1,6 +1,6 @@
 -- A mark or stamp rewritten: parity is odd, the new field is the one asked for, and every other field is as before. Parity is shown by
 -- counting the ones of a control byte as its lowest bit and the rest; the fields by computing all control bytes.
-use mathlib.Core.Path.{_≡_, refl, _∙_}
+use mathlib.Core.Path.{_≡_, refl, ap, _∙_}
 use mathlib.Core.Bool.{Bool, true, _&&_, and-eq-true-iff}
 use Prim.Native.Nat.{ℕ, _+_, _*_, _/_, _%_, _<_}
 use native.Mathlib.Omega.{arith}
@@ -74,3 +74,24 @@ mark-set = field-set markIn markOf stampOf refl
 pub stamp-set : (p : Packet) (s : ℕ) → p .control < 256 → s < 4 → FieldSet stampOf markOf p (withStamp p s) s
 unfolding every every₂ fieldTest
 stamp-set = field-set stampIn stampOf markOf refl
+
+-- ---- a mark rewritten twice
+
+-- what the parity bit was before it is set right counts for nothing
+set-right-again : (p : Packet) (c b : ℕ) → setRight (withControl p (parityIn c b)) ≡ setRight (withControl p c)
+set-right-again p c b =
+    let high : parityIn c b / 2 ≡ c / 2 = omega arith in
+    λ i. withControl p (high i * 2 + (ones (high i * 2 + 0) + ones (p .word) + ones (p .payload) + 1) % 2)
+
+half : (c m : ℕ) → markIn c m / 2 ≡ c / 64 * 32 + m % 4 * 8 + c % 16 / 2
+half c m = omega arith
+
+-- the last mark alone is left
+pub mark-twice : (p : Packet) (m n : ℕ) → withMark (withMark p m) n ≡ withMark p n
+mark-twice p m n =
+    let c = p .control in
+    let b : ℕ = onesOf (withControl p (parityIn (markIn c m) 0)) + 1 in
+    let top : parityIn (markIn c m) b / 64 ≡ c / 64 = omega (arith, half c m) in
+    let rest : parityIn (markIn c m) b % 16 ≡ c % 16 / 2 * 2 + b % 2 = omega (arith, half c m) in
+    let e : markIn (parityIn (markIn c m) b) n ≡ parityIn (markIn c n) b = omega (arith, half c n) in
+    ap (λ (d : ℕ). setRight (withControl p d)) e ∙ set-right-again p (markIn c n) b

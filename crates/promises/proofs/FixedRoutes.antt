@@ -49,7 +49,7 @@ new-stamp p q v hp hq small s =
       nine = s .nine;
     }
 
-on-marked : (o : Outcome) (i : ℕ) → isMarked (o .packet .control) ≡ true → packetOn o i ≡ withMark (o .packet) (markOn o i)
+pub on-marked : (o : Outcome) (i : ℕ) → isMarked (o .packet .control) ≡ true → packetOn o i ≡ withMark (o .packet) (markOn o i)
 on-marked o i marked = simp marked
 
 module _ (p q : Packet) (s : ℕ) (a b : ChipTables) (t : Setting) (like : Alike p q t) (mp : isMarked (p .control) ≡ true) (mq : isMarked (q .control) ≡ true) where
@@ -172,10 +172,10 @@ module _ (p q : Packet) (s : ℕ) (a b : ChipTables) (t : Setting) (like : Alike
 -- ---- what they want
 
 module _ (e : ℕ) (p : Packet) (s : ℕ) (tables : ChipTables) (t : Setting) where
-  abbrev by-route : Wanted
+  abbrev pub by-route : Wanted
   by-route = cond (eqb e 0) (wants (fixedWanted (markOf (p .control)) (tables .fixed))) (wants (monitorBit (t .monitor)))
 
-  fixed-wants : isFixed (p .control) ≡ true → wantedOf e p s tables t ≡ by-route
+  pub fixed-wants : isFixed (p .control) ≡ true → wantedOf e p s tables t ≡ by-route
   unfolding wantedOf
   fixed-wants fixed = let k : kindOf (p .control) ≡ 3 = eqb-true _ _ fixed in simp k
 

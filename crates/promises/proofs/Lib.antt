@@ -7,13 +7,17 @@ pub mod Belongs
 pub mod Clock
 pub mod Counted
 pub mod Demand3
+pub mod DetourLinks
+pub mod Detours
 pub mod Dropped
+pub mod FarEnds
 pub mod Few
 pub mod FixedRoutes
 pub mod Flights
 pub mod Forgets
 pub mod Histories
 pub mod Lefts
+pub mod MiddleChips
 pub mod Owned
 pub mod Plains
 pub mod Records
@@ -21,5 +25,6 @@ pub mod Registered
 pub mod Runs
 pub mod Sequences
 pub mod Told
+pub mod Twins
 pub mod Weighs
 pub mod WholeRuns

@@ -1,4 +1,6 @@
 pub mod Demand3
+pub mod Detoured
+pub mod DetouredExamples
 pub mod Determined
 pub mod FirstRow
 pub mod FixedRoute
