@@ -31,8 +31,8 @@
 #endif
 
 /* Raised with each change that a caller can see; 2 brings kept traces, 3 has a row match by its key itself,
- * 4 brings fixed-route packets. */
-#define YAGBOLSHEN_VERSION 4
+ * 4 brings fixed-route packets, 5 has registers say where, when and how many. */
+#define YAGBOLSHEN_VERSION 5
 
 /* The refusals by name. */
 #define YB_ACCEPTED 0
