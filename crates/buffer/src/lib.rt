@@ -5,7 +5,7 @@ pub mod changing;
 mod chip;
 mod flight;
 mod going;
-mod holding;
+pub mod holding;
 mod logging;
 pub mod looking;
 pub mod moving;

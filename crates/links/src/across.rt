@@ -22,7 +22,7 @@ pub fn aside_place(width: u32, height: u32, x: u32, y: u32, source: u32) -> usiz
 }
 
 // The chip at the other end of link i of the chip at x and y.
-fn across_link(width: u32, height: u32, x: u32, y: u32, i: u32) -> u32
+pub fn across_link(width: u32, height: u32, x: u32, y: u32, i: u32) -> u32
     requires { ⌜ (sizeFine width height ≡ true) × ((x < width) × (y < height)) ⌝ }
     ensures { λ r. ⌜ ((chip : ℕ) → x ≡ chip % width → y ≡ chip / width → r ≡ across width height chip i) ⌝ }
     ensures { λ r. ⌜ r < 144 ⌝ }
