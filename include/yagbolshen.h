@@ -31,8 +31,8 @@
 #endif
 
 /* Raised with each change that a caller can see; 2 brings kept traces, 3 has a row match by its key itself,
- * 4 brings fixed-route packets, 5 has registers say where, when and how many. */
-#define YAGBOLSHEN_VERSION 5
+ * 4 brings fixed-route packets, 5 has registers say where, when and how many, 6 brings P2P codes by flooding. */
+#define YAGBOLSHEN_VERSION 6
 
 /* The refusals by name. */
 #define YB_ACCEPTED 0
@@ -314,6 +314,14 @@ yb_replayed yagbolshen_replay(uint32_t *mesh, size_t mesh_len, uint32_t *log, si
                               size_t trace_len, const uint32_t *rows, size_t rows_len, const uint32_t *starts,
                               size_t starts_len, const uint8_t *codes, size_t codes_len, const uint32_t *fixed,
                               size_t fixed_len);
+
+/* Writes all P2P codes of a mesh, width * height for each chip, chip after chip, as injection, round and replay take them;
+ * what the room held before does not count. A chip's code for itself is 7, even with all its links down; for a chip that
+ * no way leads to over links that are up, 6; else the lowest link that begins a way of fewest links. A link counts as up
+ * or down in its own direction, whatever it holds. With these codes, the links as they are and room on them, a P2P
+ * packet without error crosses the fewest links possible, if that number is at most `rounds_per_phase`. Answers the
+ * refusal, or 0. Refuses 8, 11, the first that applies; 11 where `codes_len` is not the square of width * height. */
+uint32_t yagbolshen_flood(const uint32_t *mesh, size_t mesh_len, uint8_t *codes, size_t codes_len);
 
 /* All that is lent with the tables, as one struct, and the calls that take it. A further table is one more field at the end. */
 #ifndef YAGBOLSHEN_WITHOUT_INLINE

@@ -17,7 +17,7 @@ pub struct BusyMesh {
     pub chip: u32,
     rows: Vec<u32>,
     starts: Vec<u32>,
-    codes: Vec<u8>,
+    pub codes: Vec<u8>,
     fixed: Vec<u32>,
 }
 

@@ -3,6 +3,7 @@
 //! test. Rounds of all are interleaved, so that what else the machine does falls on all. Argument: rounds (300).
 
 mod busy_mesh;
+mod flood_times;
 mod growth;
 #[path = "../../tests/compare/src/interface.rs"]
 mod interface;
@@ -32,6 +33,7 @@ fn main() {
     packet_times::all(rounds);
     mesh_times::all(rounds);
     replay_times::all(rounds);
+    flood_times::all(rounds);
     growth::all(rounds);
     stack::print_use();
 }

@@ -19,7 +19,7 @@ thread_local! {
     static MESH: RefCell<BusyMesh> = RefCell::new(BusyMesh::mixed(12, 12, 4));
 }
 
-const CALLS: [(&str, extern "C" fn()); 17] = [
+const CALLS: [(&str, extern "C" fn()); 18] = [
     ("read", read),
     ("pack", pack),
     ("pass", pass),
@@ -37,6 +37,7 @@ const CALLS: [(&str, extern "C" fn()); 17] = [
     ("read record", read_record),
     ("replay", replay),
     ("open", open),
+    ("flood", flood),
 ];
 
 pub fn print_use() {
@@ -70,6 +71,10 @@ extern "C" fn size() {
 
 extern "C" fn open() {
     MESH.with_borrow_mut(|mesh| black_box(mesh_calls::open(&mut mesh.words, 12, 12, 1, 0)));
+}
+
+extern "C" fn flood() {
+    MESH.with_borrow_mut(|mesh| black_box(mesh_calls::flood(&mesh.words, &mut mesh.codes)));
 }
 
 extern "C" fn inject() {

@@ -3,6 +3,7 @@
 //! checks buffer and tables once. `JOINED` says how the numbers of the tables are checked, as in the one-router model.
 
 mod checks;
+mod flooding;
 mod holding;
 mod passing;
 mod replaying;
@@ -10,6 +11,7 @@ mod replaying;
 use crate::interface::{Added, LentTables};
 use crate::model::{self, LINKS, LOCAL};
 use passing::{packet_at, pass_at};
+pub use flooding::flood;
 pub use replaying::replay;
 
 const HEADER: usize = 6;

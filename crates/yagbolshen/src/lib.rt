@@ -33,6 +33,7 @@ ghost use Rattle.mesh.specs.Calls.{registersRead, countRead, meshRead, linkRead
 ghost use Rattle.buffer.specs.Leaving.{Leaves, Moves, injectLeft, roundLeft, linkLeft, registersLeft};
 ghost use Rattle.trace.specs.Records.{recordRead, writtenOf, writtenOn};
 ghost use Rattle.trace.specs.Replay.{replayOf, Replays};
+ghost use Rattle.flood.specs.Codes.{floodRefusal, flooded};
 ghost use Rattle.yagbolshen.specs.Settings.{settingOf};
 
 // The fields of a packet in bytes.
@@ -221,4 +222,13 @@ pub extern "C" fn yagbolshen_replay(
     ensures { λ r. ⌜ Replays (now (mesh .entry)) (now (mesh .exit)) (now (log .entry)) (now (log .exit)) r (replayOf (now (mesh .entry)) (tablesOf (now (rows .entry)) (now (starts .entry)) (now (codes .entry)) (now (fixed .entry))) (length (now (log .entry))) (now (trace .entry))) ⌝ }
 {
     trace::replaying::replay(mesh, log, trace, rows, starts, codes, fixed)
+}
+
+// Fills all P2P codes of a mesh by flooding over its up links.
+#[no_mangle]
+pub extern "C" fn yagbolshen_flood(mesh: &[u32], codes: &mut [u8]) -> u32
+    ensures { λ r. ⌜ r ≡ floodRefusal (holdsMesh (now (mesh .entry))) (meshOf (now (mesh .entry))) (now (codes .entry)) ⌝ }
+    ensures { λ _. ⌜ now (codes .exit) ≡ flooded (holdsMesh (now (mesh .entry))) (meshOf (now (mesh .entry))) (now (codes .entry)) ⌝ }
+{
+    flood::flooding::flood(mesh, codes)
 }

@@ -19,7 +19,7 @@ mod trace_calls;
 
 use finding::FindTally;
 use interface::Fields;
-use mesh::MeshTally;
+use mesh::{FloodTally, MeshTally};
 use pass_case::{PassCase, DAMAGES};
 use random::Random;
 use records::RecordTally;
@@ -32,6 +32,7 @@ const FINDS: f64 = 2e6;
 const RECORDS: f64 = 4e6;
 const SEQUENCES: f64 = 3e5;
 const TRACES: f64 = 1e5;
+const FLOODS: f64 = 1e4;
 
 fn main() {
     let arguments: Vec<String> = std::env::args().collect();
@@ -41,6 +42,7 @@ fn main() {
     let (mut tally, mut random) = (Tally::default(), Random::new(seed));
     let (mut record_tally, mut find_tally) = (RecordTally::default(), FindTally::default());
     let mut mesh_tally = MeshTally::default();
+    let mut flood_tally = FloodTally::default();
 
     if let Some(number) = only {
         mesh::run(&mut mesh_tally, seed, number, true);
@@ -62,8 +64,10 @@ fn main() {
     for number in 0..(TRACES * scale) as u64 {
         mesh::run_trace(&mut mesh_tally, seed, number, false);
     }
+    mesh::flooding::systematic(&mut flood_tally, &mut random);
+    mesh::flooding::random(&mut flood_tally, &mut random, (FLOODS * scale) as u64);
 
-    if !(tally.print() & find_tally.print() & record_tally.print() & mesh_tally.print()) {
+    if !(tally.print() & find_tally.print() & record_tally.print() & mesh_tally.print() & flood_tally.print()) {
         std::process::exit(1);
     }
     println!("no difference (scale {scale}, seed {seed})");

@@ -50,6 +50,7 @@ extern "C" {
     fn yagbolshen_mesh(mesh: *const u32, mesh_len: usize) -> MeshLook;
     fn yagbolshen_link(mesh: *const u32, mesh_len: usize, chip: u32, link: u32) -> LinkLook;
     fn yagbolshen_flight(mesh: *const u32, mesh_len: usize, chip: u32, link: u32, place: u32) -> Flight;
+    fn yagbolshen_flood(mesh: *const u32, mesh_len: usize, codes: *mut u8, codes_len: usize) -> u32;
 }
 
 pub fn size(width: u32, height: u32) -> Size {
@@ -123,6 +124,10 @@ pub fn look_at_link(mesh: &[u32], chip: u32, link: u32) -> LinkLook {
 
 pub fn flight(mesh: &[u32], chip: u32, link: u32, place: u32) -> Flight {
     unsafe { yagbolshen_flight(pointer(mesh), mesh.len(), chip, link, place) }
+}
+
+pub fn flood(mesh: &[u32], codes: &mut [u8]) -> u32 {
+    unsafe { yagbolshen_flood(pointer(mesh), mesh.len(), pointer_mut(codes), codes.len()) }
 }
 
 pub fn pointer_mut<T>(slice: &mut [T]) -> *mut T {

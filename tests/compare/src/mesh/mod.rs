@@ -6,6 +6,9 @@ mod calls;
 mod damage;
 mod every_byte;
 mod every_word;
+mod flood_model;
+mod flood_tally;
+pub mod flooding;
 mod kept;
 mod known;
 mod layout;
@@ -25,6 +28,7 @@ mod tables;
 mod tally;
 mod traces;
 
+pub use flood_tally::FloodTally;
 pub use sequence::run;
 pub use tally::MeshTally;
 pub use traces::run as run_trace;

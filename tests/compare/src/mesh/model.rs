@@ -145,7 +145,7 @@ impl Mesh {
     }
 
     /// The chip that this link of a chip leads to, which is also the one that arrivals by this link come from.
-    fn neighbour(&self, chip: u32, link: u32) -> u32 {
+    pub fn neighbour(&self, chip: u32, link: u32) -> u32 {
         let (width, height) = (self.width, self.height);
         let (x, y) = (chip % width, chip / width);
         let (east, west) = ((x + 1) % width, (x + width - 1) % width);
