@@ -5,6 +5,7 @@ use super::playing::REPLAY;
 use super::playing::RUN;
 use super::playing::WHERE;
 use super::playing::play;
+use super::playing::play_check;
 use super::showing::show_trace;
 use super::telling::small;
 use super::telling::text;
@@ -18,7 +19,6 @@ use sheet::board::LOG;
 use sheet::board::ROWS;
 use sheet::board::STARTS;
 use sheet::board::WORDS;
-use sheet::checking::check;
 use sheet::paths::PATH;
 use sheet::paths::path_in;
 
@@ -43,7 +43,7 @@ pub fn command(
     let status = if how == SHOW {
         show(piece)
     } else if how == CHECK {
-        check(rows, starts, codes, fixed, piece, line)
+        play_check(rows, starts, codes, fixed, mesh, log, piece, line)
     } else {
         played(how, rows, starts, codes, fixed, mesh, log, piece, line)
     };

@@ -10,8 +10,10 @@ pub struct Course {
     // The line of FILE that makes the running call, or the first byte of its record where a trace is replayed.
     pub at: u64,
     pub replayed: bool,
-    // Whether of FILE's calls only link changes are made.
+    // Whether of FILE's calls only link changes and floods are made, and whether pairs of chips with no way are told.
     pub links: bool,
+    pub pairs: bool,
+    pub unreached: u64,
     // Where accepted calls are kept, below 0 for nowhere; whether keeping them failed, or reading them.
     pub trace: i32,
     pub unkept: bool,
@@ -32,6 +34,8 @@ pub fn course_on(board: Board) -> Course {
         at: 0,
         replayed: false,
         links: false,
+        pairs: false,
+        unreached: 0,
         trace: -1,
         unkept: false,
         unread: false,

@@ -5,6 +5,7 @@ mod calls;
 mod commands;
 mod course;
 mod deliveries;
+mod flooding;
 mod following;
 mod keeping;
 mod legend;

@@ -2,10 +2,12 @@
 use super::account::tell_account;
 use super::course::Course;
 use super::course::course_on;
+use super::flooding::all_codes;
 use super::following::follow_packet;
 use super::picture::draw;
 use super::replaying::replay_trace;
 use super::running::run_file;
+use super::telling::text;
 use buffer::opening::open;
 use packet::Packet;
 use script::cells::between;
@@ -26,7 +28,7 @@ use sheet::board::STARTS;
 use sheet::board::WORDS;
 use sheet::board::chip_at;
 use sheet::board::chips;
-use sheet::board::times;
+use sheet::checking::check;
 use sheet::paths::PATH;
 use sheet::paths::path_in;
 use sheet::reading::read_file;
@@ -44,6 +46,61 @@ pub const REPLAY: u32 = 2;
 pub const WHERE: u32 = 3;
 
 pub const MAP: u32 = 4;
+
+// What is odd in FILE's tables and, where it floods, in its links. Answers the status.
+pub fn play_check(
+    rows: &mut [u32; ROWS],
+    starts: &mut [u32; STARTS],
+    codes: &mut [u8; CODES],
+    fixed: &mut [u32; CHIPS],
+    mesh: &mut [u32; WORDS],
+    log: &mut [u32; LOG],
+    piece: &mut [u8; PIECE],
+    line: &mut [u8; LINE],
+) -> u32 {
+    let k = check(rows, starts, codes, fixed, piece, line);
+    let unreached = if k.flood & (k.status != 2) {
+        check_floods(k.board, rows, starts, codes, fixed, mesh, log, piece, line)
+    } else {
+        0
+    };
+    if (k.status == 0) & (k.odd == 0) & (unreached == 0) {
+        text(b"nothing odd\n");
+    }
+    k.status
+}
+
+// How many pairs of chips a flood of FILE finds no way for.
+fn check_floods(
+    b: Board,
+    rows: &[u32],
+    starts: &[u32],
+    codes: &mut [u8; CODES],
+    fixed: &[u32],
+    mesh: &mut [u32; WORDS],
+    log: &mut [u32; LOG],
+    piece: &mut [u8; PIECE],
+    line: &mut [u8; LINE],
+) -> u64 {
+    open(mesh, b.width, b.height, b.phase, b.monitor);
+    let mut path = [0u8; PATH];
+    let n = os::arg(2, &mut path);
+    let mut c = course_on(b);
+    c.pairs = true;
+    c = run_links(
+        path_in(&path, n),
+        c,
+        mesh,
+        log,
+        rows,
+        starts,
+        codes,
+        fixed,
+        piece,
+        line,
+    );
+    c.unreached
+}
 
 // Reads FILE, and plays where nothing is wrong with it. Answers the status.
 pub fn play(
@@ -67,6 +124,9 @@ pub fn play(
     let b = r.board;
     let count = moved_together(rows, starts, chips(b));
     open(mesh, b.width, b.height, b.phase, b.monitor);
+    if (how == REPLAY) & r.flood {
+        flood_before(file, b, mesh, log, rows, starts, codes, fixed, piece, line);
+    }
     play_tables(
         how,
         file,
@@ -93,17 +153,16 @@ fn play_tables(
     log: &mut [u32; LOG],
     rows: &[u32],
     starts: &[u32],
-    codes: &[u8],
+    codes: &mut [u8; CODES],
     fixed: &[u32],
     piece: &mut [u8; PIECE],
     line: &mut [u8; LINE],
 ) -> u32 {
     let own = first_words(rows, word_of(count));
     let begin = first_words(starts, chips(b) as usize + 1);
-    let all = between(codes, 0, times(chips(b), chips(b)) as usize);
     let routes = first_words(fixed, chips(b) as usize);
     if how == WHERE {
-        return play_where(file, b, mesh, log, own, begin, all, routes, piece, line);
+        return play_where(file, b, mesh, log, own, begin, codes, routes, piece, line);
     }
     let mut path = [0u8; PATH];
     let n = os::arg(3, &mut path);
@@ -116,7 +175,7 @@ fn play_tables(
         log,
         own,
         begin,
-        all,
+        codes,
         routes,
         piece,
         line,
@@ -131,7 +190,7 @@ fn play_where(
     log: &mut [u32; LOG],
     rows: &[u32],
     starts: &[u32],
-    codes: &[u8],
+    codes: &mut [u8; CODES],
     fixed: &[u32],
     piece: &mut [u8; PIECE],
     line: &mut [u8; LINE],
@@ -145,17 +204,87 @@ fn play_where(
         err(b"or the word fixed for a fixed-route packet\n");
         return 2;
     }
-    let fd = readable(file);
-    if fd < 0 {
+    let c = run_links(
+        file,
+        course_on(b),
+        mesh,
+        log,
+        rows,
+        starts,
+        codes,
+        fixed,
+        piece,
+        line,
+    );
+    if c.unread {
         return 2;
     }
-    let mut c = course_on(b);
+    let p = asked.packet;
+    follow_packet(
+        b,
+        chip,
+        p,
+        mesh,
+        log,
+        rows,
+        starts,
+        between(codes, 0, all_codes(b)),
+        fixed,
+    );
+    if c.refused == 0 { 0 } else { 1 }
+}
+
+// FILE's link changes and floods alone.
+pub fn run_links(
+    file: &[u8],
+    before: Course,
+    mesh: &mut [u32; WORDS],
+    log: &mut [u32; LOG],
+    rows: &[u32],
+    starts: &[u32],
+    codes: &mut [u8; CODES],
+    fixed: &[u32],
+    piece: &mut [u8; PIECE],
+    line: &mut [u8; LINE],
+) -> Course {
+    let mut c = before;
     c.links = true;
+    let fd = readable(file);
+    if fd < 0 {
+        c.unread = true;
+        return c;
+    }
     c = run_file(fd, c, mesh, log, rows, starts, codes, fixed, piece, line);
     libc::close(fd);
-    let p = asked.packet;
-    follow_packet(b, chip, p, mesh, log, rows, starts, codes, fixed);
-    if c.refused == 0 { 0 } else { 1 }
+    c
+}
+
+// A trace keeps no flood: a replay has the codes as they stand at FILE's end, and a mesh opened anew.
+fn flood_before(
+    file: &[u8],
+    b: Board,
+    mesh: &mut [u32; WORDS],
+    log: &mut [u32; LOG],
+    rows: &[u32],
+    starts: &[u32],
+    codes: &mut [u8; CODES],
+    fixed: &[u32],
+    piece: &mut [u8; PIECE],
+    line: &mut [u8; LINE],
+) {
+    run_links(
+        file,
+        course_on(b),
+        mesh,
+        log,
+        rows,
+        starts,
+        codes,
+        fixed,
+        piece,
+        line,
+    );
+    open(mesh, b.width, b.height, b.phase, b.monitor);
 }
 
 fn chip_asked(b: Board) -> u32 {
@@ -205,7 +334,7 @@ fn play_calls(
     log: &mut [u32; LOG],
     rows: &[u32],
     starts: &[u32],
-    codes: &[u8],
+    codes: &mut [u8; CODES],
     fixed: &[u32],
     piece: &mut [u8; PIECE],
     line: &mut [u8; LINE],
@@ -226,7 +355,17 @@ fn play_calls(
         return 2;
     }
     c = if how == REPLAY {
-        replay_trace(from, c, mesh, log, rows, starts, codes, fixed, piece)
+        replay_trace(
+            from,
+            c,
+            mesh,
+            log,
+            rows,
+            starts,
+            between(codes, 0, all_codes(b)),
+            fixed,
+            piece,
+        )
     } else {
         run_file(from, c, mesh, log, rows, starts, codes, fixed, piece, line)
     };

@@ -1,6 +1,8 @@
-// FILE's second reading: its calls are made in order, with all its tables.
+// FILE's second reading: its calls are made in order, with all its tables. A flood writes the codes that later calls are lent.
 use super::calls;
 use super::course::Course;
+use super::flooding::all_codes;
+use super::flooding::flooded;
 use packet::Packet;
 use packet::bytes::bytes_of;
 use script::cells::between;
@@ -13,6 +15,7 @@ use script::pieces::PIECE;
 use script::statements::Statement;
 use script::statements::read_statement;
 use script::words::before_comment;
+use sheet::board::CODES;
 use sheet::board::LOG;
 use sheet::board::WORDS;
 use sheet::board::chip_at;
@@ -31,7 +34,7 @@ pub fn run_file(
     log: &mut [u32; LOG],
     rows: &[u32],
     starts: &[u32],
-    codes: &[u8],
+    codes: &mut [u8; CODES],
     fixed: &[u32],
     piece: &mut [u8; PIECE],
     line: &mut [u8; LINE],
@@ -63,7 +66,7 @@ fn run_line(
     log: &mut [u32; LOG],
     rows: &[u32],
     starts: &[u32],
-    codes: &[u8],
+    codes: &mut [u8; CODES],
     fixed: &[u32],
     piece: &mut [u8; PIECE],
     line: &mut [u8; LINE],
@@ -92,11 +95,11 @@ fn called(
     log: &mut [u32; LOG],
     rows: &[u32],
     starts: &[u32],
-    codes: &[u8],
+    codes: &mut [u8; CODES],
     fixed: &[u32],
 ) -> Course {
     if c.links {
-        return linked(c, s, mesh);
+        return linked(c, s, mesh, codes);
     }
     match s {
         Statement::Send { x, y, packet } => sent(
@@ -107,11 +110,28 @@ fn called(
             log,
             rows,
             starts,
-            codes,
+            between(codes, 0, all_codes(c.board)),
             fixed,
         ),
-        Statement::Rounds(n) => calls::rounds(c, n, mesh, log, rows, starts, codes, fixed),
-        Statement::UntilQuiet => calls::until_quiet(c, mesh, log, rows, starts, codes, fixed),
+        Statement::Rounds(n) => calls::rounds(
+            c,
+            n,
+            mesh,
+            log,
+            rows,
+            starts,
+            between(codes, 0, all_codes(c.board)),
+            fixed,
+        ),
+        Statement::UntilQuiet => calls::until_quiet(
+            c,
+            mesh,
+            log,
+            rows,
+            starts,
+            between(codes, 0, all_codes(c.board)),
+            fixed,
+        ),
         Statement::Link { x, y, link, up } => calls::change_link(
             c,
             chip_at(c.board, x, y),
@@ -120,16 +140,24 @@ fn called(
             mesh,
         ),
         Statement::Registers { x, y } => calls::registers(c, chip_at(c.board, x, y), mesh),
+        Statement::Flood => flooded(c, mesh, codes),
         _ => c,
     }
 }
 
-// A link change alone, told where it is refused.
-fn linked(c: Course, s: Statement, mesh: &mut [u32; WORDS]) -> Course {
-    if let Statement::Link { x, y, link, up } = s {
-        return calls::change_link(c, chip_at(c.board, x, y), link, up, mesh);
+// A link change or a flood alone, told where it is refused.
+fn linked(c: Course, s: Statement, mesh: &mut [u32; WORDS], codes: &mut [u8; CODES]) -> Course {
+    match s {
+        Statement::Link { x, y, link, up } => calls::change_link(
+            c,
+            chip_at(c.board, x, y),
+            link,
+            up,
+            mesh,
+        ),
+        Statement::Flood => flooded(c, mesh, codes),
+        _ => c,
     }
-    c
 }
 
 fn sent(

@@ -72,7 +72,7 @@ pub fn err(t: &[u8]) {
 fn tell_wanted(wanted: u32) {
     match wanted {
         STATEMENT => err(
-            b"a statement is wanted: mesh, row, rows, code, route, spike, fixed, p2p, nn, packet, rounds, until quiet, down, up or registers",
+            b"a statement is wanted: mesh, row, rows, code, route, spike, fixed, p2p, nn, packet, rounds, until quiet, down, up, registers or flood",
         ),
         COORDINATE => err(b"a chip's x or y is wanted, a number from 0 to 255"),
         NUMBER => err(b"a number up to 0xffffffff is wanted, decimal or 0x and hexadecimal digits"),
@@ -154,5 +154,8 @@ fn tell_form_of_call(w: &[u8]) {
     }
     if same(w, b"registers") {
         err(b": registers X Y");
+    }
+    if same(w, b"flood") {
+        err(b": flood");
     }
 }

@@ -71,6 +71,8 @@ pub enum Statement {
         x: u32,
         y: u32,
     },
+    // All codes by flooding.
+    Flood,
     // What was wanted at which word.
     Wrong {
         wanted: u32,
@@ -137,6 +139,9 @@ fn other_statement(line: &[u8]) -> Statement {
     }
     if same(w, b"registers") {
         return registers(line);
+    }
+    if same(w, b"flood") {
+        return flood(line);
     }
     Statement::Wrong {
         wanted: wanted::STATEMENT,
@@ -281,6 +286,14 @@ fn registers(line: &[u8]) -> Statement {
         x: x.value,
         y: y.value,
     }
+}
+
+fn flood(line: &[u8]) -> Statement {
+    let p = end_at(line, 1, wanted::END);
+    if p.wanted != 0 {
+        return wrong(p);
+    }
+    Statement::Flood
 }
 
 pub fn wrong(p: Part) -> Statement {

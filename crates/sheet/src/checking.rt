@@ -30,7 +30,15 @@ use script::say;
 use std::num::wrapping_add_u64;
 use std::num::wrapping_add_usize;
 
-// Answers 2 for a file that cannot be read or understood, 1 for tables that the model refuses, 0 for all others.
+// The status: 2 for a file that cannot be read or understood, 1 for tables that the model refuses, 0 for all others. How many lines were
+// told, and what else there is to look at: the mesh, and whether the file floods.
+pub struct Findings {
+    pub status: u32,
+    pub odd: u64,
+    pub board: Board,
+    pub flood: bool,
+}
+
 pub fn check(
     rows: &mut [u32; ROWS],
     starts: &mut [u32; STARTS],
@@ -38,12 +46,12 @@ pub fn check(
     fixed: &mut [u32; CHIPS],
     piece: &mut [u8; PIECE],
     line: &mut [u8; LINE],
-) -> u32 {
+) -> Findings {
     let mut path = [0u8; PATH];
     let n = os::arg(2, &mut path);
     let r = read_counting(path_in(&path, n), rows, starts, codes, fixed, piece, line);
     if r.wrong != 0 {
-        return 2;
+        return told(r, 2, 0);
     }
     checked(r, rows, starts, codes, fixed)
 }
@@ -54,24 +62,31 @@ fn checked(
     starts: &mut [u32; STARTS],
     codes: &[u8; CODES],
     fixed: &[u32; CHIPS],
-) -> u32 {
+) -> Findings {
     let b = r.board;
     let over = tell_over(b, starts);
     moved_together(rows, starts, chips(b));
     let odd = wrapping_add_u64(
         wrapping_add_u64(
             tell_chips(b, rows, starts),
-            tell_codes(r.p2p, between(codes, 0, times(chips(b), chips(b)) as usize)),
+            tell_codes(
+                r.p2p & !r.flood,
+                between(codes, 0, times(chips(b), chips(b)) as usize),
+            ),
         ),
         tell_fixed(r.fixed, b, fixed),
     );
-    if over != 0 {
-        return 1;
+    told(r, if over == 0 { 0 } else { 1 }, odd)
+}
+
+fn told(r: Reading, status: u32, odd: u64) -> Findings {
+    let board = r.board;
+    Findings {
+        status,
+        odd,
+        board,
+        flood: r.flood,
     }
-    if odd == 0 {
-        out(b"nothing odd\n");
-    }
-    0
 }
 
 // The chips with more than 1,024 rows: how many there are.
@@ -196,7 +211,7 @@ fn leading_by(rows: &[u32; ROWS], first: usize, past: usize, link: u32) -> usize
     row
 }
 
-// Says where no code leads anywhere, if the file speaks of P2P packets at all.
+// Says where no code leads anywhere, if the file speaks of P2P packets at all and does not flood.
 fn tell_codes(p2p: bool, codes: &[u8]) -> u64 {
     if !p2p {
         return 0;

@@ -57,6 +57,8 @@ pub struct Reading {
     // Whether there are codes, or P2P packets; whether there are fixed routes, or fixed-route packets.
     pub p2p: bool,
     pub fixed: bool,
+    // Whether codes are flooded.
+    pub flood: bool,
 }
 
 // Reads FILE. Where something is wrong with it that is told, and the reading's `wrong` is not 0.
@@ -139,6 +141,7 @@ fn begun(counting: bool, fd: i32) -> Reading {
         counting,
         p2p: false,
         fixed: false,
+        flood: false,
     }
 }
 
@@ -212,6 +215,7 @@ fn understood(
     let mut r = before;
     r.p2p = r.p2p | is_p2p(s);
     r.fixed = r.fixed | is_fixed_route(s);
+    r.flood = r.flood | is_flood(s);
     match s {
         Statement::Nothing => r,
         Statement::Wrong { wanted, at } => wrong_word(r, line, wanted, at),
@@ -247,6 +251,13 @@ fn is_fixed_route(s: Statement) -> bool {
     match s {
         Statement::Route { .. } => true,
         Statement::Send { packet, .. } => is_fixed(packet.control),
+        _ => false,
+    }
+}
+
+fn is_flood(s: Statement) -> bool {
+    match s {
+        Statement::Flood => true,
         _ => false,
     }
 }

@@ -4,10 +4,10 @@ use Rattle.lab.proofs.running.run_file.Statement.{statement}
 use Rattle.lab.proofs.running.run_file.Tie as tie
 
 abbrev Inv-loop : tie.InvT-loop
-Inv-loop fd mesh₀ log₀ rows starts codes fixed piece₀ line₀ r₀ turns₀ mesh log piece line r turns = Unit {0}
+Inv-loop fd mesh₀ log₀ rows starts codes₀ fixed piece₀ line₀ r₀ turns₀ mesh log codes piece line r turns = Unit {0}
 
 abbrev μ-loop : tie.MeasureT-loop
-μ-loop fd mesh₀ log₀ rows starts codes fixed piece₀ line₀ r₀ turns₀ mesh log piece line r turns = turns
+μ-loop fd mesh₀ log₀ rows starts codes₀ fixed piece₀ line₀ r₀ turns₀ mesh log codes piece line r turns = turns
 
 begun-requires : tie.Need-begun-requires Inv-loop μ-loop
 begun-requires c κs = search needs
