@@ -4,6 +4,7 @@ pub mod LentRows
 pub mod Masked
 pub mod OneByOne
 pub mod RowByRow
+pub mod RowsByNumber
 pub mod Sizes
 pub mod Starts
 pub mod Walking

@@ -4,7 +4,7 @@ use mathlib.Core.Bool.{true}
 use Prim.Native.Nat.{ℕ, zero, suc, _+_, _*_, _/_, _%_, _<_, min}
 use native.Mathlib.Nat.{min-zero, zero-min, suc-min-suc, min-le-left, mod-lt, lt-of-le-of-lt, zero-lt-suc}
 use lib.Arith.{bin-ind, digits-div, digits-mod}
-use lib.Bits.{bitAnd, and-step, and-self}
+use lib.Bits.{bitAnd, and-step, and-comm, and-self}
 use lib.Dec.{eqb}
 use borrow.Author.Tests.{eqb-true, eq-eqb}
 use Rattle.tables.specs.Rows.{matches, used}
@@ -34,6 +34,10 @@ and-assoc =
     ∙ ap₂ (λ (x y : ℕ). x * 2 + y) (ih (b / 2) (c / 2)) (min-assoc (n % 2) (b % 2) (c % 2))
     ∙ sym (ap₂ (λ (x y : ℕ). bitAnd (n / 2) x * 2 + min (n % 2) y) (and-half b c) (and-digit b c))
     ∙ sym (and-step n (bitAnd b c)))
+
+-- bits that a mask has among those of another can be taken after that other's
+pub through : (key mask later : ℕ) → bitAnd mask later ≡ mask → bitAnd key mask ≡ bitAnd (bitAnd key later) mask
+through key mask later h = ap (bitAnd key) (sym h ∙ and-comm mask later) ∙ sym (and-assoc key later mask)
 
 pub used-of-match : (key row mask : ℕ) → matches key row mask ≡ true → used row mask ≡ true
 used-of-match key row mask m =

@@ -13,7 +13,7 @@ ghost use Rattle.tables.specs.Accept.{routeFine, allRoutes, routesFine, 
 const MOST_ROWS: usize = 1024;
 
 // The lowest route bit that names neither a link nor a processor.
-const ROUTES: u32 = 0x0400_0000;
+pub const ROUTES: u32 = 0x0400_0000;
 
 // In each of eight bytes, the bits that no code has set.
 const ABOVE_SEVEN: u64 = 0xf8f8_f8f8_f8f8_f8f8;

@@ -1,6 +1,7 @@
 // The tables that a caller lends: MC rows and the search through them, P2P codes, and what makes them acceptable.
 pub mod accept;
 pub mod codes;
+pub mod places;
 pub mod search;
 pub mod size;
 

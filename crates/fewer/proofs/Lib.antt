@@ -1,0 +1,17 @@
+pub mod AllAccounted
+pub mod Answers
+pub mod AtRest
+pub mod BitByBit
+pub mod Covers
+pub mod CoversExactly
+pub mod Ending
+pub mod Going
+pub mod HeldRows
+pub mod Joined
+pub mod Onwards
+pub mod PairWords
+pub mod Pairing
+pub mod SameRoutes
+pub mod Steps
+pub mod WalkWords
+pub mod Walks

@@ -1,0 +1,4 @@
+pub mod Call
+pub mod Hand
+pub mod Process
+pub mod Promises
