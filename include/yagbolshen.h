@@ -19,7 +19,10 @@
  * 13  record with an empty body, or of a version other than 1
  * 14  record of no kind 1 to 4, of a length that is not its kind's, or with a link state above 1; in writing, a call
  *     that cannot be kept as it is
+ * 16  over 16,384 rows that are to be made fewer
+ * 17  a row of them with route bit 26 to 31 set, or not whole rows
  * 27  room shorter than the record to be written
+ * 28  room for fewer rows, or for fewer numbers of rows, than there are
  */
 #ifndef YAGBOLSHEN_H
 #define YAGBOLSHEN_H
@@ -31,8 +34,9 @@
 #endif
 
 /* Raised with each change that a caller can see; 2 brings kept traces, 3 has a row match by its key itself,
- * 4 brings fixed-route packets, 5 has registers say where, when and how many, 6 brings P2P codes by flooding. */
-#define YAGBOLSHEN_VERSION 6
+ * 4 brings fixed-route packets, 5 has registers say where, when and how many, 6 brings P2P codes by flooding,
+ * 7 makes tables fewer rows. */
+#define YAGBOLSHEN_VERSION 7
 
 /* The refusals by name. */
 #define YB_ACCEPTED 0
@@ -49,7 +53,10 @@
 #define YB_CUT_SHORT 12
 #define YB_RECORD_VERSION 13
 #define YB_RECORD 14
+#define YB_MANY_ROWS 16     /* over 16,384, to be made fewer */
+#define YB_ROUTE 17         /* a row's route, or not whole rows */
 #define YB_NO_ROOM 27
+#define YB_FEWER_ROOM 28
 
 /* Links lead from a chip at x, y to x + 1 east, y + 1 north, both north-east, and back; the mesh wraps. What is sent by
  * link i arrives by link (i + 3) % 6. A source of 7 is the chip itself. */
@@ -220,6 +227,12 @@ typedef struct {
     size_t at, added;
 } yb_replayed;
 
+/* rows: how many are left. gone: how many numbers are listed; both together are the rows that went in. place: the row
+ * that 17 is about, from 0, and 0 else; words past the last whole row are the row after it. */
+typedef struct {
+    uint32_t refusal, rows, gone, place;
+} yb_fewer;
+
 /* Reads the bytes of a packet into fields. Refuses 2. */
 yb_read yagbolshen_read(const uint8_t *packet, size_t packet_len);
 
@@ -322,6 +335,16 @@ yb_replayed yagbolshen_replay(uint32_t *mesh, size_t mesh_len, uint32_t *log, si
  * packet without error crosses the fewest links possible, if that number is at most `rounds_per_phase`. Answers the
  * refusal, or 0. Refuses 8, 11, the first that applies; 11 where `codes_len` is not the square of width * height. */
 uint32_t yagbolshen_flood(const uint32_t *mesh, size_t mesh_len, uint8_t *codes, size_t codes_len);
+
+/* Makes the rows of one table fewer, up to 16,384 of them, three words each; every key gets the same route from what is left,
+ * or none as before. A row that matches no key goes, and one whose keys one earlier row matches all; two neighbouring rows with
+ * equal mask and route, whose keys differ in one bit of the mask, become one without that bit. Taking out comes before joining,
+ * the topmost first, until neither can be done. `left` gets the rows that are left, `gone` the numbers that the others first had,
+ * from 0, in the order in which they went, of two that became one the lower's; words past both stay as they were. `left_len`
+ * is at least `rows_len`, and `gone_len` the number of rows. Refuses 16, 17, 28, the first that applies. The time may grow with
+ * the square of the rows; the stack that it takes is a little over 256 KiB, whatever is lent. */
+yb_fewer yagbolshen_fewer(const uint32_t *rows, size_t rows_len, uint32_t *left, size_t left_len, uint32_t *gone,
+                          size_t gone_len);
 
 /* All that is lent with the tables, as one struct, and the calls that take it. A further table is one more field at the end. */
 #ifndef YAGBOLSHEN_WITHOUT_INLINE

@@ -3,6 +3,9 @@
 //! test. Rounds of all are interleaved, so that what else the machine does falls on all. Argument: rounds (300).
 
 mod busy_mesh;
+#[path = "../../tests/compare/src/fewer_calls.rs"]
+mod fewer_calls;
+mod fewer_times;
 mod flood_times;
 mod growth;
 #[path = "../../tests/compare/src/interface.rs"]
@@ -17,6 +20,7 @@ mod mesh_times;
 mod model;
 mod packet_times;
 mod pass_times;
+mod plain_fewer;
 mod plain_mesh;
 #[path = "../../tests/compare/src/random.rs"]
 mod random;
@@ -35,5 +39,6 @@ fn main() {
     replay_times::all(rounds);
     flood_times::all(rounds);
     growth::all(rounds);
+    fewer_times::all(rounds);
     stack::print_use();
 }

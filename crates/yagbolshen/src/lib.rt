@@ -1,5 +1,6 @@
 // The C interface: thin exports over the crates below. include/yagbolshen.h declares them.
 use buffer::opening::SizeRead;
+use fewer::Fewer;
 use mesh::Added;
 use mesh::CountRead;
 use mesh::FlightRead;
@@ -31,6 +32,7 @@ ghost use Rattle.buffer.specs.Holding.{holdsMesh};
 ghost use Rattle.mesh.specs.Steps.{tablesOf};
 ghost use Rattle.mesh.specs.Calls.{registersRead, countRead, meshRead, linkRead, flightRead};
 ghost use Rattle.buffer.specs.Leaving.{Leaves, Moves, injectLeft, roundLeft, linkLeft, registersLeft};
+ghost use Rattle.fewer.specs.Call.{fewerOf, leftAfter, goneAfter};
 ghost use Rattle.trace.specs.Records.{recordRead, writtenOf, writtenOn};
 ghost use Rattle.trace.specs.Replay.{replayOf, Replays};
 ghost use Rattle.flood.specs.Codes.{floodRefusal, flooded};
@@ -231,4 +233,14 @@ pub extern "C" fn yagbolshen_flood(mesh: &[u32], codes: &mut [u8]) -> u32
     ensures { λ _. ⌜ now (codes .exit) ≡ flooded (holdsMesh (now (mesh .entry))) (meshOf (now (mesh .entry))) (now (codes .entry)) ⌝ }
 {
     flood::flooding::flood(mesh, codes)
+}
+
+// The rows of a table made fewer, with the numbers of those that went.
+#[no_mangle]
+pub extern "C" fn yagbolshen_fewer(rows: &[u32], left: &mut [u32], gone: &mut [u32]) -> Fewer
+    ensures { λ r. ⌜ r ≡ fewerOf (now (rows .entry)) (now (left .entry)) (now (gone .entry)) ⌝ }
+    ensures { λ _. ⌜ now (left .exit) ≡ leftAfter (now (rows .entry)) (now (left .entry)) (now (gone .entry)) ⌝ }
+    ensures { λ _. ⌜ now (gone .exit) ≡ goneAfter (now (rows .entry)) (now (left .entry)) (now (gone .entry)) ⌝ }
+{
+    fewer::call::fewer(rows, left, gone)
 }

@@ -208,6 +208,16 @@ pub struct Replayed {
     pub added: usize,
 }
 
+/// `rows` are left and `gone` are listed; `place` is the row of refusal 17.
+#[repr(C)]
+#[derive(Clone, Copy, Debug, Default, PartialEq, Eq)]
+pub struct Fewer {
+    pub refusal: u32,
+    pub rows: u32,
+    pub gone: u32,
+    pub place: u32,
+}
+
 /// The tables that are lent to an injection, a round or a replay.
 #[derive(Clone, Copy, Debug)]
 pub struct LentTables<'a> {

@@ -3,6 +3,8 @@
 //! alone is then run, with the kept trace of that number, and the calls are printed.
 
 mod compare;
+mod fewer;
+mod fewer_calls;
 mod finding;
 mod interface;
 mod known;
@@ -17,6 +19,7 @@ mod systematic;
 mod tally;
 mod trace_calls;
 
+use fewer::FewerTally;
 use finding::FindTally;
 use interface::Fields;
 use mesh::{FloodTally, MeshTally};
@@ -33,6 +36,7 @@ const RECORDS: f64 = 4e6;
 const SEQUENCES: f64 = 3e5;
 const TRACES: f64 = 1e5;
 const FLOODS: f64 = 1e4;
+const FEWERS: f64 = 1e6;
 
 fn main() {
     let arguments: Vec<String> = std::env::args().collect();
@@ -43,6 +47,7 @@ fn main() {
     let (mut record_tally, mut find_tally) = (RecordTally::default(), FindTally::default());
     let mut mesh_tally = MeshTally::default();
     let mut flood_tally = FloodTally::default();
+    let mut fewer_tally = FewerTally::default();
 
     if let Some(number) = only {
         mesh::run(&mut mesh_tally, seed, number, true);
@@ -66,8 +71,10 @@ fn main() {
     }
     mesh::flooding::systematic(&mut flood_tally, &mut random);
     mesh::flooding::random(&mut flood_tally, &mut random, (FLOODS * scale) as u64);
+    fewer::systematic(&mut fewer_tally, &mut random);
+    fewer::random(&mut fewer_tally, &mut random, (FEWERS * scale) as u64);
 
-    if !(tally.print() & find_tally.print() & record_tally.print() & mesh_tally.print() & flood_tally.print()) {
+    if !(tally.print() & find_tally.print() & record_tally.print() & mesh_tally.print() & flood_tally.print() & fewer_tally.print()) {
         std::process::exit(1);
     }
     println!("no difference (scale {scale}, seed {seed})");
