@@ -21,6 +21,7 @@ use sheet::board::STARTS;
 use sheet::board::WORDS;
 use sheet::paths::PATH;
 use sheet::paths::path_in;
+use thinning::file::print_fewer;
 
 // Ways that do not play.
 const SHOW: u32 = 5;
@@ -28,6 +29,8 @@ const SHOW: u32 = 5;
 const CHECK: u32 = 6;
 
 const NOTHING: u32 = 7;
+
+const FEWER: u32 = 8;
 
 pub fn command(
     rows: &mut [u32; ROWS],
@@ -44,6 +47,8 @@ pub fn command(
         show(piece)
     } else if how == CHECK {
         play_check(rows, starts, codes, fixed, mesh, log, piece, line)
+    } else if how == FEWER {
+        print_fewer(rows, starts, codes, fixed, piece, line)
     } else {
         played(how, rows, starts, codes, fixed, mesh, log, piece, line)
     };
@@ -75,6 +80,9 @@ fn way() -> u32 {
     if is_command(b"map", 4) {
         return MAP;
     }
+    if is_command(b"fewer", 3) {
+        return FEWER;
+    }
     NOTHING
 }
 
@@ -98,7 +106,7 @@ fn played(
 ) -> u32 {
     if how == NOTHING {
         err(b"what is wanted: lab run FILE, keep FILE TRACE, replay FILE TRACE, show TRACE, ");
-        err(b"where FILE X Y KEY|fixed, check FILE or map FILE OUT.svg\n");
+        err(b"where FILE X Y KEY|fixed, check FILE, map FILE OUT.svg or fewer FILE\n");
         return 2;
     }
     play(how, rows, starts, codes, fixed, mesh, log, piece, line)

@@ -4,7 +4,7 @@ use mathlib.Core.Path.{_≡_, refl, sym, ap, _∙_}
 use mathlib.Core.Bool.{Bool, true, false, cond, _&&_, true≢false, false≢true}
 use mathlib.Core.List.{List, [], _∷_}
 use native.Mathlib.Omega.{arith}
-use lib.Bits.{bitAnd, and-comm}
+use lib.Bits.{bitAnd}
 use lib.Dec.{eqb}
 use lib.ListN.{getD}
 use borrow.Author.Tests.{eqb-true, eq-eqb}
@@ -12,12 +12,8 @@ use Rattle.tables.specs.declared.Found.{Found}
 use Rattle.tables.specs.declared.Found.the-variants.{At, Nothing}
 use Rattle.tables.specs.Shown.{Shown, foundShown}
 use Rattle.tables.specs.Rows.{Entry, matches, used, next, firstMatch, blankEntry}
-use Rattle.tables.proofs.Masked.{and-assoc}
+use Rattle.tables.proofs.Masked.{through}
 use Rattle.sheet.specs.Covering.{covers}
-
--- bits that a mask has among those of another can be taken after that other's
-through : (key mask later : ℕ) → bitAnd mask later ≡ mask → bitAnd key mask ≡ bitAnd (bitAnd key later) mask
-through key mask later h = ap (bitAnd key) (sym h ∙ and-comm mask later) ∙ sym (and-assoc key later mask)
 
 both : (a b : Bool) → (a && b) ≡ true → (a ≡ true) × (b ≡ true)
 both true b e = (refl, e)

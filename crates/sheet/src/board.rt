@@ -8,6 +8,8 @@ pub const CHIPS: usize = 144;
 
 pub const DEEP: usize = 1024;
 
+pub const DEEP_WORDS: usize = 3072;
+
 // Three words a row, one start more than chips, a code of each chip for each.
 pub const ROWS: usize = 442368;
 

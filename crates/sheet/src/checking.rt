@@ -2,6 +2,8 @@
 use super::board::Board;
 use super::board::CHIPS;
 use super::board::CODES;
+use super::board::DEEP;
+use super::board::DEEP_WORDS;
 use super::board::ROWS;
 use super::board::STARTS;
 use super::board::chips;
@@ -18,7 +20,9 @@ use super::reading::read_counting;
 use super::sides::beyond;
 use super::sides::opposite;
 use super::storing::moved_together;
+use super::storing::rows_of;
 use super::storing::word_of;
+use fewer::call::fewer;
 use libc::STDOUT_FILENO;
 use script::cells::between;
 use script::cells::byte_at;
@@ -128,7 +132,10 @@ fn tell_chip(b: Board, chip: u32, rows: &[u32; ROWS], starts: &[u32; STARTS]) ->
     let first = start_of(starts, chip);
     let past = past_of(starts, chip);
     if first < past {
-        tell_rows(b, chip, rows, first, past - first)
+        wrapping_add_u64(
+            tell_rows(b, chip, rows, first, past - first),
+            tell_fewer(b, chip, rows_of(chip, rows, starts)),
+        )
     } else {
         tell_ways_in(b, chip, rows, starts)
     }
@@ -168,6 +175,23 @@ fn tell_row(b: Board, chip: u32, rows: &[u32; ROWS], first: usize, n: usize) -> 
         odd = wrapping_add_u64(odd, 1);
     }
     odd
+}
+
+// How many rows of a chip could go, where some could.
+fn tell_fewer(b: Board, chip: u32, rows: &[u32]) -> u64 {
+    let mut left = [0u32; DEEP_WORDS];
+    let mut gone = [0u32; DEEP];
+    let f = fewer(rows, &mut left, &mut gone);
+    if f.gone == 0 {
+        return 0;
+    }
+    begin_chip(b, chip);
+    out(b": ");
+    say::small(STDOUT_FILENO, f.gone);
+    out(b" of its rows could go, and ");
+    say::small(STDOUT_FILENO, f.rows);
+    out(b" would do the same: fewer FILE prints them\n");
+    1
 }
 
 // The links by which some row leads to a chip without rows.

@@ -1,5 +1,5 @@
 // The tables as they are read: the rows of chip c from row 1,024 * c on, with a count for each chip. Then they are moved
-// together, and the counts become starts.
+// together, and the counts become starts. Where one chip is read alone, its rows stand from row 0 on, however many there are.
 use super::board::CHIPS;
 use super::board::CODES;
 use super::board::DEEP;
@@ -24,11 +24,35 @@ pub fn keep_row(
 ) -> bool {
     let count = word_at(counts, chip as usize);
     put_word(counts, chip as usize, wrapping_add_u32(count, 1));
+    let alone = word_at(counts, CHIPS);
+    if alone != 0 {
+        keep_alone(rows, alone, chip, count, key, mask, route);
+        return count < 1024;
+    }
     if count < 1024 {
         put_row(rows, place_of(chip, count), key, mask, route);
         return true;
     }
     false
+}
+
+// Has the rows of one chip kept alone, by the count past those of the chips, which is else 0.
+pub fn keep_chip_alone(counts: &mut [u32; STARTS], chip: u32) {
+    put_word(counts, CHIPS, wrapping_add_u32(chip, 1));
+}
+
+fn keep_alone(
+    rows: &mut [u32; ROWS],
+    alone: u32,
+    chip: u32,
+    count: u32,
+    key: u32,
+    mask: u32,
+    route: u32,
+) {
+    if wrapping_add_u32(chip, 1) == alone {
+        put_row(rows, count as usize, key, mask, route);
+    }
 }
 
 // The code of a chip for a destination, in a mesh of so many chips.
