@@ -4,6 +4,7 @@ pub mod DetouredExamples
 pub mod Determined
 pub mod FirstRow
 pub mod FixedRoute
+pub mod FloodedWay
 pub mod History
 pub mod KnownPasses
 pub mod NoStaleBlock
