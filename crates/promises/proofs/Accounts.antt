@@ -2,30 +2,24 @@
 -- is in flight.
 use mathlib.Core.Path.{_≡_, refl, sym, ap, _∙_}
 use mathlib.Core.Logic.{inr}
-use mathlib.Core.Bool.{Bool}
 use mathlib.Core.List.{List, [], _∷_, _++_, foldl}
-use Prim.Native.Nat.{ℕ, _+_, _*_, _<_}
-use native.Mathlib.Nat.{add-zero}
+use Prim.Native.Nat.{ℕ, _+_, _*_}
 use native.Mathlib.Omega.{arith}
 use lib.ListN.{length, replicate, length-append}
 use borrow.Author.Tests.{lt-ltb}
 use Rattle.kept.specs.Units.{weightIn, extra, weightSent, settled}
-use Rattle.tables.proofs.Sizes as sizes
 use Rattle.packet.specs.Bytes.{packetAt}
-use Rattle.router.proofs.Inputs as inputs
 use Rattle.kept.proofs.OnePass as pass
-use Rattle.links.specs.Line.{idle}
 use Rattle.mesh.specs.Mesh.{Chip, Mesh, fresh, opened}
-use Rattle.mesh.specs.Steps.{Tables, Arrival, Going, setOut, settingAt, outcomeAt, withChip, emptied, emptiedChip, setAside, arrivals, passAt, tablesAt}
-use Rattle.mesh.specs.Calls.{chipOf, lineOf, withUp, withLink, withEmpty}
+use Rattle.mesh.specs.Steps.{Tables, Arrival, Going, setOut, settingAt, outcomeAt, setAside, arrivals, passAt, tablesAt}
+use Rattle.mesh.specs.Calls.{chipOf}
 use Rattle.lists.specs.Lists.{total, All}
-use Rattle.mesh.specs.Weights.{onLine, onChip, onMesh}
+use Rattle.mesh.specs.Weights.{onChip, onMesh}
 use Rattle.mesh.specs.Sound.{Arrives, SoundMesh}
 use Rattle.lists.proofs.Alls.{all-replicate}
 use Rattle.mesh.proofs.SoundArrivals.{sound-arrivals}
 use Rattle.mesh.proofs.SoundSteps.{CodesFor, checked, sound-aside, sound-pass}
-use Rattle.mesh.proofs.Torus.{arrivals-weigh}
-use Rattle.lists.proofs.Totals.{total-same, total-none, total-map, total-set}
+use Rattle.lists.proofs.Totals.{total-same, total-none}
 use Rattle.promises.specs.History.{Tag, State, Event, turned, passages, emptied as read}
 use Rattle.promises.specs.Told.{sumOf}
 use Rattle.promises.specs.Demand3.{Account}
@@ -34,6 +28,7 @@ use Rattle.promises.proofs.Accepts as accepts
 use Rattle.mesh.proofs.SoundChanges.{chip-sound}
 use Rattle.promises.proofs.Histories.{Kept, always-kept}
 use Rattle.promises.proofs.Flights.{Arriving, each-any, each-arrival}
+use Rattle.promises.proofs.InFlight.{aside-weighs, arrivals-weigh-in, more-weighs, linked-weighs, emptied-weighs}
 use Rattle.promises.proofs.Weighs.{weighed, chip-weighs-sent}
 
 -- an open mesh has nothing in flight
@@ -46,34 +41,11 @@ opened-weighs w h f monitor =
 abbrev weightOf : {A : Type 0} → Arrival A → ℕ
 weightOf a = weightIn (a .flight .packet) (a .source)
 
-module _ {A : Type 0} (m : Mesh A) where
-  -- after all is set aside nothing is in flight
-  aside-weighs : onMesh weighed (setAside m) ≡ 0
-  unfolding total
-  aside-weighs =
-      total-map (onChip weighed) emptiedChip (m .chips)
-      ∙ total-none _ (λ c. total-map (onLine weighed) emptied (c .lines) ∙ total-none _ (λ l. refl) (c .lines)) (m .chips)
-
-  -- what arrives in a round weighs what was in flight
-  arrivals-weigh-in : SoundMesh m → total weightOf (arrivals m) ≡ onMesh weighed m
-  arrivals-weigh-in sound =
-      let size = sizes.size (m .width) (m .height) (sound .size) in
-      total-same weightOf (λ a. weighed (a .flight)) (Arriving (λ x. Unit {0})) (λ a h. simp (lt-ltb _ _ (h .0))) (arrivals m) (each-arrival (λ x. Unit {0}) m (each-any (λ x. Unit {0}) (λ x. tt) m))
-      ∙ arrivals-weigh weighed m (size .width-low) (size .height-low) (sound .many) (λ k h. chip-sound sound k h .six)
-
-  module _ (sound : SoundMesh m) (chip : ℕ) (there : chip < m .height * m .width) where
-    -- a chip changed
-    more-weighs : (c : Chip A) (n : ℕ) → onChip weighed c ≡ onChip weighed (chipOf m chip) + n → onMesh weighed (withChip m chip c) ≡ onMesh weighed m + n
-    more-weighs c n e = omega (arith, total-set (onChip weighed) (m .chips) chip c fresh (omega (arith, sound .many)))
-
-    linked-weighs : (link : ℕ) (up : Bool) → link < 6 → onMesh weighed (withLink m chip link up) ≡ onMesh weighed m
-    linked-weighs link up h =
-        let six = chip-sound sound chip there .six in
-        let lines = total-set (onLine weighed) (chipOf m chip .lines) link (withUp up (lineOf m chip link)) idle (omega arith) in
-        more-weighs _ 0 (omega (arith, lines)) ∙ add-zero (onMesh weighed m)
-
-    emptied-weighs : onMesh weighed (withEmpty m chip) ≡ onMesh weighed m
-    emptied-weighs = more-weighs _ 0 (sym (add-zero (onChip weighed (chipOf m chip)))) ∙ add-zero (onMesh weighed m)
+-- what arrives in a round weighs what was in flight
+units-arrive : {A : Type 0} (m : Mesh A) → SoundMesh m → total weightOf (arrivals m) ≡ onMesh weighed m
+units-arrive m sound =
+    total-same weightOf (λ a. weighed (a .flight)) (Arriving (λ x. Unit {0})) (λ a h. simp (lt-ltb _ _ (h .0))) (arrivals m) (each-arrival (λ x. Unit {0}) m (each-any (λ x. Unit {0}) (λ x. tt) m))
+    ∙ arrivals-weigh-in weighed m sound
 
 -- ---- passes
 
@@ -87,7 +59,7 @@ ends es = sumOf (λ p. settled (p .outcome) (p .arrival .source)) es
 pass-weighs : {A : Type 0} (t : Tables) (turn : A → A) (g : Going A) (a : Arrival A) → SoundMesh (g .mesh) → CodesFor t (g .mesh) → Arrives (g .mesh .height * g .mesh .width) a
     → onMesh weighed (passAt t turn g a .mesh) ≡ onMesh weighed (g .mesh) + weightSent (outcomeAt t (g .mesh) (a .chip) (a .source) (a .flight .packet))
 pass-weighs t turn g a sound codes h =
-    more-weighs (g .mesh) sound (a .chip) (h .there) _ _
+    more-weighs weighed (g .mesh) sound (a .chip) (h .there) _ _
     (chip-weighs-sent _ _ _ _ (checked t (g .mesh) a sound codes h) (h .from) (turn (a .flight .tag)) (chipOf (g .mesh) (a .chip)) (chip-sound sound (a .chip) (h .there) .six))
 
 passes-account : (t : Tables) (n : ℕ) (g : Going Tag) (later : List (Arrival Tag)) → SoundMesh (g .mesh) → CodesFor t (g .mesh) → All (Arrives (g .mesh .height * g .mesh .width)) later
@@ -137,12 +109,12 @@ account-kept =
             extras-append (s .events) (passages t (s .rounds) g (arrivals (s .mesh))),
             ends-append (s .events) (passages t (s .rounds) g (arrivals (s .mesh))),
             passes-account t (s .rounds) g (arrivals (s .mesh)) (sound-aside sound) codes (sound-arrivals sound),
-            aside-weighs (s .mesh),
-            arrivals-weigh-in (s .mesh) sound,
+            aside-weighs weighed (s .mesh),
+            units-arrive (s .mesh) sound,
           );
-      links = λ f s chip link up sound there six closes. closes ∙ ap (λ (n : ℕ). ends (s .events) + n) (sym (linked-weighs (s .mesh) sound chip there link up six));
+      links = λ f s chip link up sound there six closes. closes ∙ ap (λ (n : ℕ). ends (s .events) + n) (sym (linked-weighs weighed (s .mesh) sound chip there link up six));
       reads = λ f s chip sound there closes.
-          omega (arith, closes, extras-append (s .events) (read chip ∷ []), ends-append (s .events) (read chip ∷ []), emptied-weighs (s .mesh) sound chip there);
+          omega (arith, closes, extras-append (s .events) (read chip ∷ []), ends-append (s .events) (read chip ∷ []), emptied-weighs weighed (s .mesh) sound chip there);
     }
 
 pub account : Account

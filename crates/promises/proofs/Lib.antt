@@ -16,8 +16,10 @@ pub mod FixedRoutes
 pub mod Flights
 pub mod Forgets
 pub mod Histories
+pub mod InFlight
 pub mod Lefts
 pub mod MiddleChips
+pub mod OppositeLinks
 pub mod Owned
 pub mod Plains
 pub mod Records

@@ -1,19 +1,17 @@
 -- What a pass sends weighs, on the links where it lands, what the pass's own account says: a link marked 01 two, any other packet one.
-use mathlib.Core.Path.{_≡_, refl, sym, ap, _∙_, subst}
+use mathlib.Core.Path.{_≡_, refl, ap, _∙_}
 use mathlib.Core.Bool.{Bool, true, false, cond, _&&_, and-false}
-use mathlib.Core.List.{List}
 use Prim.Native.Nat.{ℕ, _+_, _<_}
 use native.Mathlib.Omega.{arith}
 use lib.Count.{ones, onesIn}
 use lib.Dec.{eqb}
-use lib.ListN.{length, getD}
+use lib.ListN.{length}
 use borrow.Author.Tests.{eqb-true}
 use Rattle.packet.specs.declared.Packet.{Packet}
 use Rattle.packet.specs.Control.{markOf}
 use Rattle.packet.specs.Types.{isMarked}
 use Rattle.packet.proofs.Types.{same-marked}
 use Rattle.packet.proofs.Small.{every, at}
-use Rattle.steps.specs.declared.Outcome.{Outcome}
 use Rattle.steps.specs.declared.Setting.{Setting}
 use Rattle.steps.specs.Links.{has}
 use Rattle.steps.specs.Deciding.{outcomeOf, markOn, packetOn, legPacket, Source, Checked}
@@ -22,43 +20,17 @@ use Rattle.kept.specs.Units.{weight, overLinks, weightSent}
 use Rattle.steps.proofs.Bounds.{outcome-sets}
 use Rattle.steps.proofs.SentPackets.{sent-marked, sent-plain, sent-leg, no-detour}
 use Rattle.steps.proofs.Sets.{has-none}
-use Rattle.lists.proofs.Six.{six}
-use Rattle.links.specs.Line.{Flight, Line, idle, sent, lineAfter}
+use Rattle.links.specs.Line.{Flight, sent}
 use Rattle.mesh.specs.Mesh.{Chip}
-use Rattle.mesh.specs.Steps.{linesAfter, chipAfter}
-use Rattle.lists.specs.Lists.{total}
-use Rattle.mesh.specs.Weights.{onLine, onChip}
-use Rattle.lists.proofs.Totals.{total-append}
+use Rattle.mesh.specs.Steps.{chipAfter}
+use Rattle.mesh.specs.Weights.{onChip}
 use Rattle.tables.specs.Tables.{ChipTables}
+use Rattle.promises.proofs.InFlight.{gained, chip-gains}
 
 -- ---- a chip after a pass
 
 abbrev pub weighed : {A : Type 0} → Flight A → ℕ
 weighed x = weight (x .packet)
-
--- by any measure of the packets in flight
-module _ {A : Type 0} (w : Flight A → ℕ) where
-  -- what link i gets
-  abbrev gained : Outcome → A → ℕ → ℕ
-  gained o tag i = cond (has (o .sent) i) (w (record { packet = packetOn o i; tag = tag })) 0 + cond (has (o .«leg_sent») i) (w (record { packet = legPacket o; tag = tag })) 0
-
-  total-sent : (b : Bool) (p : Packet) (tag : A) → total w (sent b p tag) ≡ cond b (w (record { packet = p; tag = tag })) 0
-  unfolding total
-  total-sent true p tag = omega arith
-  total-sent false p tag = refl
-
-  line-gains : (o : Outcome) (tag : A) (i : ℕ) (l : Line A) → onLine w (lineAfter o tag i l) ≡ onLine w l + gained o tag i
-  line-gains o tag i l =
-      simp total-append (omega (arith, total-sent (has (o .sent) i) (packetOn o i) tag, total-sent (has (o .«leg_sent») i) (legPacket o) tag))
-
-  chip-gains : (o : Outcome) (tag : A) (c : Chip A) → length (c .lines) ≡ 6 → onChip w (chipAfter o tag c) ≡ onChip w c + overLinks (gained o tag)
-  unfolding total linesAfter
-  chip-gains o tag c h =
-      subst (λ (ls : List (Line A)). total (onLine w) (linesAfter o tag 0 ls) ≡ total (onLine w) ls + overLinks (gained o tag)) (sym (six idle (c .lines) h))
-      (omega (arith, gains 0, gains 1, gains 2, gains 3, gains 4, gains 5))
-    where
-      gains : (i : ℕ) → onLine w (lineAfter o tag i (getD (c .lines) i idle)) ≡ onLine w (getD (c .lines) i idle) + gained o tag i
-      gains i = line-gains o tag i (getD (c .lines) i idle)
 
 -- ---- what is sent
 
