@@ -42,7 +42,7 @@ line-from o tag i n [] h = absurd (omega arith)
 line-from o tag i zero (l ∷ ls) h = ap (λ (k : ℕ). lineAfter o tag k l) (sym (zero-add i))
 line-from o tag i (suc n) (l ∷ ls) h = line-from o tag (suc i) n ls (omega arith) ∙ ap (λ (k : ℕ). lineAfter o tag k (getD ls n idle)) (omega arith)
 
-line-at : {A : Type 0} (o : Outcome) (tag : A) (n : ℕ) (ls : List (Line A)) → n < length ls → getD (linesAfter o tag 0 ls) n idle ≡ lineAfter o tag n (getD ls n idle)
+pub line-at : {A : Type 0} (o : Outcome) (tag : A) (n : ℕ) (ls : List (Line A)) → n < length ls → getD (linesAfter o tag 0 ls) n idle ≡ lineAfter o tag n (getD ls n idle)
 line-at o tag n ls h = line-from o tag 0 n ls h ∙ ap (λ (k : ℕ). lineAfter o tag k (getD ls n idle)) (add-zero n)
 
 abbrev Aparts : Passage → Type 0

@@ -24,6 +24,23 @@ use Rattle.promises.specs.History.{Tag, Passage, turned, passages}
 use Rattle.promises.specs.Told.{EachFlight, EachPass}
 use Rattle.promises.proofs.Runs.{passage}
 
+-- what holds of all that arrives at each chip by each link holds of all arrivals of a round
+module _ {A : Type 0} (P : Arrival A → Type 0) (m : Mesh A) (by : (chip source : ℕ) → chip < m .height * m .width → source < 6 → All P (arrivingBy m chip source)) where
+  at-chip : (chip : ℕ) → chip < m .height * m .width → All P (arrivingAt m chip)
+  at-chip chip h =
+      join _ _ (join _ _ (join _ _ (join _ _ (join _ _ (by chip 0 h (lit< tt)) (by chip 1 h (lit< tt))) (by chip 2 h (lit< tt))) (by chip 3 h (lit< tt))) (by chip 4 h (lit< tt))) (by chip 5 h (lit< tt))
+    where
+      join : (xs ys : List (Arrival A)) → All P xs → All P ys → All P (xs ++ ys)
+      join = all-append P
+
+  from-chip : (n chip : ℕ) → chip + n ≤ m .height * m .width → All P (arrivingFrom m chip n)
+  unfolding arrivingFrom
+  from-chip zero chip h = all-nil P
+  from-chip (suc n) chip h = all-append P _ _ (at-chip chip (omega arith)) (from-chip n (suc chip) (omega arith))
+
+  pub all-arrivals : All P (arrivals m)
+  all-arrivals = from-chip (m .height * m .width) 0 (omega arith)
+
 module _ {A : Type 0} (Q : Flight A → Type 0) where
   abbrev EachHeld : Line A → Type 0
   EachHeld l = All Q (l .held)
@@ -43,14 +60,18 @@ module _ {A : Type 0} (Q : Flight A → Type 0) where
   each-sent true p tag h = (h refl, tt)
   each-sent false p tag h = tt
 
-  each-line-after : (o : Outcome) (tag : A) (i : ℕ) (l : Line A) → i < 6 → Sends o tag → EachHeld l → EachHeld (lineAfter o tag i l)
-  each-line-after o tag i l hi h a =
-      all-append Q _ _ (all-append Q _ _ a (each-sent (has (o .sent) i) (packetOn o i) tag (h .links i hi))) (each-sent (has (o .«leg_sent») i) (legPacket o) tag (h .leg i hi))
+  -- a link with what it gets
+  pub each-line-gets : (o : Outcome) (tag : A) (i : ℕ) (l : Line A) → (has (o .sent) i ≡ true → Q (record { packet = packetOn o i; tag = tag }))
+      → (has (o .«leg_sent») i ≡ true → Q (record { packet = legPacket o; tag = tag }))
+      → EachHeld l
+      → EachHeld (lineAfter o tag i l)
+  each-line-gets o tag i l packet leg a =
+      all-append Q _ _ (all-append Q _ _ a (each-sent (has (o .sent) i) (packetOn o i) tag packet)) (each-sent (has (o .«leg_sent») i) (legPacket o) tag leg)
 
   each-lines-after : (o : Outcome) (tag : A) (i : ℕ) (ls : List (Line A)) → i + length ls ≤ 6 → Sends o tag → All EachHeld ls → All EachHeld (linesAfter o tag i ls)
   unfolding All linesAfter
   each-lines-after o tag i [] few h a = tt
-  each-lines-after o tag i (l ∷ ls) few h a = (each-line-after o tag i l (omega arith) h (a .0), each-lines-after o tag (suc i) ls (omega arith) h (a .1))
+  each-lines-after o tag i (l ∷ ls) few h a = (each-line-gets o tag i l (h .links i (omega arith)) (h .leg i (omega arith)) (a .0), each-lines-after o tag (suc i) ls (omega arith) h (a .1))
 
   fresh-each : EachOn fresh
   fresh-each = all-replicate EachHeld 6 idle (all-nil Q)
@@ -83,28 +104,13 @@ module _ {A : Type 0} (Q : Flight A → Type 0) where
       line : EachHeld (getD (getD (m .chips) (across (m .width) (m .height) chip source) fresh .lines) (opposite source) idle)
       line = all-or EachHeld _ (opposite source) idle sender (all-nil Q)
 
-  each-at : (m : Mesh A) → EachFlight Q m → (chip : ℕ) → All Arriving (arrivingAt m chip)
-  each-at m each chip =
-      join _ _ (join _ _ (join _ _ (join _ _ (join _ _ (by 0 (lit< tt)) (by 1 (lit< tt))) (by 2 (lit< tt))) (by 3 (lit< tt))) (by 4 (lit< tt))) (by 5 (lit< tt))
-    where
-      join : (xs ys : List (Arrival A)) → All Arriving xs → All Arriving ys → All Arriving (xs ++ ys)
-      join = all-append Arriving
-
-      by : (source : ℕ) → source < 6 → All Arriving (arrivingBy m chip source)
-      by = each-by m each chip
-
-  each-from : (m : Mesh A) → EachFlight Q m → (n chip : ℕ) → All Arriving (arrivingFrom m chip n)
-  unfolding arrivingFrom
-  each-from m each zero chip = all-nil Arriving
-  each-from m each (suc n) chip = all-append Arriving _ _ (each-at m each chip) (each-from m each n (suc chip))
-
   -- what is in flight arrives in the next round
   pub each-arrival : (m : Mesh A) → EachFlight Q m → All Arriving (arrivals m)
-  each-arrival m each = each-from m each (m .height * m .width) 0
+  each-arrival m each = all-arrivals Arriving m (λ chip source there near. each-by m each chip source near)
 
   -- ---- the calls that pass nothing
 
-  each-here : (m : Mesh A) (chip : ℕ) → EachFlight Q m → EachOn (chipOf m chip)
+  pub each-here : (m : Mesh A) (chip : ℕ) → EachFlight Q m → EachOn (chipOf m chip)
   each-here m chip each = all-or EachOn (m .chips) chip fresh each fresh-each
 
   pub each-linked : (m : Mesh A) (chip link : ℕ) (up : Bool) → EachFlight Q m → EachFlight Q (withLink m chip link up)

@@ -18,6 +18,7 @@ pub mod Forgets
 pub mod Histories
 pub mod InFlight
 pub mod Lefts
+pub mod LinkStates
 pub mod MiddleChips
 pub mod OppositeLinks
 pub mod Owned
@@ -27,6 +28,7 @@ pub mod Registered
 pub mod Runs
 pub mod Sequences
 pub mod Told
+pub mod Towards
 pub mod Twins
 pub mod Weighs
 pub mod WholeRuns
