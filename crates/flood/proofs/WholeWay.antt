@@ -33,10 +33,10 @@ use Rattle.flood.proofs.PhasesPassed.{still-young}
 
 -- ---- a P2P packet without error, after stamping and at its next pass
 
-record Sent (q : Packet) (phase : ℕ) : Type 0 where
-  odd : isOdd q ≡ true
-  long : wrongLength q ≡ false
-  stamp : stampOf (q .control) ≡ phase
+pub record Sent (q : Packet) (phase : ℕ) : Type 0 where
+  pub odd : isOdd q ≡ true
+  pub long : wrongLength q ≡ false
+  pub stamp : stampOf (q .control) ≡ phase
 
 module _ (p : Packet) (source phase : ℕ) (byte : p .control < 256) (kind : kindOf (p .control) ≡ 1) (small : phase ≤ 3) (none : errorsOf p source phase ≡ 0) where
   sent-local : source ≡ 7 → Sent (stampedOf p source (errorsOf p source phase) phase) phase
@@ -58,7 +58,7 @@ module _ (p : Packet) (source phase : ℕ) (byte : p .control < 256) (kind : kin
       sym (ap (λ (b : Bool). cond (eqb (errorsOf p source phase) 0 && b && isStamped (p .control)) (withStamp p phase) p) other ∙ ap (λ (b : Bool). cond (b && isStamped (p .control)) (withStamp p phase) p) (and-false (eqb (errorsOf p source phase) 0))) in
       subst (λ (q : Packet). Sent q before) same (record { odd = without-error p source phase none .odd; long = without-error p source phase none .long; stamp = stamp })
 
-no-error : (q : Packet) (source before phase : ℕ) → source < 6 → Sent q before → (before ≡ 3 - phase → ⊥) → errorsOf q source phase ≡ 0
+pub no-error : (q : Packet) (source before phase : ℕ) → source < 6 → Sent q before → (before ≡ 3 - phase → ⊥) → errorsOf q source phase ≡ 0
 no-error q source before phase near s young =
     let old : eqb (stampOf (q .control)) (3 - phase) ≡ false = ne-eqb _ _ (λ e. young (sym (s .stamp) ∙ e)) in
     let local : eqb source 7 ≡ false = ne-eqb source 7 (λ e. omega arith) in
@@ -67,7 +67,7 @@ no-error q source before phase near s young =
 -- ---- one pass after the other
 
 module _ {A : Type 0} (m : Mesh A) (to : ℕ) where
-  fewest-oneself : to < many m → fewest m to to ≡ 0
+  pub fewest-oneself : to < many m → fewest m to to ≡ 0
   unfolding within
   fewest-oneself h = first-is (λ k. within m to k to) (many m) 0 (omega arith) (eq-eqb to to refl) (λ j l. absurd (omega arith))
 

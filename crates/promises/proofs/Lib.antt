@@ -5,6 +5,7 @@ pub mod Ages
 pub mod Apart
 pub mod Belongs
 pub mod Clock
+pub mod Copies
 pub mod Counted
 pub mod Demand3
 pub mod DetourLinks
@@ -14,6 +15,8 @@ pub mod FarEnds
 pub mod Few
 pub mod FixedRoutes
 pub mod Flights
+pub mod FloodedPass
+pub mod FloodedStage
 pub mod Forgets
 pub mod Histories
 pub mod InFlight

@@ -19,6 +19,12 @@ each-append P [] later a b = b
 each-append P (passed p ∷ es) later a b = (a .0, each-append P es later (a .1) b)
 each-append P (emptied c ∷ es) later a b = each-append P es later a b
 
+pub each-parts : (P : Passage → Type 0) (es later : List Event) → EachPass P (es ++ later) → EachPass P es × EachPass P later
+unfolding EachPass
+each-parts P [] later h = (tt, h)
+each-parts P (passed p ∷ es) later h = let parts = each-parts P es later (h .1) in ((h .0, parts .0), parts .1)
+each-parts P (emptied c ∷ es) later h = each-parts P es later h
+
 pub each-pass-weaken : (P Q : Passage → Type 0) → ((p : Passage) → P p → Q p) → (es : List Event) → EachPass P es → EachPass Q es
 unfolding EachPass
 each-pass-weaken P Q f [] h = tt
