@@ -45,10 +45,10 @@ module _ (n : ℕ) where
   abbrev pub OfOthers : Flight Tag → Type 0
   OfOthers x = x .tag .injection ≡ n → ⊥
 
-  of-others : (x : Flight Tag) → copyOf x ≡ 0 → OfOthers x
+  pub of-others : (x : Flight Tag) → copyOf x ≡ 0 → OfOthers x
   of-others x e own = let one : copyOf x ≡ 1 = ap (λ (b : Bool). cond b 1 0) (eq-eqb _ _ own) in omega arith
 
-  no-copy : (x : Flight Tag) → OfOthers x → copyOf x ≡ 0
+  pub no-copy : (x : Flight Tag) → OfOthers x → copyOf x ≡ 0
   no-copy x other = ap (λ (b : Bool). cond b 1 0) (ne-eqb _ _ other)
 
   pub none-in-flight : (m : Mesh Tag) → copies m ≡ 0 → EachFlight OfOthers m

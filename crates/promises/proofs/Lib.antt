@@ -16,6 +16,7 @@ pub mod Few
 pub mod FixedRoutes
 pub mod Flights
 pub mod FloodedPass
+pub mod FloodedRound
 pub mod FloodedStage
 pub mod Forgets
 pub mod Histories
