@@ -32,14 +32,14 @@ Crossing f p = Stamped (p .arrival .flight .tag .packet) → p .arrival .flight 
 abbrev Timely : ℕ → Passage → Type 0
 Timely f p = p .outcome .errors / 2 % 2 ≡ 1 → p .arrival .flight .tag .before + span f (p .arrival .flight .tag .before) ≤ p .rounds
 
-record Ageing (f : ℕ) (s : State) : Type 0 where
+pub record Ageing (f : ℕ) (s : State) : Type 0 where
   pub clock : Clock f (s .rounds) (s .mesh)
   pub flights : EachFlight (Ages f (s .rounds)) (s .mesh)
   pub crossings : EachPass (Crossing f) (s .events)
   pub times : EachPass (Timely f) (s .events)
 
 -- F is at least 1
-clock-some : {A : Type 0} {f n : ℕ} {m : Mesh A} → SoundMesh m → Clock f n m → 0 < f
+pub clock-some : {A : Type 0} {f n : ℕ} {m : Mesh A} → SoundMesh m → Clock f n m → 0 < f
 clock-some {m = m} sound c = omega (arith, rounds-some (m .rounds) (sound .rounds), c .rounds)
 
 module _ (f : ℕ) (s : State) (t : Tables) (sound : SoundMesh (s .mesh)) (codes : CodesFor t (s .mesh)) (ageing : Ageing f s) where
@@ -99,7 +99,7 @@ module _ (f : ℕ) (s : State) (t : Tables) (sound : SoundMesh (s .mesh)) (codes
       stops m now sound′ codes′ a arrives come =
           old-late f (s .rounds) some _ _ _ _ (checked t m a sound′ codes′ arrives) (arrives .from) (now ∙ ageing .clock .phase) (a .flight .tag) (λ near. come .1)
 
-ageing-kept : Kept Ageing
+pub ageing-kept : Kept Ageing
 unfolding EachPass
 ageing-kept =
     record {
@@ -122,7 +122,7 @@ ageing-kept =
           };
     }
 
-ages-always : Always Ageing
+pub ages-always : Always Ageing
 ages-always = always-kept Ageing ageing-kept
 
 pub links-crossed : LinksCrossed

@@ -8,6 +8,7 @@ use lib.Dec.{eqb}
 use borrow.Author.Tests.{eqb-true}
 use Rattle.packet.specs.Bytes.{packetAt}
 use Rattle.packet.specs.Refusal.{firstOf}
+use Rattle.lists.specs.Lists.{All}
 use Rattle.links.specs.Line.{Flight}
 use Rattle.mesh.specs.Mesh.{Mesh}
 use Rattle.mesh.specs.Steps.{Tables, Going, setOut, injected, rounded}
@@ -93,7 +94,46 @@ module _ (P : ℕ → State → Type 0) where
 
 -- ---- by the kind of the call
 
--- What is to be shown of each kind of call that changes something; each is accepted.
+-- What is to be shown of each kind of call that changes something, of the calls that C allows; each is accepted.
+pub record Steps (C : Call → Type 0) (P : ℕ → State → Type 0) : Type 0 where
+  pub injects : (f : ℕ) (s : State) (chip : ℕ) (bytes : List ℕ) (t : Tables) (room : ℕ) → C (change (inject chip bytes t room)) → SoundMesh (s .mesh) → accepts.Injects (s .mesh) chip bytes t → P f s
+      → P f (accepts.afterInjection s chip bytes t)
+  pub rounds : (f : ℕ) (s : State) (t : Tables) (room : ℕ) → C (change (round t room)) → SoundMesh (s .mesh) → CodesFor t (s .mesh) → P f s → P f (accepts.afterRound s t)
+  pub links : (f : ℕ) (s : State) (chip link : ℕ) (up : Bool) → C (change (setLink chip link up)) → SoundMesh (s .mesh) → chip < s .mesh .height * s .mesh .width → link < 6 → P f s
+      → P f (accepts.afterLink s chip link up)
+  pub reads : (f : ℕ) (s : State) (chip : ℕ) → C (change (readRegisters chip)) → SoundMesh (s .mesh) → chip < s .mesh .height * s .mesh .width → P f s → P f (accepts.afterRead s chip)
+
+module _ (C : Call → Type 0) (P : ℕ → State → Type 0) (steps : Steps C P) where
+  step-kept : (f : ℕ) (s : State) (c : Call) → C c → SoundMesh (s .mesh) → answered s c .refusal ≡ 0 → P f s → P f (accepted s (answered s c) c)
+  step-kept f s (change (inject chip bytes t room)) allowed sound e p =
+      let n = firstOf (injectRefusals true (many (s .mesh)) chip t room bytes) in
+      let z : n ≡ 0 = accepts.unless-accepts n (s .mesh) (injected t turned (s .mesh) chip (accepts.arrivalNow s chip bytes .flight)) e in
+      subst (P f) (sym (accepts.inject-leaves s chip bytes t room e)) (steps .injects f s chip bytes t room allowed sound (accepts.inject-accepts (s .mesh) chip bytes t room z) p)
+  step-kept f s (change (round t room)) allowed sound e p =
+      let n = firstOf (roundRefusals true (many (s .mesh)) (inFlight (s .mesh)) t room) in
+      let z : n ≡ 0 = accepts.unless-accepts n (s .mesh) (rounded t turned (s .mesh)) e in
+      subst (P f) (sym (accepts.round-leaves s t room e)) (steps .rounds f s t room allowed sound (accepts.round-accepts (s .mesh) (inFlight (s .mesh)) t room z) p)
+  step-kept f s (change (setLink chip link up)) allowed sound e p =
+      let n = firstOf (linkRefusals true (many (s .mesh)) chip link) in
+      let z : n ≡ 0 = accepts.unless-accepts n (s .mesh) (setOut (withLink (s .mesh) chip link up)) e in
+      let h = accepts.link-accepts (s .mesh) chip link z in
+      subst (P f) (sym (accepts.link-leaves s chip link up e)) (steps .links f s chip link up allowed sound (h .0) (h .1) p)
+  step-kept f s (change (readRegisters chip)) allowed sound e p =
+      let n = firstOf (chipRefusals true (many (s .mesh)) chip) in
+      let z : n ≡ 0 = accepts.unless-accepts n (s .mesh) (setOut (withEmpty (s .mesh) chip)) e in
+      subst (P f) (sym (accepts.read-leaves s chip e)) (steps .reads f s chip allowed sound (accepts.chip-accepts (s .mesh) chip z) p)
+  step-kept f s (look l) allowed sound e p = subst (P f) (sym (accepts.look-leaves s l)) p
+
+  -- over calls that C allows, from any state with a sound mesh
+  pub calls-keep : (f : ℕ) (cs : List Call) (s : State) → All C cs → SoundMesh (s .mesh) → P f s → P f (foldl after s cs)
+  unfolding All
+  calls-keep f [] s allowed sound p = p
+  calls-keep f (c ∷ cs) s allowed sound p =
+      let next =
+      after-keeps (λ f s. SoundMesh (s .mesh) × P f s) f s c (sound, p) (λ e. (sound-left sound turned (tagNow s c) c e, step-kept f s c (allowed .0) sound e p)) in
+      calls-keep f cs (after s c) (allowed .1) (next .0) (next .1)
+
+-- The same of every call, and of a mesh just opened.
 pub record Kept (P : ℕ → State → Type 0) : Type 0 where
   pub opens : (w h f monitor : ℕ) → Opens w h f monitor → P f (begun w h f monitor)
   pub injects : (f : ℕ) (s : State) (chip : ℕ) (bytes : List ℕ) (t : Tables) → SoundMesh (s .mesh) → accepts.Injects (s .mesh) chip bytes t → P f s
@@ -103,26 +143,14 @@ pub record Kept (P : ℕ → State → Type 0) : Type 0 where
       → P f (accepts.afterLink s chip link up)
   pub reads : (f : ℕ) (s : State) (chip : ℕ) → SoundMesh (s .mesh) → chip < s .mesh .height * s .mesh .width → P f s → P f (accepts.afterRead s chip)
 
-module _ (P : ℕ → State → Type 0) (kept : Kept P) where
-  kept-step : (f : ℕ) (s : State) (c : Call) → SoundMesh (s .mesh) → answered s c .refusal ≡ 0 → P f s → P f (accepted s (answered s c) c)
-  kept-step f s (change (inject chip bytes t room)) sound e p =
-      let n = firstOf (injectRefusals true (many (s .mesh)) chip t room bytes) in
-      let z : n ≡ 0 = accepts.unless-accepts n (s .mesh) (injected t turned (s .mesh) chip (accepts.arrivalNow s chip bytes .flight)) e in
-      subst (P f) (sym (accepts.inject-leaves s chip bytes t room e)) (kept .injects f s chip bytes t sound (accepts.inject-accepts (s .mesh) chip bytes t room z) p)
-  kept-step f s (change (round t room)) sound e p =
-      let n = firstOf (roundRefusals true (many (s .mesh)) (inFlight (s .mesh)) t room) in
-      let z : n ≡ 0 = accepts.unless-accepts n (s .mesh) (rounded t turned (s .mesh)) e in
-      subst (P f) (sym (accepts.round-leaves s t room e)) (kept .rounds f s t sound (accepts.round-accepts (s .mesh) (inFlight (s .mesh)) t room z) p)
-  kept-step f s (change (setLink chip link up)) sound e p =
-      let n = firstOf (linkRefusals true (many (s .mesh)) chip link) in
-      let z : n ≡ 0 = accepts.unless-accepts n (s .mesh) (setOut (withLink (s .mesh) chip link up)) e in
-      let h = accepts.link-accepts (s .mesh) chip link z in
-      subst (P f) (sym (accepts.link-leaves s chip link up e)) (kept .links f s chip link up sound (h .0) (h .1) p)
-  kept-step f s (change (readRegisters chip)) sound e p =
-      let n = firstOf (chipRefusals true (many (s .mesh)) chip) in
-      let z : n ≡ 0 = accepts.unless-accepts n (s .mesh) (setOut (withEmpty (s .mesh) chip)) e in
-      subst (P f) (sym (accepts.read-leaves s chip e)) (kept .reads f s chip sound (accepts.chip-accepts (s .mesh) chip z) p)
-  kept-step f s (look l) sound e p = subst (P f) (sym (accepts.look-leaves s l)) p
-
-  pub always-kept : Always P
-  always-kept = always-sound P (kept .opens) kept-step
+pub always-kept : (P : ℕ → State → Type 0) → Kept P → Always P
+always-kept P kept = always-sound P (kept .opens) (λ f s c. step-kept (λ c. Unit {0}) P steps f s c tt)
+  where
+    steps : Steps (λ c. Unit {0}) P
+    steps =
+        record {
+          injects = λ f s chip bytes t room allowed. kept .injects f s chip bytes t;
+          rounds = λ f s t room allowed. kept .rounds f s t;
+          links = λ f s chip link up allowed. kept .links f s chip link up;
+          reads = λ f s chip allowed. kept .reads f s chip;
+        }

@@ -1,7 +1,7 @@
 -- A mesh whose links are up as another's, of the same size and monitor, stays so: over a pass, a round's beginning and end, a link change that changes no state, a reading of registers.
 use mathlib.Core.Path.{_≡_, refl, ap, _∙_, sym}
 use mathlib.Core.Bool.{Bool}
-use mathlib.Core.List.{List, [], _∷_}
+use mathlib.Core.List.{List, [], _∷_, foldl}
 use Prim.Native.Nat.{ℕ, zero, suc, _<_}
 use lib.ListN.{getD, set, List·getD-map}
 use Rattle.steps.specs.declared.Outcome.{Outcome}
@@ -70,3 +70,7 @@ module _ {A : Type 0} {m k : Mesh A} (alike : Alike m k) where
 pub alike-pass : {A : Type 0} {m : Mesh A} (t : Tables) (turn : A → A) (g : Going A) (a : Arrival A) → Alike m (g .mesh) → Alike m (passAt t turn g a .mesh)
 alike-pass t turn g a alike =
     still alike (passAt t turn g a .mesh) refl refl refl (λ c i. chip-up (g .mesh) (a .chip) c i _ (lines-up _ _ 0 i (chipOf (g .mesh) (a .chip) .lines)))
+
+pub alike-passes : {A : Type 0} {m : Mesh A} (t : Tables) (turn : A → A) (g : Going A) (later : List (Arrival A)) → Alike m (g .mesh) → Alike m (foldl (passAt t turn) g later .mesh)
+alike-passes t turn g [] alike = alike
+alike-passes t turn g (a ∷ later) alike = alike-passes t turn (passAt t turn g a) later (alike-pass t turn g a alike)

@@ -40,7 +40,7 @@ module _ (s : State) (q : Call) where
   abbrev given : Left Tag
   given = leftBy turned (tagNow s q) (s .mesh) q
 
-  after-accepted : eqb (given .refusal) 0 ≡ true → after s q ≡ accepted s (leftBy turned (tagNow s q) (s .mesh) q) q
+  pub after-accepted : eqb (given .refusal) 0 ≡ true → after s q ≡ accepted s (leftBy turned (tagNow s q) (s .mesh) q) q
   unfolding after
   after-accepted e = ap (λ (b : Bool). cond b (accepted s given q) s) e
 
