@@ -15,9 +15,11 @@ pub mod FarEnds
 pub mod Few
 pub mod FixedRoutes
 pub mod Flights
+pub mod FloodedDue
 pub mod FloodedPass
 pub mod FloodedRound
 pub mod FloodedStage
+pub mod FloodedWay
 pub mod Forgets
 pub mod Histories
 pub mod InFlight
