@@ -13,15 +13,15 @@ use Rattle.kept.specs.Units.{overLinks}
 use Rattle.lists.specs.Lists.{All, total}
 use Rattle.lists.proofs.Alls.{all-weaken}
 use Rattle.lists.proofs.Totals.{total-same, total-none}
-use Rattle.links.specs.Line.{Flight, Line}
-use Rattle.mesh.specs.Mesh.{Chip, Mesh}
+use Rattle.links.specs.Line.{Flight}
+use Rattle.mesh.specs.Mesh.{Mesh}
 use Rattle.mesh.specs.Steps.{Tables, Arrival, Going, outcomeAt, passAt}
 use Rattle.mesh.specs.Weights.{onLine, onChip, onMesh}
 use Rattle.mesh.specs.Sound.{Arrives, SoundMesh}
 use Rattle.promises.specs.History.{Tag, Passage, Event, passed, emptied, turned}
 use Rattle.promises.specs.Told.{EachFlight, EachPass}
 use Rattle.promises.specs.FloodedWay.{passesOf}
-use Rattle.promises.proofs.InFlight.{gained, pass-gains}
+use Rattle.promises.proofs.InFlight.{pass-gains}
 
 -- ---- sums that are 0
 

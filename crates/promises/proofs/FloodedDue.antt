@@ -1,15 +1,13 @@
 -- A P2P packet on its way by flooded codes arrives without error while it has crossed at most F links: it is sound in flight, and its stamp is not too old.
 use mathlib.Core.Path.{_≡_, sym, ap, _∙_}
-use mathlib.Core.Bool.{Bool, true, not, and-eq-true-iff}
+use mathlib.Core.Bool.{not, and-eq-true-iff}
 use mathlib.Core.List.{List, [], _∷_}
-use Prim.Native.Nat.{ℕ, _+_, _-_, _/_, _%_, _≤_, _<_}
+use Prim.Native.Nat.{ℕ, _-_, _/_, _≤_, _<_}
 use native.Mathlib.Nat.{mod-lt}
 use native.Mathlib.Omega.{arith}
 use lib.Dec.{eqb}
 use borrow.Author.Tests.{eq-eqb}
 use Rattle.packet.specs.Types.{isStamped}
-use Rattle.packet.specs.Control.{stampOf}
-use Rattle.steps.specs.Errors.{errorsOf}
 use Rattle.lists.specs.Lists.{All}
 use Rattle.lists.proofs.Alls.{all-weaken}
 use Rattle.mesh.specs.Mesh.{Mesh}
@@ -18,7 +16,6 @@ use Rattle.mesh.specs.Sound.{SoundPacket, SoundLine, SoundChip, SoundMesh}
 use Rattle.flood.proofs.WholeWay.{no-error}
 use Rattle.promises.specs.History.{Tag}
 use Rattle.promises.specs.Told.{Stamped, EachFlight}
-use Rattle.promises.specs.Demand3.{span}
 use Rattle.promises.proofs.Flights.{Arriving, each-arrival}
 use Rattle.promises.proofs.Clock.{Clock, code, young-before}
 use Rattle.promises.proofs.Aged.{Aged, Ages}

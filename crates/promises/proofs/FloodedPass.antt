@@ -1,22 +1,20 @@
 -- One pass of a P2P packet by flooded codes, in a mesh that has no other copy of it: it is sent on, one link nearer, or handed to the monitor.
 use mathlib.Core.Path.{_≡_, refl, sym, ap, _∙_, subst}
-use mathlib.Core.Bool.{Bool, true, false}
+use mathlib.Core.Bool.{true}
 use mathlib.Core.List.{List, [], _∷_, _++_}
-use mathlib.Core.Logic.{_⊎_, inl, inr}
-use Prim.Native.Nat.{ℕ, zero, suc, _+_, _*_, _/_, _%_, _^_, _≤_, _<_}
+use mathlib.Core.Logic.{inl, inr}
+use Prim.Native.Nat.{ℕ, zero, suc, _+_, _*_, _/_, _%_, _^_, _<_}
 use native.Mathlib.Decide.{ℕ-discrete}
 use native.Mathlib.Omega.{arith}
 use lib.Dec.{eqb}
 use lib.ListN.{length, length-append}
 use borrow.Author.Tests.{eqb-true}
-use Rattle.steps.specs.declared.Outcome.{Outcome}
 use Rattle.steps.specs.Links.{has, setOf}
 use Rattle.steps.specs.Deciding.{packetOn, decided, outcomeOf}
 use Rattle.steps.proofs.Sets.{has-none, has-set}
 use Rattle.lists.specs.Lists.{All}
 use Rattle.lists.proofs.Alls.{all-append}
 use Rattle.lists.proofs.Firsts.{first-holds}
-use Rattle.links.specs.Line.{Flight}
 use Rattle.mesh.specs.Mesh.{Mesh, readyOf}
 use Rattle.mesh.specs.Steps.{Tables, Arrival, Going, outcomeAt, passAt}
 use Rattle.mesh.specs.Calls.{many}
@@ -27,7 +25,7 @@ use Rattle.flood.specs.OnItsWay.{Follows, SentOn, Nearer, HandedOver}
 use Rattle.flood.proofs.Levels.{apart}
 use Rattle.flood.proofs.WaysWithin.{within-way}
 use Rattle.flood.proofs.OnItsWay.{one-link-nearer, handed-to-the-monitor}
-use Rattle.flood.proofs.SameLinks.{SameLinks, many-same, beyond-same, fewest-same, code-same, codes-same}
+use Rattle.flood.proofs.SameLinks.{SameLinks, many-same, fewest-same, code-same, codes-same}
 use Rattle.flood.proofs.WholeWay.{fewest-oneself}
 use Rattle.promises.specs.History.{Tag, Passage, turned}
 use Rattle.promises.proofs.Runs.{passage}

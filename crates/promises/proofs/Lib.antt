@@ -18,6 +18,7 @@ pub mod Flights
 pub mod FloodedDue
 pub mod FloodedPass
 pub mod FloodedRound
+pub mod FloodedSince
 pub mod FloodedStage
 pub mod FloodedWay
 pub mod Forgets

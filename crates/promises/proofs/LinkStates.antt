@@ -2,14 +2,14 @@
 use mathlib.Core.Path.{_≡_, refl, ap, _∙_, sym}
 use mathlib.Core.Bool.{Bool}
 use mathlib.Core.List.{List, [], _∷_, foldl}
-use Prim.Native.Nat.{ℕ, zero, suc, _<_}
+use Prim.Native.Nat.{ℕ, zero, suc}
 use lib.ListN.{getD, set, List·getD-map}
 use Rattle.steps.specs.declared.Outcome.{Outcome}
 use Rattle.lists.proofs.Changed.{set-keeps}
 use Rattle.links.specs.Line.{Line, idle}
 use Rattle.mesh.specs.Mesh.{Chip, Mesh, fresh}
 use Rattle.mesh.specs.Steps.{Tables, Arrival, Going, linesAfter, emptied, emptiedChip, setAside, roundOver, passAt}
-use Rattle.mesh.specs.Calls.{many, chipOf, lineOf, withUp, withLink, withEmpty}
+use Rattle.mesh.specs.Calls.{chipOf, lineOf, withUp, withLink, withEmpty}
 use Rattle.mesh.specs.Sound.{SoundMesh}
 use Rattle.flood.specs.Ways.{isUp}
 use Rattle.flood.proofs.SameLinks.{SameLinks}
