@@ -1,6 +1,6 @@
 -- The whole way of a P2P packet by flooded codes, over the mesh's own calls: "with the links as given and room on them, a P2P packet without error, following the codes, crosses the
 -- fewest links possible, if that number is at most F". It is said of any sequence, an accepted injection after it, and any calls after that.
-use Prim.Native.Nat.{ℕ, suc, _+_, _≤_}
+use Prim.Native.Nat.{ℕ, _+_, _≤_}
 use mathlib.Core.Path.{_≡_}
 use mathlib.Core.Bool.{true, cond}
 use mathlib.Core.List.{List, [], _∷_, _++_, foldl}
