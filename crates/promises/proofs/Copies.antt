@@ -1,7 +1,7 @@
 -- The copies of one injection: how many are in flight, which passes are theirs, and that the pass of another packet changes neither.
 use mathlib.Core.Path.{_≡_, refl, ap, _∙_}
 use mathlib.Core.Bool.{Bool, true, false, cond}
-use mathlib.Core.List.{List, [], _∷_, _++_}
+use mathlib.Core.List.{List, [], _∷_, _++_, append-nil}
 use Prim.Native.Nat.{ℕ, zero, suc, _+_, _*_, _^_, _<_}
 use native.Mathlib.Nat.{add-zero}
 use native.Mathlib.Omega.{arith}
@@ -112,7 +112,7 @@ module _ (n : ℕ) where
 
   -- ---- their passes
 
-  pub passes-append : (es later : List Event) → passesOf n (es ++ later) ≡ passesOf n es ++ passesOf n later
+  passes-append : (es later : List Event) → passesOf n (es ++ later) ≡ passesOf n es ++ passesOf n later
   unfolding passesOf
   passes-append [] later = refl
   passes-append (passed p ∷ es) later = go (eqb (p .arrival .flight .tag .injection) n) (passes-append es later)
@@ -123,16 +123,21 @@ module _ (n : ℕ) where
       go false e = e
   passes-append (emptied c ∷ es) later = passes-append es later
 
-  pub passes-own : (p : Passage) (es : List Event) → p .arrival .flight .tag .injection ≡ n → passesOf n (passed p ∷ es) ≡ p ∷ passesOf n es
+  -- with one event more
+  pub passes-own : (es : List Event) (p : Passage) → p .arrival .flight .tag .injection ≡ n → passesOf n (es ++ passed p ∷ []) ≡ passesOf n es ++ p ∷ []
   unfolding passesOf
-  passes-own p es own = ap (λ (b : Bool). cond b (p ∷ passesOf n es) (passesOf n es)) (eq-eqb _ _ own)
+  passes-own es p own = passes-append es (passed p ∷ []) ∙ ap (λ (b : Bool). passesOf n es ++ cond b (p ∷ []) []) (eq-eqb _ _ own)
 
-  pub passes-other : (p : Passage) (es : List Event) → OfOthers (p .arrival .flight) → passesOf n (passed p ∷ es) ≡ passesOf n es
+  pub passes-other : (es : List Event) (p : Passage) → OfOthers (p .arrival .flight) → passesOf n (es ++ passed p ∷ []) ≡ passesOf n es
   unfolding passesOf
-  passes-other p es other = ap (λ (b : Bool). cond b (p ∷ passesOf n es) (passesOf n es)) (ne-eqb _ _ other)
+  passes-other es p other = passes-append es (passed p ∷ []) ∙ ap (λ (b : Bool). passesOf n es ++ cond b (p ∷ []) []) (ne-eqb _ _ other) ∙ append-nil (passesOf n es)
+
+  pub passes-read : (es : List Event) (chip : ℕ) → passesOf n (es ++ emptied chip ∷ []) ≡ passesOf n es
+  unfolding passesOf
+  passes-read es chip = passes-append es (emptied chip ∷ []) ∙ append-nil (passesOf n es)
 
   pub passes-none : (es : List Event) → EachPass (λ p. OfOthers (p .arrival .flight)) es → passesOf n es ≡ []
   unfolding EachPass passesOf
   passes-none [] h = refl
-  passes-none (passed p ∷ es) h = passes-other p es (h .0) ∙ passes-none es (h .1)
+  passes-none (passed p ∷ es) h = ap (λ (b : Bool). cond b (p ∷ passesOf n es) (passesOf n es)) (ne-eqb _ _ (h .0)) ∙ passes-none es (h .1)
   passes-none (emptied c ∷ es) h = passes-none es h

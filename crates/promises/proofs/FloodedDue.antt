@@ -19,8 +19,8 @@ use Rattle.promises.specs.Told.{Stamped, EachFlight}
 use Rattle.promises.proofs.Flights.{Arriving, each-arrival}
 use Rattle.promises.proofs.Clock.{Clock, code, young-before}
 use Rattle.promises.proofs.Aged.{Aged, Ages}
-use Rattle.promises.proofs.Towards.{EachTo, to-arrival}
-use Rattle.promises.proofs.FloodedStage.{Comes, Ours, Due}
+use Rattle.promises.proofs.Towards.{EachTo, ArrivesAt, to-arrival}
+use Rattle.promises.proofs.FloodedStage.{Trip, Comes, Ours, Due}
 
 all-both : {X : Type 0} (P Q : X → Type 0) (xs : List X) → All P xs → All Q xs → All (λ x. P x × Q x) xs
 unfolding All
@@ -30,11 +30,10 @@ all-both P Q (x ∷ xs) p q = ((p .0, q .0), all-both P Q xs (p .1) (q .1))
 sound-flights : {A : Type 0} {m : Mesh A} → SoundMesh m → EachFlight (λ x. SoundPacket (x .packet)) m
 sound-flights {m = m} sound = all-weaken SoundChip _ (λ c s. all-weaken SoundLine _ (λ l k. k .fine) (c .lines) (s .lines)) (m .chips) (sound .chips)
 
-module _ (m : Mesh Tag) (n all to f r : ℕ) (some : 0 < f) (most : all ≤ f) (j : ℕ) (few : j ≤ all) where
-  due : (phase : ℕ) → phase ≡ code (r / f) → (a : Arrival Tag) → a .source < 6 → SoundPacket (a .flight .packet) → Ages f r (a .flight) → Comes m n all to j (a .chip) (a .flight) → Due m n all to j phase a
+module _ (w : Trip) (f r : ℕ) (some : 0 < f) (j : ℕ) (few : j ≤ f) where
+  due : (phase : ℕ) → phase ≡ code (r / f) → (a : Arrival Tag) → a .source < 6 → SoundPacket (a .flight .packet) → Ages f r (a .flight) → Comes w j (a .chip) (a .flight) → Due w j phase a
   unfolding isStamped
   due phase now a near sound ages comes =
-      let q = a .flight .packet in
       let b = a .flight .tag .before in
       let fine : _ = simp and-eq-true-iff at (sound .fine) in
       let stamped : Stamped (a .flight .packet) = ap (λ (k : ℕ). not (eqb k 2)) (comes .kind) in
@@ -43,16 +42,11 @@ module _ (m : Mesh Tag) (n all to f r : ℕ) (some : 0 < f) (most : all ≤ f) (
       young-before f some b r (aged .begun) (omega (arith, aged .crossed, comes .crossed, mod-lt b some)) (e ∙ ap (λ (k : ℕ). 3 - k) now) in
       record {
         comes = comes;
-        errors = no-error q (a .source) (code (b / f)) phase near (record {
-          odd = fine .0 .1;
-          long = ap not (eq-eqb _ _ (sym (sound .right)));
-          stamp = aged .stamp;
-        }) young;
+        errors = no-error (a .flight .packet) (a .source) (code (b / f)) phase near (record { odd = fine .0 .1; long = ap not (eq-eqb _ _ (sym (sound .right))); stamp = aged .stamp }) young;
       }
 
-  pub all-due : (k : Mesh Tag) → SoundMesh k → Clock f r k → EachFlight (Ages f r) k → EachTo (Ours m n all to j) k
-      → All (λ a. a .flight .tag .injection ≡ n → Due m n all to j (k .phase) a) (arrivals k)
+  pub all-due : (k : Mesh Tag) → SoundMesh k → Clock f r k → EachFlight (Ages f r) k → EachTo (Ours w j) k → All (λ a. a .flight .tag .injection ≡ w .number → Due w j (k .phase) a) (arrivals k)
   all-due k sound clock ages each =
       all-weaken _ _ (λ a h own. due (k .phase) (clock .phase) a (h .0 .0) (h .0 .1) (h .1 .0 .1) (h .1 .1 own)) (arrivals k)
-      (all-both (Arriving (λ x. SoundPacket (x .packet))) (λ a. Arriving (Ages f r) a × Ours m n all to j (a .chip) (a .flight)) (arrivals k) (each-arrival _ k (sound-flights sound))
-      (all-both (Arriving (Ages f r)) (λ a. Ours m n all to j (a .chip) (a .flight)) (arrivals k) (each-arrival (Ages f r) k ages) (to-arrival (Ours m n all to j) k sound each)))
+      (all-both _ _ (arrivals k) (each-arrival (λ x. SoundPacket (x .packet)) k (sound-flights sound))
+      (all-both (Arriving (Ages f r)) (ArrivesAt (Ours w j)) (arrivals k) (each-arrival (Ages f r) k ages) (to-arrival (Ours w j) k sound each)))

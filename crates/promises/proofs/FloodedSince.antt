@@ -1,160 +1,146 @@
 -- After the injection of a P2P packet and any calls that keep the links' states, the packet is as far by flooded codes as there were rounds: each round has one pass of it until it is there, and no
 -- other call moves it.
-use mathlib.Core.Path.{_≡_, refl, sym, _∙_, subst}
+use mathlib.Core.Path.{_≡_, refl, _∙_, subst}
 use mathlib.Core.Bool.{Bool}
-use mathlib.Core.List.{List, [], _∷_, _++_, foldl, append-nil}
+use mathlib.Core.List.{List, [], _∷_, _++_, foldl}
 use mathlib.Core.Logic.{inl, inr}
-use Prim.Native.Nat.{ℕ, suc, _+_, _*_, _≤_, _<_}
+use Prim.Native.Nat.{ℕ, suc, _+_, _-_, _*_, _≤_, _<_}
 use native.Mathlib.Omega.{arith}
 use lib.ListN.{length, length-append}
 use Rattle.lists.specs.Lists.{All, total}
-use Rattle.mesh.specs.Mesh.{Mesh}
-use Rattle.mesh.specs.Steps.{Tables, Going, setOut, setAside, arrivals, passAt}
-use Rattle.mesh.specs.Calls.{many}
+use Rattle.mesh.specs.Steps.{Tables, setOut, setAside, arrivals, passAt}
 use Rattle.mesh.specs.Asked.{Call}
 use Rattle.mesh.specs.Sound.{SoundMesh}
 use Rattle.mesh.proofs.SoundArrivals.{sound-arrivals}
 use Rattle.mesh.proofs.SoundSteps.{CodesFor, sound-aside}
-use Rattle.flood.specs.Ways.{isUp, fewest}
+use Rattle.flood.specs.Ways.{isUp}
 use Rattle.flood.specs.Codes.{codesOf}
 use Rattle.flood.proofs.SameLinks.{many-same}
-use Rattle.promises.specs.History.{Tag, State, passages, emptied, turned, after}
-use Rattle.promises.specs.FloodedWay.{passesOf, Keeps, HasRoom, Reaches}
+use Rattle.promises.specs.History.{State, passages, turned, after}
+use Rattle.promises.specs.FloodedWay.{Keeps, HasRoom, Reaches}
 use Rattle.promises.proofs.Told.{each-parts}
 use Rattle.promises.proofs.Accepts as accepts
 use Rattle.promises.proofs.Histories.{Steps, calls-keep}
-use Rattle.promises.proofs.Flights.{each-aside}
 use Rattle.promises.proofs.Ages.{Ageing, ageing-kept, clock-some}
 use Rattle.promises.proofs.InFlight.{aside-weighs, arrivals-weigh-in, linked-weighs, emptied-weighs}
 use Rattle.promises.proofs.LinkStates.{Alike, alike-aside, alike-over, alike-linked, alike-emptied, alike-pass, alike-passes}
-use Rattle.promises.proofs.Towards.{to-any, to-linked, to-emptied}
-use Rattle.promises.proofs.Copies.{copyOf, none-in-flight, no-copy, passes-append}
-use Rattle.promises.proofs.FloodedStage.{Ours, Stage, moved}
+use Rattle.promises.proofs.Towards.{to-linked, to-emptied}
+use Rattle.promises.proofs.Copies.{copyOf, none-in-flight, no-copy, passes-read}
+use Rattle.promises.proofs.FloodedStage.{Trip, far, Ours, Stage, moved}
 use Rattle.promises.proofs.FloodedDue.{all-due}
 use Rattle.promises.proofs.FloodedRound.{others-pass, own-passes}
 
--- injection n, after `base` rounds, in a mesh m
-module _ (m : Mesh Tag) (n all to base f : ℕ) where
-  -- what holds after it, with as many links crossed or to be crossed next as rounds since then, and one more
-  pub record Since (s : State) : Type 0 where
-    pub ageing : Ageing f s
-    pub alike : Alike m (s .mesh)
-    pub later : n < length (s .given)
-    pub links : ℕ
-    pub since : base + links ≡ s .rounds + 1
-    pub stage : HasRoom m n to (s .events) → Stage m n all to links (s .mesh) (passesOf n (s .events))
+-- the link that it is to cross next, or crosses now: one when it is injected, and one more with each round
+abbrev pub nth : Trip → State → ℕ
+nth w s = s .rounds + 1 - w .before
 
-module _ (m : Mesh Tag) (n all to base f : ℕ) (few : all < many m) (reached : to < many m) (most : all ≤ f) where
-  abbrev SinceThen : State → Type 0
-  SinceThen s = Since m n all to base f s
+pub record Since (w : Trip) (f : ℕ) (s : State) : Type 0 where
+  pub ageing : Ageing f s
+  pub alike : Alike (w .mesh) (s .mesh)
+  pub given : w .number < length (s .given)
+  pub begun : w .before ≤ s .rounds
+  pub stage : HasRoom (w .mesh) (w .number) (w .to) (s .events) → Stage w (nth w s) (s .mesh) (s .events)
 
-  -- ---- the passes of a round
+module _ (w : Trip) (f : ℕ) (most : far w ≤ f) where
+  abbrev n : ℕ
+  n = w .number
 
-  module _ (s : State) (t : Tables) (codes : t .codes ≡ codesOf m) (sound : SoundMesh (s .mesh)) (lent : CodesFor t (s .mesh)) (h : SinceThen s) where
-    abbrev g : Going Tag
-    g = setOut (setAside (s .mesh))
+  module _ (s : State) (sound : SoundMesh (s .mesh)) (h : Since w f s) where
+    -- ---- a round
 
-    round-passes : HasRoom m n to (passages t (s .rounds) (setOut (setAside (s .mesh))) (arrivals (s .mesh))) → Stage m n all to (h .links) (s .mesh) (passesOf n (s .events))
-        → Stage m n all to (suc (h .links)) (foldl (passAt t turned) (setOut (setAside (s .mesh))) (arrivals (s .mesh)) .mesh) (passesOf n (s .events) ++ passesOf n (passages t (s .rounds) (setOut (setAside (s .mesh))) (arrivals (s .mesh))))
-    round-passes room (inl w) =
-        own-passes m n all to few reached t codes (s .rounds) (h .links) (passesOf n (s .events)) (w .many) (w .sent) g (arrivals (s .mesh)) (sound-aside sound) lent (alike-aside (h .alike)) (sound-arrivals sound)
-        (all-due m n all to f (s .rounds) (clock-some sound (h .ageing .clock)) most (h .links) (w .most) (s .mesh) sound (h .ageing .clock) (h .ageing .flights) (w .each)) room (aside-weighs (copyOf n) (s .mesh))
-        (arrivals-weigh-in (copyOf n) (s .mesh) sound ∙ w .one)
-    round-passes room (inr w) =
-        others-pass m n all to t (s .rounds) (passesOf n (s .events)) (suc (h .links)) g (arrivals (s .mesh)) (sound-aside sound) lent (sound-arrivals sound) (arrivals-weigh-in (copyOf n) (s .mesh) sound ∙ w .none)
-        (moved m n all to (suc (h .links)) (s .mesh) (setAside (s .mesh)) _ (λ each chip i near. to-any _ (setAside (s .mesh)) (each-aside _ (s .mesh)) chip i near) (aside-weighs (copyOf n) (s .mesh) ∙ sym (w .none)) (inr w))
+    module _ (t : Tables) (codes : t .codes ≡ codesOf (w .mesh)) (lent : CodesFor t (s .mesh)) where
+      passes-of-round : HasRoom (w .mesh) n (w .to) (passages t (s .rounds) (setOut (setAside (s .mesh))) (arrivals (s .mesh))) → Stage w (nth w s) (s .mesh) (s .events)
+          → Stage w (suc (nth w s)) (foldl (passAt t turned) (setOut (setAside (s .mesh))) (arrivals (s .mesh)) .mesh) (s .events ++ passages t (s .rounds) (setOut (setAside (s .mesh))) (arrivals (s .mesh)))
+      passes-of-round room (inl x) =
+          own-passes w t (s .rounds) codes (nth w s) (s .events) (setOut (setAside (s .mesh))) (arrivals (s .mesh)) (sound-aside sound) lent (alike-aside (h .alike)) (sound-arrivals sound)
+          (all-due w f (s .rounds) (clock-some sound (h .ageing .clock)) (nth w s) (omega (arith, most, x .1 .most)) (s .mesh) sound (h .ageing .clock) (h .ageing .flights) (x .1 .each)) room (x .0)
+          (aside-weighs (copyOf n) (s .mesh)) (arrivals-weigh-in (copyOf n) (s .mesh) sound ∙ x .1 .one)
+      passes-of-round room (inr x) =
+          others-pass w t (s .rounds) (suc (nth w s)) (s .events) (setOut (setAside (s .mesh))) (arrivals (s .mesh)) (sound-aside sound) lent (sound-arrivals sound)
+          (arrivals-weigh-in (copyOf n) (s .mesh) sound ∙ x .1) (inr (x .0, aside-weighs (copyOf n) (s .mesh)))
 
-  -- ---- each call
-
-  since-injection : (s : State) (chip : ℕ) (bytes : List ℕ) (t : Tables) → SoundMesh (s .mesh) → accepts.Injects (s .mesh) chip bytes t → SinceThen s → SinceThen (accepts.afterInjection s chip bytes t)
-  unfolding All total
-  since-injection s chip bytes t sound fine h =
-      let a = accepts.arrivalNow s chip bytes in
-      let g : Going Tag = setOut (s .mesh) in
-      let other : copyOf n (a .flight) ≡ 0 = no-copy n (a .flight) (λ e. omega (arith, h .later)) in
-      record {
-        ageing = ageing-kept .injects f s chip bytes t sound fine (h .ageing);
-        alike = alike-pass t turned g a (h .alike);
-        later = simp length-append (omega (arith, h .later));
-        links = h .links;
-        since = h .since;
-        stage = λ room.
-            let parts = each-parts _ (s .events) _ room in
-            subst (Stage m n all to (h .links) _) (sym (passes-append n (s .events) (passages t (s .rounds) g (a ∷ []))))
-            (others-pass m n all to t (s .rounds) (passesOf n (s .events)) (h .links) g (a ∷ []) sound (fine .codes) (record { there = fine .there; from = inr refl; passable = fine .passable }, tt) (omega arith) (h .stage (parts .0)));
-      }
-
-  since-round : (s : State) (t : Tables) → t .codes ≡ codesOf m → SoundMesh (s .mesh) → CodesFor t (s .mesh) → SinceThen s → SinceThen (accepts.afterRound s t)
-  since-round s t codes sound lent h =
-      let g : Going Tag = setOut (setAside (s .mesh)) in
-      record {
-        ageing = ageing-kept .rounds f s t sound lent (h .ageing);
-        alike = alike-over (alike-passes t turned g (arrivals (s .mesh)) (alike-aside (h .alike)));
-        later = h .later;
-        links = suc (h .links);
-        since = omega (arith, h .since);
-        stage = λ room.
-            let parts = each-parts _ (s .events) _ room in
-            moved m n all to (suc (h .links)) (foldl (passAt t turned) g (arrivals (s .mesh)) .mesh) (accepts.afterRound s t .mesh) _ (λ each. each) refl
-            (subst (Stage m n all to (suc (h .links)) _) (sym (passes-append n (s .events) (passages t (s .rounds) g (arrivals (s .mesh))))) (round-passes s t codes sound lent h (parts .1) (h .stage (parts .0))));
-      }
-
-  since-link : (s : State) (chip link : ℕ) (up : Bool) → isUp m chip link ≡ up → SoundMesh (s .mesh) → chip < s .mesh .height * s .mesh .width → link < 6 → SinceThen s
-      → SinceThen (accepts.afterLink s chip link up)
-  since-link s chip link up e sound there near h =
-      record {
-        ageing = ageing-kept .links f s chip link up sound there near (h .ageing);
-        alike = alike-linked (h .alike) chip link up (h .alike .same .links chip link (omega (arith, many-same m (s .mesh) (h .alike .same))) near ∙ e);
-        later = h .later;
-        links = h .links;
-        since = h .since;
-        stage = λ room.
-            moved m n all to (h .links) (s .mesh) _ _ (to-linked (Ours m n all to (h .links)) (s .mesh) chip link up) (linked-weighs (copyOf n) (s .mesh) sound chip there link up near) (h .stage room);
-      }
-
-  since-read : (s : State) (chip : ℕ) → SoundMesh (s .mesh) → chip < s .mesh .height * s .mesh .width → SinceThen s → SinceThen (accepts.afterRead s chip)
-  unfolding passesOf
-  since-read s chip sound there h =
-      record {
-        ageing = ageing-kept .reads f s chip sound there (h .ageing);
-        alike = alike-emptied (h .alike) chip;
-        later = h .later;
-        links = h .links;
-        since = h .since;
-        stage = λ room.
-            subst (Stage m n all to (h .links) _) (sym (passes-append n (s .events) (emptied chip ∷ []) ∙ append-nil (passesOf n (s .events))))
-            (moved m n all to (h .links) (s .mesh) _ _ (to-emptied (Ours m n all to (h .links)) (s .mesh) chip) (emptied-weighs (copyOf n) (s .mesh) sound chip there) (h .stage (each-parts _ (s .events) _ room .0)));
-      }
-
-  steps : Steps (Keeps m) (λ f s. SinceThen s)
-  steps =
-      record {
-        injects = λ f s chip bytes t room allowed. since-injection s chip bytes t;
-        rounds = λ f s t room codes. since-round s t codes;
-        links = λ f s chip link up e. since-link s chip link up e;
-        reads = λ f s chip allowed. since-read s chip;
-      }
-
-  pub after-calls : (cs : List Call) (s : State) → All (Keeps m) cs → SoundMesh (s .mesh) → SinceThen s → SinceThen (foldl after s cs)
-  after-calls = calls-keep (Keeps m) (λ f s. SinceThen s) steps f
-
-  -- ---- as many rounds as links
-
-  pub reaches : (from : ℕ) → fewest m from to ≡ all → (s : State) → base + all ≤ s .rounds → SinceThen s → HasRoom m n to (s .events) → Reaches m n from to s
-  reaches from e s enough h room = go (h .stage room)
-    where
-      go : Stage m n all to (h .links) (s .mesh) (passesOf n (s .events)) → Reaches m n from to s
-      go (inl w) = absurd (omega (arith, w .most, h .since))
-      go (inr w) =
+      since-round : Since w f (accepts.afterRound s t)
+      since-round =
           record {
-            onWay = w .onWay;
-            last = w .last;
-            passes = w .passes;
-            many = w .many ∙ sym e;
-            sent = w .sent;
-            there = w .there;
-            right = w .right;
-            handed = w .handed;
-            crossed = w .crossed ∙ sym e;
-            gone = none-in-flight n (s .mesh) (w .none);
+            ageing = ageing-kept .rounds f s t sound lent (h .ageing);
+            alike = alike-over (alike-passes t turned (setOut (setAside (s .mesh))) (arrivals (s .mesh)) (alike-aside (h .alike)));
+            given = h .given;
+            begun = omega (arith, h .begun);
+            stage = λ room.
+                let parts = each-parts _ (s .events) _ room in
+                let later : suc (nth w s) ≡ s .rounds + 1 + 1 - w .before = omega (arith, h .begun) in
+                subst (λ (j : ℕ). Stage w j (accepts.afterRound s t .mesh) (accepts.afterRound s t .events)) later
+                (moved w (suc (nth w s)) (foldl (passAt t turned) (setOut (setAside (s .mesh))) (arrivals (s .mesh)) .mesh) (accepts.afterRound s t .mesh) _ _ (λ each. each) refl refl (passes-of-round (parts .1) (h .stage (parts .0))));
+          }
+
+    -- ---- the other calls
+
+    since-injection : (chip : ℕ) (bytes : List ℕ) (t : Tables) → accepts.Injects (s .mesh) chip bytes t → Since w f (accepts.afterInjection s chip bytes t)
+    unfolding All total
+    since-injection chip bytes t fine =
+        let a = accepts.arrivalNow s chip bytes in
+        let other : copyOf n (a .flight) ≡ 0 = no-copy n (a .flight) (λ e. omega (arith, h .given)) in
+        record {
+          ageing = ageing-kept .injects f s chip bytes t sound fine (h .ageing);
+          alike = alike-pass t turned (setOut (s .mesh)) a (h .alike);
+          given = simp length-append (omega (arith, h .given));
+          begun = h .begun;
+          stage = λ room.
+              others-pass w t (s .rounds) (nth w s) (s .events) (setOut (s .mesh)) (a ∷ []) sound (fine .codes) (record { there = fine .there; from = inr refl; passable = fine .passable }, tt) (omega arith)
+              (h .stage (each-parts _ (s .events) _ room .0));
+        }
+
+    module _ (chip : ℕ) (there : chip < s .mesh .height * s .mesh .width) where
+      since-link : (link : ℕ) (up : Bool) → isUp (w .mesh) chip link ≡ up → link < 6 → Since w f (accepts.afterLink s chip link up)
+      since-link link up e near =
+          record {
+            ageing = ageing-kept .links f s chip link up sound there near (h .ageing);
+            alike = alike-linked (h .alike) chip link up (h .alike .same .links chip link (omega (arith, many-same (w .mesh) (s .mesh) (h .alike .same))) near ∙ e);
+            given = h .given;
+            begun = h .begun;
+            stage = λ room. moved w (nth w s) (s .mesh) _ (s .events) _ (to-linked (Ours w (nth w s)) (s .mesh) chip link up) (linked-weighs (copyOf n) (s .mesh) sound chip there link up near) refl (h .stage room);
+          }
+
+      since-read : Since w f (accepts.afterRead s chip)
+      since-read =
+          record {
+            ageing = ageing-kept .reads f s chip sound there (h .ageing);
+            alike = alike-emptied (h .alike) chip;
+            given = h .given;
+            begun = h .begun;
+            stage = λ room.
+                moved w (nth w s) (s .mesh) _ (s .events) _ (to-emptied (Ours w (nth w s)) (s .mesh) chip) (emptied-weighs (copyOf n) (s .mesh) sound chip there) (passes-read n (s .events) chip)
+                (h .stage (each-parts _ (s .events) _ room .0));
+          }
+
+  pub after-calls : (cs : List Call) (s : State) → All (Keeps (w .mesh)) cs → SoundMesh (s .mesh) → Since w f s → Since w f (foldl after s cs)
+  after-calls = calls-keep (Keeps (w .mesh)) (λ f′ s. Since w f s) steps f
+    where
+      steps : Steps (Keeps (w .mesh)) (λ f′ s. Since w f s)
+      steps =
+          record {
+            injects = λ f′ s chip bytes t room allowed sound fine h. since-injection s sound h chip bytes t fine;
+            rounds = λ f′ s t room codes sound lent h. since-round s sound h t codes lent;
+            links = λ f′ s chip link up e sound there near h. since-link s sound h chip there link up e near;
+            reads = λ f′ s chip allowed sound there h. since-read s sound h chip there;
+          }
+
+  -- after as many rounds as links it is there
+  pub reaches : (s : State) → w .before + far w ≤ s .rounds → Since w f s → HasRoom (w .mesh) n (w .to) (s .events) → Reaches (w .mesh) n (w .from) (w .to) s
+  reaches s enough h room = go (h .stage room)
+    where
+      go : Stage w (nth w s) (s .mesh) (s .events) → Reaches (w .mesh) n (w .from) (w .to) s
+      go (inl x) = absurd (omega (arith, x .1 .most))
+      go (inr x) =
+          record {
+            onWay = x .0 .onWay;
+            last = x .0 .last;
+            passes = x .0 .passes;
+            many = x .0 .sent .many;
+            sent = x .0 .sent .onward;
+            there = x .0 .there;
+            right = x .0 .right;
+            handed = x .0 .handed;
+            crossed = x .0 .crossed;
+            gone = none-in-flight n (s .mesh) (x .1);
           }

@@ -1,9 +1,9 @@
 -- How far a P2P packet has come by flooded codes: on its way, one copy of it in flight and a pass by its code's link for each link crossed; or there, handed to the monitor, with nothing
 -- of it in flight.
-use mathlib.Core.Path.{_≡_, _∙_}
+use mathlib.Core.Path.{_≡_, sym, _∙_, subst}
 use mathlib.Core.List.{List, [], _∷_, _++_}
 use mathlib.Core.Logic.{_⊎_, inl, inr}
-use Prim.Native.Nat.{ℕ, _+_, _%_, _≤_}
+use Prim.Native.Nat.{ℕ, _+_, _%_, _≤_, _<_}
 use lib.ListN.{length}
 use Rattle.packet.specs.Control.{kindOf}
 use Rattle.steps.specs.Errors.{errorsOf}
@@ -11,24 +11,39 @@ use Rattle.lists.specs.Lists.{All}
 use Rattle.links.specs.Line.{Flight}
 use Rattle.mesh.specs.Mesh.{Mesh}
 use Rattle.mesh.specs.Steps.{Arrival}
+use Rattle.mesh.specs.Calls.{many}
 use Rattle.flood.specs.Ways.{fewest}
 use Rattle.flood.specs.Codes.{codeOf}
 use Rattle.flood.specs.OnItsWay.{idOf, SentOn, HandedOver}
-use Rattle.promises.specs.History.{Tag, Passage}
+use Rattle.promises.specs.History.{Tag, Passage, Event}
+use Rattle.promises.specs.FloodedWay.{passesOf}
 use Rattle.promises.proofs.Copies.{copies}
 use Rattle.promises.proofs.Towards.{EachTo}
 
--- in a mesh whose links are up as those of m, injection n, that has `all` links to cross to a chip
-module _ (m : Mesh Tag) (n all to : ℕ) where
+-- an injection by its number, the mesh that it found and the rounds before it, from a chip to another that it can reach
+pub record Trip : Type 0 where
+  pub mesh : Mesh Tag
+  pub number : ℕ
+  pub before : ℕ
+  pub from : ℕ
+  pub to : ℕ
+  pub few : fewest mesh from to < many mesh
+  pub reached : to < many mesh
+
+-- the links that it has to cross
+abbrev pub far : Trip → ℕ
+far w = fewest (w .mesh) (w .from) (w .to)
+
+module _ (w : Trip) where
   -- a copy that is on its way to a chip, its j-th link
   pub record Comes (j chip : ℕ) (x : Flight Tag) : Type 0 where
-    pub left : fewest m chip to + j ≡ all
+    pub left : fewest (w .mesh) chip (w .to) + j ≡ far w
     pub kind : kindOf (x .packet .control) ≡ 1
-    pub destination : x .packet .word % 65536 ≡ idOf m to
+    pub destination : x .packet .word % 65536 ≡ idOf (w .mesh) (w .to)
     pub crossed : x .tag .crossed ≡ j
 
   abbrev pub Ours : ℕ → ℕ → Flight Tag → Type 0
-  Ours j chip x = x .tag .injection ≡ n → Comes j chip x
+  Ours j chip x = x .tag .injection ≡ w .number → Comes j chip x
 
   -- where it arrives, without error
   pub record Due (j phase : ℕ) (a : Arrival Tag) : Type 0 where
@@ -36,43 +51,36 @@ module _ (m : Mesh Tag) (n all to : ℕ) where
     pub errors : errorsOf (a .flight .packet) (a .source) phase ≡ 0
 
   abbrev pub Onward : Passage → Type 0
-  Onward p = (p .outcome .errors ≡ 0) × SentOn (p .outcome) (p .arrival .flight .packet) (codeOf m (p .arrival .chip) to)
+  Onward p = (p .outcome .errors ≡ 0) × SentOn (p .outcome) (p .arrival .flight .packet) (codeOf (w .mesh) (p .arrival .chip) (w .to))
 
-  pub record OnWay (j : ℕ) (k : Mesh Tag) (ps : List Passage) : Type 0 where
-    pub most : j ≤ all
+  -- its passes so far, each by its code's link
+  pub record Sent (j : ℕ) (ps : List Passage) : Type 0 where
     pub many : length ps ≡ j
-    pub sent : All Onward ps
-    pub each : EachTo (Ours j) k
-    pub one : copies n k ≡ 1
+    pub onward : All Onward ps
 
-  pub record There (k : Mesh Tag) (ps : List Passage) : Type 0 where
+  pub record OnWay (j : ℕ) (k : Mesh Tag) : Type 0 where
+    pub most : j ≤ far w
+    pub each : EachTo (Ours j) k
+    pub one : copies (w .number) k ≡ 1
+
+  pub record Delivered (ps : List Passage) : Type 0 where
     pub onWay : List Passage
     pub last : Passage
     pub passes : ps ≡ onWay ++ (last ∷ [])
-    pub many : length onWay ≡ all
-    pub sent : All Onward onWay
-    pub there : last .arrival .chip ≡ to
+    pub sent : Sent (far w) onWay
+    pub there : last .arrival .chip ≡ w .to
     pub right : last .outcome .errors ≡ 0
-    pub handed : HandedOver (last .outcome) (m .monitor)
-    pub crossed : last .arrival .flight .tag .crossed ≡ all
-    pub none : copies n k ≡ 0
+    pub handed : HandedOver (last .outcome) (w .mesh .monitor)
+    pub crossed : last .arrival .flight .tag .crossed ≡ far w
 
-  abbrev pub Stage : ℕ → Mesh Tag → List Passage → Type 0
-  Stage j k ps = OnWay j k ps ⊎ There k ps
+  -- in a mesh, after some events
+  abbrev pub Stage : ℕ → Mesh Tag → List Event → Type 0
+  Stage j k es = (Sent j (passesOf (w .number) es) × OnWay j k) ⊎ (Delivered (passesOf (w .number) es) × (copies (w .number) k ≡ 0))
 
-  -- in another mesh, with the same of it in flight
-  pub moved : (j : ℕ) (k k′ : Mesh Tag) (ps : List Passage) → (EachTo (Ours j) k → EachTo (Ours j) k′) → copies n k′ ≡ copies n k → Stage j k ps → Stage j k′ ps
-  moved j k k′ ps each e (inl w) = inl (record { most = w .most; many = w .many; sent = w .sent; each = each (w .each); one = e ∙ w .one })
-  moved j k k′ ps each e (inr w) =
-      inr (record {
-        onWay = w .onWay;
-        last = w .last;
-        passes = w .passes;
-        many = w .many;
-        sent = w .sent;
-        there = w .there;
-        right = w .right;
-        handed = w .handed;
-        crossed = w .crossed;
-        none = e ∙ w .none;
-      })
+  -- in another mesh, with the same of it in flight, after events with the same passes of it
+  pub moved : (j : ℕ) (k k′ : Mesh Tag) (es es′ : List Event) → (EachTo (Ours j) k → EachTo (Ours j) k′) → copies (w .number) k′ ≡ copies (w .number) k → passesOf (w .number) es′ ≡ passesOf (w .number) es
+      → Stage j k es
+      → Stage j k′ es′
+  moved j k k′ es es′ each same passes (inl s) =
+      inl (subst (Sent j) (sym passes) (s .0), record { most = s .1 .most; each = each (s .1 .each); one = same ∙ s .1 .one })
+  moved j k k′ es es′ each same passes (inr s) = inr (subst Delivered (sym passes) (s .0), same ∙ s .1)
