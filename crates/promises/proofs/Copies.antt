@@ -74,7 +74,7 @@ module _ (n : ℕ) where
     o = outcomeAt t (g .mesh) (a .chip) (a .source) (a .flight .packet)
 
     pass-copies : (own : Bool) → eqb (a .flight .tag .injection) n ≡ own
-        → copies (passAt t turned g a .mesh) ≡ copies (g .mesh) + sentCopies own (outcomeAt t (g .mesh) (a .chip) (a .source) (a .flight .packet))
+        → copies (passAt t turned g a .mesh) ≡ copies (g .mesh) + sentCopies own o
     pass-copies own e = pass-gains copyOf t turned g a sound h ∙ ap (λ (b : Bool). copies (g .mesh) + sentCopies b o) e
 
     pub other-pass : OfOthers (a .flight) → copies (passAt t turned g a .mesh) ≡ copies (g .mesh)
@@ -87,8 +87,8 @@ module _ (n : ℕ) where
         nothing false false = refl
 
     -- sent by one link, and nothing else
-    pub own-pass : a .flight .tag .injection ≡ n → (i : ℕ) → i < 6 → outcomeAt t (g .mesh) (a .chip) (a .source) (a .flight .packet) .sent ≡ 2 ^ i
-        → outcomeAt t (g .mesh) (a .chip) (a .source) (a .flight .packet) .«leg_sent» ≡ 0
+    pub own-pass : a .flight .tag .injection ≡ n → (i : ℕ) → i < 6 → o .sent ≡ 2 ^ i
+        → o .«leg_sent» ≡ 0
         → copies (passAt t turned g a .mesh) ≡ copies (g .mesh) + 1
     own-pass own i near sent leg =
         pass-copies true (eq-eqb _ _ own)
@@ -104,8 +104,8 @@ module _ (n : ℕ) where
         one (suc (suc (suc (suc (suc (suc i)))))) near = absurd (omega arith)
 
     -- nothing sent
-    pub last-pass : a .flight .tag .injection ≡ n → outcomeAt t (g .mesh) (a .chip) (a .source) (a .flight .packet) .sent ≡ 0
-        → outcomeAt t (g .mesh) (a .chip) (a .source) (a .flight .packet) .«leg_sent» ≡ 0
+    pub last-pass : a .flight .tag .injection ≡ n → o .sent ≡ 0
+        → o .«leg_sent» ≡ 0
         → copies (passAt t turned g a .mesh) ≡ copies (g .mesh)
     last-pass own sent leg =
         pass-copies true (eq-eqb _ _ own) ∙ (λ j. copies (g .mesh) + overLinks (λ k. cond (has (sent j) k) 1 0 + cond (has (leg j) k) 1 0)) ∙ add-zero (copies (g .mesh))

@@ -30,7 +30,7 @@ use Rattle.promises.proofs.FloodedStage.{Trip, far, Ours, Stage, moved}
 use Rattle.promises.proofs.FloodedDue.{all-due}
 use Rattle.promises.proofs.FloodedRound.{others-pass, own-passes}
 
--- the link that it is to cross next, or crosses now: one when it is injected, and one more with each round
+-- the links that it has crossed where it passes next: one after its injection, and one more with each round
 abbrev pub nth : Trip → State → ℕ
 nth w s = s .rounds + 1 - w .before
 

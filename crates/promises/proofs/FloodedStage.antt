@@ -35,7 +35,7 @@ abbrev pub far : Trip → ℕ
 far w = fewest (w .mesh) (w .from) (w .to)
 
 module _ (w : Trip) where
-  -- a copy that is on its way to a chip, its j-th link
+  -- a copy that comes to a chip, after j links
   pub record Comes (j chip : ℕ) (x : Flight Tag) : Type 0 where
     pub left : fewest (w .mesh) chip (w .to) + j ≡ far w
     pub kind : kindOf (x .packet .control) ≡ 1

@@ -16,6 +16,7 @@ pub mod Few
 pub mod FixedRoutes
 pub mod Flights
 pub mod FloodedDue
+pub mod FloodedExample
 pub mod FloodedPass
 pub mod FloodedRound
 pub mod FloodedSince

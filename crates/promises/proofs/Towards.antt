@@ -65,10 +65,10 @@ module _ {A : Type 0} (P : ℕ → Flight A → Type 0) where
     abbrev o : Outcome
     o = outcomeAt t (g .mesh) (a .chip) (a .source) (a .flight .packet)
 
-    pub to-after-pass : SendsTo (g .mesh) (a .chip) (outcomeAt t (g .mesh) (a .chip) (a .source) (a .flight .packet)) (turn (a .flight .tag)) → EachTo P (g .mesh) → EachTo P (passAt t turn g a .mesh)
+    pub to-after-pass : SendsTo (g .mesh) (a .chip) o (turn (a .flight .tag)) → EachTo P (g .mesh) → EachTo P (passAt t turn g a .mesh)
     to-after-pass sends each c i near = go (ℕ-discrete c (a .chip))
       where
-        here : lineOf (passAt t turn g a .mesh) (a .chip) i ≡ lineAfter (outcomeAt t (g .mesh) (a .chip) (a .source) (a .flight .packet)) (turn (a .flight .tag)) i (lineOf (g .mesh) (a .chip) i)
+        here : lineOf (passAt t turn g a .mesh) (a .chip) i ≡ lineAfter o (turn (a .flight .tag)) i (lineOf (g .mesh) (a .chip) i)
         here =
             ap (λ (x : Chip A). getD (x .lines) i idle) (getD-set-same (g .mesh .chips) (a .chip) _ fresh (omega (arith, sound .many, h .there)))
             ∙ line-at o (turn (a .flight .tag)) i (chipOf (g .mesh) (a .chip) .lines) (omega (arith, chip-sound sound (a .chip) (h .there) .six))
