@@ -8,7 +8,7 @@ use Prim.Native.Nat.{ℕ, suc, _+_, _-_, _*_, _≤_, _<_}
 use native.Mathlib.Omega.{arith}
 use lib.ListN.{length, length-append}
 use Rattle.lists.specs.Lists.{All, total}
-use Rattle.mesh.specs.Steps.{Tables, setOut, setAside, arrivals, passAt}
+use Rattle.mesh.specs.Steps.{Tables, Arrival, Going, setOut, setAside, arrivals, passAt}
 use Rattle.mesh.specs.Asked.{Call}
 use Rattle.mesh.specs.Sound.{SoundMesh}
 use Rattle.mesh.proofs.SoundArrivals.{sound-arrivals}
@@ -16,7 +16,7 @@ use Rattle.mesh.proofs.SoundSteps.{CodesFor, sound-aside}
 use Rattle.flood.specs.Ways.{isUp}
 use Rattle.flood.specs.Codes.{codesOf}
 use Rattle.flood.proofs.SameLinks.{many-same}
-use Rattle.promises.specs.History.{State, passages, turned, after}
+use Rattle.promises.specs.History.{Tag, State, passages, turned, after}
 use Rattle.promises.specs.FloodedWay.{Keeps, HasRoom, Reaches}
 use Rattle.promises.proofs.Told.{each-parts}
 use Rattle.promises.proofs.Accepts as accepts
@@ -31,46 +31,55 @@ use Rattle.promises.proofs.FloodedDue.{all-due}
 use Rattle.promises.proofs.FloodedRound.{others-pass, own-passes}
 
 -- the links that it has crossed where it passes next: one after its injection, and one more with each round
-abbrev pub nth : Trip → State → ℕ
-nth w s = s .rounds + 1 - w .before
+abbrev pub linksBy : Trip → State → ℕ
+linksBy w s = s .rounds + 1 - w .before
 
 pub record Since (w : Trip) (f : ℕ) (s : State) : Type 0 where
   pub ageing : Ageing f s
   pub alike : Alike (w .mesh) (s .mesh)
   pub given : w .number < length (s .given)
   pub begun : w .before ≤ s .rounds
-  pub stage : HasRoom (w .mesh) (w .number) (w .to) (s .events) → Stage w (nth w s) (s .mesh) (s .events)
+  pub stage : HasRoom (w .mesh) (w .number) (w .to) (s .events) → Stage w (linksBy w s) (s .mesh) (s .events)
 
 module _ (w : Trip) (f : ℕ) (most : far w ≤ f) where
   abbrev n : ℕ
   n = w .number
 
   module _ (s : State) (sound : SoundMesh (s .mesh)) (h : Since w f s) where
+    abbrev j : ℕ
+    j = linksBy w s
+
+    abbrev aside : Going Tag
+    aside = setOut (setAside (s .mesh))
+
+    abbrev all : List (Arrival Tag)
+    all = arrivals (s .mesh)
+
     -- ---- a round
 
     module _ (t : Tables) (codes : t .codes ≡ codesOf (w .mesh)) (lent : CodesFor t (s .mesh)) where
-      passes-of-round : HasRoom (w .mesh) n (w .to) (passages t (s .rounds) (setOut (setAside (s .mesh))) (arrivals (s .mesh))) → Stage w (nth w s) (s .mesh) (s .events)
-          → Stage w (suc (nth w s)) (foldl (passAt t turned) (setOut (setAside (s .mesh))) (arrivals (s .mesh)) .mesh) (s .events ++ passages t (s .rounds) (setOut (setAside (s .mesh))) (arrivals (s .mesh)))
+      passes-of-round : HasRoom (w .mesh) n (w .to) (passages t (s .rounds) aside all) → Stage w j (s .mesh) (s .events)
+          → Stage w (suc j) (foldl (passAt t turned) aside all .mesh) (s .events ++ passages t (s .rounds) aside all)
       passes-of-round room (inl x) =
-          own-passes w t (s .rounds) codes (nth w s) (s .events) (setOut (setAside (s .mesh))) (arrivals (s .mesh)) (sound-aside sound) lent (alike-aside (h .alike)) (sound-arrivals sound)
-          (all-due w f (s .rounds) (clock-some sound (h .ageing .clock)) (nth w s) (omega (arith, most, x .1 .most)) (s .mesh) sound (h .ageing .clock) (h .ageing .flights) (x .1 .each)) room (x .0)
+          own-passes w t (s .rounds) codes j (s .events) aside all (sound-aside sound) lent (alike-aside (h .alike)) (sound-arrivals sound)
+          (all-due w f (s .rounds) (clock-some sound (h .ageing .clock)) j (omega (arith, most, x .1 .most)) (s .mesh) sound (h .ageing .clock) (h .ageing .flights) (x .1 .each)) room (x .0)
           (aside-weighs (copyOf n) (s .mesh)) (arrivals-weigh-in (copyOf n) (s .mesh) sound ∙ x .1 .one)
       passes-of-round room (inr x) =
-          others-pass w t (s .rounds) (suc (nth w s)) (s .events) (setOut (setAside (s .mesh))) (arrivals (s .mesh)) (sound-aside sound) lent (sound-arrivals sound)
+          others-pass w t (s .rounds) (suc j) (s .events) aside all (sound-aside sound) lent (sound-arrivals sound)
           (arrivals-weigh-in (copyOf n) (s .mesh) sound ∙ x .1) (inr (x .0, aside-weighs (copyOf n) (s .mesh)))
 
       since-round : Since w f (accepts.afterRound s t)
       since-round =
           record {
             ageing = ageing-kept .rounds f s t sound lent (h .ageing);
-            alike = alike-over (alike-passes t turned (setOut (setAside (s .mesh))) (arrivals (s .mesh)) (alike-aside (h .alike)));
+            alike = alike-over (alike-passes t turned aside all (alike-aside (h .alike)));
             given = h .given;
             begun = omega (arith, h .begun);
             stage = λ room.
                 let parts = each-parts _ (s .events) _ room in
-                let later : suc (nth w s) ≡ s .rounds + 1 + 1 - w .before = omega (arith, h .begun) in
-                subst (λ (j : ℕ). Stage w j (accepts.afterRound s t .mesh) (accepts.afterRound s t .events)) later
-                (moved w (suc (nth w s)) (foldl (passAt t turned) (setOut (setAside (s .mesh))) (arrivals (s .mesh)) .mesh) (accepts.afterRound s t .mesh) _ _ (λ each. each) refl refl (passes-of-round (parts .1) (h .stage (parts .0))));
+                let later : suc j ≡ s .rounds + 1 + 1 - w .before = omega (arith, h .begun) in
+                subst (λ (i : ℕ). Stage w i (accepts.afterRound s t .mesh) (accepts.afterRound s t .events)) later
+                (moved w (suc j) (foldl (passAt t turned) aside all .mesh) (accepts.afterRound s t .mesh) _ _ (λ each. each) refl refl (passes-of-round (parts .1) (h .stage (parts .0))));
           }
 
     -- ---- the other calls
@@ -86,7 +95,7 @@ module _ (w : Trip) (f : ℕ) (most : far w ≤ f) where
           given = simp length-append (omega (arith, h .given));
           begun = h .begun;
           stage = λ room.
-              others-pass w t (s .rounds) (nth w s) (s .events) (setOut (s .mesh)) (a ∷ []) sound (fine .codes) (record { there = fine .there; from = inr refl; passable = fine .passable }, tt) (omega arith)
+              others-pass w t (s .rounds) j (s .events) (setOut (s .mesh)) (a ∷ []) sound (fine .codes) (record { there = fine .there; from = inr refl; passable = fine .passable }, tt) (omega arith)
               (h .stage (each-parts _ (s .events) _ room .0));
         }
 
@@ -98,7 +107,7 @@ module _ (w : Trip) (f : ℕ) (most : far w ≤ f) where
             alike = alike-linked (h .alike) chip link up (h .alike .same .links chip link (omega (arith, many-same (w .mesh) (s .mesh) (h .alike .same))) near ∙ e);
             given = h .given;
             begun = h .begun;
-            stage = λ room. moved w (nth w s) (s .mesh) _ (s .events) _ (to-linked (Ours w (nth w s)) (s .mesh) chip link up) (linked-weighs (copyOf n) (s .mesh) sound chip there link up near) refl (h .stage room);
+            stage = λ room. moved w j (s .mesh) _ (s .events) _ (to-linked (Ours w j) (s .mesh) chip link up) (linked-weighs (copyOf n) (s .mesh) sound chip there link up near) refl (h .stage room);
           }
 
       since-read : Since w f (accepts.afterRead s chip)
@@ -109,7 +118,7 @@ module _ (w : Trip) (f : ℕ) (most : far w ≤ f) where
             given = h .given;
             begun = h .begun;
             stage = λ room.
-                moved w (nth w s) (s .mesh) _ (s .events) _ (to-emptied (Ours w (nth w s)) (s .mesh) chip) (emptied-weighs (copyOf n) (s .mesh) sound chip there) (passes-read n (s .events) chip)
+                moved w j (s .mesh) _ (s .events) _ (to-emptied (Ours w j) (s .mesh) chip) (emptied-weighs (copyOf n) (s .mesh) sound chip there) (passes-read n (s .events) chip)
                 (h .stage (each-parts _ (s .events) _ room .0));
           }
 
@@ -129,7 +138,7 @@ module _ (w : Trip) (f : ℕ) (most : far w ≤ f) where
   pub reaches : (s : State) → w .before + far w ≤ s .rounds → Since w f s → HasRoom (w .mesh) n (w .to) (s .events) → Reaches (w .mesh) n (w .from) (w .to) s
   reaches s enough h room = go (h .stage room)
     where
-      go : Stage w (nth w s) (s .mesh) (s .events) → Reaches (w .mesh) n (w .from) (w .to) s
+      go : Stage w (linksBy w s) (s .mesh) (s .events) → Reaches (w .mesh) n (w .from) (w .to) s
       go (inl x) = absurd (omega (arith, x .1 .most))
       go (inr x) =
           record {
