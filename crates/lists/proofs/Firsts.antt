@@ -6,7 +6,7 @@ use native.Mathlib.Omega.{arith}
 use native.Mathlib.Nat.{le-antisymm}
 use mathlib.Core.Logic.{_⊎_, inl, inr, ⊎-elim}
 use native.Mathlib.Decide.{decLt}
-use Rattle.lists.specs.Firsts.{firstFrom, firstBelow}
+use Rattle.lists.specs.Firsts.{firstFrom, firstBelow, Exact}
 
 pub lt-or-ge : (i j : ℕ) → (i < j) ⊎ (j ≤ i)
 lt-or-ge i j = go (decLt i j)
@@ -83,3 +83,20 @@ first-same f g n same =
     (λ (l : firstBelow g n < n). first-is f n (firstBelow g n) l (same _ l ∙ first-holds g n l) (λ j h. same j (omega arith) ∙ before-first g n j h))
     (λ (l : n ≤ firstBelow g n). first-none f n (λ j h. same j h ∙ before-first g n j (omega arith)) ∙ le-antisymm l (first-most g n))
     (lt-or-ge (firstBelow g n) n)
+
+-- the place is exact where all is fine exactly if no number passes
+module _ (f : ℕ → Bool) (n : ℕ) where
+  pub exact : (fine : Bool) → (fine ≡ true → (j : ℕ) → j < n → f j ≡ false) → (((j : ℕ) → j < n → f j ≡ false) → fine ≡ true) → Exact f n fine
+  exact fine none all =
+      let below : fine ≡ false → firstBelow f n < n =
+      λ e. ⊎-elim (λ (l : firstBelow f n < n). l) (λ (l : n ≤ firstBelow f n). absurd (apart (sym (all (λ j h. before-first f n j (omega arith))) ∙ e))) (lt-or-ge (firstBelow f n) n) in
+      record { below = below; there = λ e. first-holds f n (below e); before = λ e. before-first f n; none = none }
+
+  -- so the place says whether all is fine
+  pub exact-fine : (fine : Bool) → Exact f n fine → n ≤ firstBelow f n → fine ≡ true
+  exact-fine true e h = refl
+  exact-fine false e h = absurd (omega (arith, e .below refl))
+
+  pub exact-not : (fine : Bool) → Exact f n fine → firstBelow f n < n → fine ≡ false
+  exact-not true e h = absurd (apart (sym (first-holds f n h) ∙ e .none refl (firstBelow f n) h))
+  exact-not false e h = refl

@@ -1,8 +1,8 @@
 -- What is known of the inputs of the one-router call once nothing is refused.
 use mathlib.Core.Path.{_≡_, refl, sym, ap, _∙_}
-use mathlib.Core.Bool.{Bool, true, false, cond, and-eq-true-iff}
+use mathlib.Core.Bool.{Bool, true, false, cond, not, _&&_, and-eq-true-iff}
 use mathlib.Core.List.{List}
-use Prim.Native.Nat.{ℕ, zero, suc, _*_, _<_}
+use Prim.Native.Nat.{ℕ, zero, suc, _*_, _/_, _≤_, _<_}
 use native.Mathlib.Nat.{le-of-eq}
 use native.Mathlib.Omega.{arith}
 use lib.Dec.{eqb, leb}
@@ -14,13 +14,13 @@ use Rattle.packet.specs.Bytes.{controlAt, packetAt, notTaken, takenOf}
 use Rattle.packet.specs.Refusal.{firstOf, packetRefusals}
 use Rattle.packet.proofs.Refusals.{packet-first, take-refused}
 use Rattle.packet.proofs.First.{first-append, not-refused}
-use Rattle.tables.specs.Accept.{codesFine, allCodes}
+use Rattle.tables.specs.Accept.{fewRows, codesFine, allCodes}
 use Rattle.steps.specs.declared.Setting.{Setting}
 use Rattle.steps.specs.Deciding.{Checked}
 use Rattle.tables.specs.Sizes.{sizeFine}
 use Rattle.tables.proofs.Sizes.{Size, size}
 use Rattle.tables.specs.Tables.{ChipTables}
-use Rattle.router.specs.Call.{rowsLent, settingFine, sourceFine, settingRefusals, passRefusals, checkedOf}
+use Rattle.router.specs.Call.{settingFine, sourceFine, settingRefusals, passRefusals, checkedOf}
 use Rattle.packet.specs.Control.{isDirect}
 
 source-small : (source : ℕ) → sourceFine source ≡ true → source < 8
@@ -34,7 +34,6 @@ source-small source e = go (leb source 5) refl
 pub record Fine (source : ℕ) (tables : ChipTables) (t : Setting) : Type 0 where
   pub sized : sizeFine (t .width) (t .height) ≡ true
   pub setting : settingFine t ≡ true
-  pub tabled : rowsLent (tables .rows) (tables .fixed) ≡ true
   pub coded : codesFine (tables .codes) (t .height * t .width) ≡ true
   pub sourced : sourceFine source ≡ true
 
@@ -44,7 +43,6 @@ fine source tables t e =
     record {
       sized = not-false _ (fine 7);
       setting = not-false _ (fine 6);
-      tabled = not-false _ (fine 5);
       coded = not-false _ (fine 11);
       sourced = not-false _ (fine 1);
     }
@@ -117,3 +115,33 @@ passed bytes source tables t e = go (firstOf (settingRefusals source tables t)) 
         let some : suc n ≡ 0 → ⊥ = λ z. omega arith in
         let wrong : checkedOf bytes source tables t .refusal ≡ suc n = ap (λ (x : Taken). x .refusal) (refused-setting bytes source tables t (suc n) f some) in
         absurd (omega arith)
+
+-- ---- which of the tables' numbers it is
+
+-- where one of three tests fails, the first that does
+pub lent-number : (few routes fixed : Bool) (rest : ℕ) → ((few && routes) && fixed) ≡ false → cond (not few) 16 (cond (not routes) 17 18) ≡ cond (not few) 16 (cond (not routes) 17 (cond (not fixed) 18 rest))
+lent-number true true true rest e = absurd (let z : _≡_ {A = ℕ} 0 1 = cc in omega arith)
+lent-number true true false rest e = refl
+lent-number true false fixed rest e = refl
+lent-number false routes fixed rest e = refl
+
+pub all-fine : (few routes fixed : Bool) → ((few && routes) && fixed) ≡ true → (few ≡ true) × ((routes ≡ true) × (fixed ≡ true))
+all-fine few routes fixed e =
+    let t = and-eq-true-iff (few && routes) fixed .0 e in
+    let u = and-eq-true-iff few routes .0 (t .0) in
+    (u .0, (u .1, t .1))
+
+-- 17 comes after 16
+pub few-at-17 : (bytes : List ℕ) (source : ℕ) (tables : ChipTables) (t : Setting) → checkedOf bytes source tables t .refusal ≡ 17 → length (tables .rows) / 3 ≤ 1024
+unfolding checkedOf
+few-at-17 bytes source tables t e = leb-true _ _ (go (sizeFine (t .width) (t .height)) (settingFine t) (fewRows (length (tables .rows) / 3)) _ (by-number (firstOf (passRefusals bytes source tables t)) (eqb (firstOf (passRefusals bytes source tables t)) 0) e))
+  where
+    by-number : (n : ℕ) (b : Bool) → cond {A = Taken} b (record { refusal = 0; packet = packetAt bytes }) (notTaken n) .refusal ≡ 17 → n ≡ 17
+    by-number n true f = absurd (omega arith)
+    by-number n false f = f
+
+    go : (sized set few : Bool) (n : ℕ) → cond (not sized) 7 (cond (not set) 6 (cond (not few) 16 n)) ≡ 17 → few ≡ true
+    go false set few n f = absurd (omega arith)
+    go true false few n f = absurd (omega arith)
+    go true true false n f = absurd (omega arith)
+    go true true true n f = refl

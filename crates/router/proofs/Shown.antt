@@ -17,19 +17,19 @@ use Rattle.steps.specs.Deciding.{noOutcome, outcomeOf}
 use Rattle.steps.specs.Errors.{flag}
 use Rattle.kept.specs.Counting.{zeros, countedOf}
 use Rattle.router.specs.Showing.{toProcessors, passShown, passFrom, noPass}
-use Rattle.router.specs.Call.{answer}
+use Rattle.router.specs.Call.{placeOf, answer}
 use Rattle.steps.proofs.Bounds.{Sets, outcome-sets}
 use Rattle.tables.specs.Tables.{ChipTables}
 
 module _ (taken : Taken) (source : ℕ) (tables : ChipTables) (t : Setting) where
-  pub answer-shown : passShown (taken .refusal) (cond (eqb (taken .refusal) 0) (outcomeOf (taken .packet) source tables t) noOutcome) ≡ answer taken source tables t
+  pub answer-shown : passShown (taken .refusal) (placeOf (taken .refusal) (tables .rows)) (cond (eqb (taken .refusal) 0) (outcomeOf (taken .packet) source tables t) noOutcome) ≡ answer taken source tables t
   unfolding ones onesIn
   answer-shown = go (eqb (taken .refusal) 0) refl
     where
       go : (b : Bool) → eqb (taken .refusal) 0 ≡ b
-          → passShown (taken .refusal) (cond b (outcomeOf (taken .packet) source tables t) noOutcome)
-          ≡ cond b (passFrom (outcomeOf (taken .packet) source tables t)) (noPass (taken .refusal))
-      go true e = ap (λ (n : ℕ). passShown n (outcomeOf (taken .packet) source tables t)) (eqb-true _ _ e)
+          → passShown (taken .refusal) (placeOf (taken .refusal) (tables .rows)) (cond b (outcomeOf (taken .packet) source tables t) noOutcome)
+          ≡ cond b (passFrom (outcomeOf (taken .packet) source tables t)) (noPass (taken .refusal) (placeOf (taken .refusal) (tables .rows)))
+      go true e = ap (λ (n : ℕ). passShown n (placeOf n (tables .rows)) (outcomeOf (taken .packet) source tables t)) (eqb-true _ _ e)
       go false e = simp e
 
   abbrev unless : Bool → Outcome

@@ -26,9 +26,9 @@ onLeg o = cond (eqb (o .«leg_sent») 0) nothing (legPacket o)
 abbrev pub toProcessors : Outcome → Packet
 toProcessors o = cond (ltb (o .wanted) 64) nothing (o .packet)
 
--- What is shown of a pass under a refusal's number, where 0 is none.
-abbrev pub passShown : ℕ → Outcome → Pass
-passShown n o =
+-- What is shown of a pass under a refusal's number and place, where 0 is none.
+abbrev pub passShown : ℕ → ℕ → Outcome → Pass
+passShown n place o =
     record {
       refusal = n;
       errors = o .errors;
@@ -43,14 +43,15 @@ passShown n o =
       leg = onLeg o;
       registers = keptOf empty o;
       counters = cond (eqb n 0) (countedOf zeros o) zeros;
+      place = place;
     }
 
 -- "The one-router call returns registers and counters, begun from zeros."
 abbrev pub passFrom : Outcome → Pass
-passFrom o = passShown 0 o
+passFrom o = passShown 0 0 o
 
-abbrev pub noPass : ℕ → Pass
-noPass n =
+abbrev pub noPass : ℕ → ℕ → Pass
+noPass n place =
     record {
       refusal = n;
       errors = 0;
@@ -65,4 +66,5 @@ noPass n =
       leg = nothing;
       registers = empty;
       counters = zeros;
+      place = place;
     }

@@ -15,28 +15,35 @@ use steps::errors::stamped_of;
 use steps::wants::by_rows;
 use steps::wants::looked_up;
 use steps::wants::wanted_given;
+use tables::accept::MOST_ROWS;
 use tables::accept::codes_fine;
 use tables::accept::route_fine;
+use tables::accept::routes_fine;
 use tables::accept::rows_fine;
+use tables::places::route_place;
 use tables::size::chips;
 use tables::size::size_fine;
 ghost use mathlib.Core.Path.{_≡_};
-ghost use mathlib.Core.Bool.{cond};
+ghost use mathlib.Core.Bool.{cond, not, _&&_};
 ghost use lib.Dec.{eqb};
+ghost use lib.ListN.{length};
+ghost use Prim.Native.Nat.{_/_, _≤_};
 ghost use Rattle.packet.specs.Refusal.{firstOf};
+ghost use Rattle.tables.specs.Accept.{fewRows, routesFine, routeFine, rowsFine};
 ghost use Rattle.tables.specs.Tables.{chipTables};
 ghost use Rattle.steps.specs.Deciding.{Checked, noOutcome, outcomeOf};
-ghost use Rattle.router.specs.Call.{rowsLent, settingFine, sourceFine, settingRefusals, checkedOf, passOf};
+ghost use Rattle.router.specs.Call.{settingFine, sourceFine, settingRefusals, checkedOf, placeOf, passOf};
 
-// One pass of one router. Refusals, the first that applies: 7 size, 6 phase, ready set or monitor, 5 rows or fixed route, 11 codes,
-// 1 source, 2 length, 4 NN with T = 1.
+// One pass of one router. Refusals, the first that applies: 7 size, 6 phase, ready set or monitor, 16 too many rows, 17 route bits,
+// 18 fixed route, 11 codes, 1 source, 2 length, 4 NN with T = 1.
 pub fn pass(bytes: &[u8], source: u32, rows: &[u32], codes: &[u8], fixed: u32, t: Setting) -> Pass
     ensures { λ r. ⌜ r ≡ passOf (now (bytes .entry)) source (chipTables (now (rows .entry)) (now (codes .entry)) fixed) t ⌝ }
 {
     let taken = checked(bytes, source, rows, codes, fixed, t);
     let p = taken.packet;
     let o = outcome_unless(taken.refusal, p, source, rows, codes, fixed, t);
-    shown(taken.refusal, o)
+    let place = place_of(taken.refusal, rows);
+    shown(taken.refusal, place, o)
 }
 
 // What a pass does, or nothing where it is refused. The steps stand here as in `outcome_of`, which the mesh calls: with two callers
@@ -94,7 +101,7 @@ fn setting_refusal(source: u32, rows: &[u32], codes: &[u8], fixed: u32, t: Setti
         return 6;
     }
     if !rows_lent(rows, fixed) {
-        return 5;
+        return rows_number(rows);
     }
     if !codes_fine(codes, chips(t.width, t.height)) {
         return 11;
@@ -105,10 +112,35 @@ fn setting_refusal(source: u32, rows: &[u32], codes: &[u8], fixed: u32, t: Setti
     0
 }
 
+// One chip's rows and its fixed route at once: where they are fine, which is mostly so, nothing more is asked.
 fn rows_lent(rows: &[u32], fixed: u32) -> bool
-    ensures { λ r. ⌜ r ≡ rowsLent (now (rows .entry)) fixed ⌝ }
+    ensures { λ r. ⌜ r ≡ (rowsFine (now (rows .entry)) && routeFine fixed) ⌝ }
 {
     rows_fine(rows) & route_fine(fixed)
+}
+
+// Which of them is not fine, the first that applies.
+fn rows_number(rows: &[u32]) -> u32
+    ensures { λ r. ⌜ r ≡ cond (not (fewRows (length (now (rows .entry)) / 3))) 16 (cond (not (routesFine (now (rows .entry)))) 17 18) ⌝ }
+{
+    if MOST_ROWS < rows.len() / 3 {
+        return 16;
+    }
+    if !routes_fine(rows) {
+        return 17;
+    }
+    18
+}
+
+// Where a refusal holds: the first bad row for 17, and 0 for all others.
+fn place_of(refusal: u32, rows: &[u32]) -> u32
+    requires { ⌜ (refusal ≡ 17 → length (now rows) / 3 ≤ 1024) ⌝ }
+    ensures { λ r. ⌜ r ≡ placeOf refusal (now (rows .entry)) ⌝ }
+{
+    if refusal == 17 {
+        return route_place(rows) as u32;
+    }
+    0
 }
 
 fn setting_fine(t: Setting) -> bool

@@ -22,4 +22,5 @@ pub struct Pass {
     pub leg: Packet,
     pub registers: Registers,
     pub counters: Counters,
+    pub place: u32,
 }

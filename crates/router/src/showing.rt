@@ -19,11 +19,11 @@ ghost use Rattle.router.specs.Showing.{onLeg, toProcessors, packetsOf, p
 ghost use Rattle.kept.specs.Counting.{zeros, countedOf};
 ghost use Rattle.steps.specs.Deciding.{noOutcome};
 
-// All that a pass did, its registers and counters begun from zeros; or, of a pass that was refused, the number of the
-// refusal and zeros. What needs most room to be worked out comes first, what is mostly zeros last.
-pub fn shown(refusal: u32, o: Outcome) -> Pass
+// All that a pass did, its registers and counters begun from zeros; or, of a pass that was refused, the number and the
+// place of the refusal and zeros. What needs most room to be worked out comes first, what is mostly zeros last.
+pub fn shown(refusal: u32, place: u32, o: Outcome) -> Pass
     requires { ⌜ (o ≡ cond (eqb refusal 0) o noOutcome) × ((o .sent < 64) × ((o .dropped < 64) × (o .«leg_dropped» < 64))) ⌝ }
-    ensures { λ r. ⌜ r ≡ passShown refusal o ⌝ }
+    ensures { λ r. ⌜ r ≡ passShown refusal place o ⌝ }
 {
     let packets = packets_of(o);
     let leg = on_leg(o);
@@ -44,6 +44,7 @@ pub fn shown(refusal: u32, o: Outcome) -> Pass
         leg,
         registers,
         counters,
+        place,
     }
 }
 

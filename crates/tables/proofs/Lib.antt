@@ -7,4 +7,6 @@ pub mod RowByRow
 pub mod RowsByNumber
 pub mod Sizes
 pub mod Starts
+pub mod StartsFound
 pub mod Walking
+pub mod WrongPlaces

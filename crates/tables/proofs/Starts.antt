@@ -1,16 +1,16 @@
 -- Where each chip's rows start, number by number: what the test of all of them says of each, and what is known of all from those that are still
 -- to come.
 use mathlib.Core.Path.{_≡_, refl, sym, ap, _∙_, subst}
-use mathlib.Core.Bool.{Bool, true, false, _&&_, and-comm, and-false, and-assoc, and-eq-true-iff}
+use mathlib.Core.Bool.{Bool, true, false, not, _&&_, and-comm, and-false, and-assoc, and-eq-true-iff}
 use mathlib.Core.List.{List, [], _∷_}
 use Prim.Native.Nat.{ℕ, zero, suc, _+_, _-_, _<_, _≤_}
 use native.Mathlib.Nat.{add-zero, suc-add, le-of-eq}
 use native.Mathlib.Omega.{arith}
 use native.Mathlib.Numerals.{add-one}
-use lib.Dec.{eqb, leb}
+use lib.Dec.{eqb, ltb, leb}
 use lib.ListN.{length, getD, drop, drop-of-length-le}
 use lib.Seq.{drop-cons}
-use borrow.Author.Tests.{leb-true, leb-false, le-leb, lt-leb, eqb-true, eq-eqb}
+use borrow.Author.Tests.{leb-true, leb-false, le-leb, lt-leb, lt-ltb, le-ltb, eqb-true, eq-eqb}
 use Rattle.tables.specs.Accept.{neverFalling, startsRight, rowsFew, startsFine}
 
 -- ---- one number after another
@@ -39,6 +39,14 @@ leb-room a b = go (leb b (a + 1024)) refl
     go : (t : Bool) → leb b (a + 1024) ≡ t → leb (b - a) 1024 ≡ t
     go true e = let h : b ≤ a + 1024 = leb-true _ _ e in le-leb (b - a) 1024 (omega arith)
     go false e = let h : a + 1024 < b = leb-false _ _ e in lt-leb (b - a) 1024 (omega arith)
+
+-- and more than that
+pub more-rows : (a b : ℕ) → ltb (a + 1024) b ≡ not (leb (b - a) 1024)
+more-rows a b = go (leb b (a + 1024)) refl
+  where
+    go : (t : Bool) → leb b (a + 1024) ≡ t → ltb (a + 1024) b ≡ not (leb (b - a) 1024)
+    go true e = le-ltb (a + 1024) b (leb-true _ _ e) ∙ sym (ap not (leb-room a b ∙ e))
+    go false e = lt-ltb (a + 1024) b (leb-false _ _ e) ∙ sym (ap not (leb-room a b ∙ e))
 
 module _ (s : List ℕ) (i : ℕ) where
   climbs-step : i + 1 < length s

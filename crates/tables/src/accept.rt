@@ -10,7 +10,7 @@ ghost use Rattle.tables.specs.Rows.{rowsOf};
 ghost use Rattle.tables.specs.Accept.{routeFine, allRoutes, routesFine, fixedFine, rowsFine, allCodes, codesFine, aboveSeven, startsFine, SideBySide};
 
 // The most rows that a chip's table has.
-const MOST_ROWS: usize = 1024;
+pub const MOST_ROWS: usize = 1024;
 
 // The lowest route bit that names neither a link nor a processor.
 pub const ROUTES: u32 = 0x0400_0000;
@@ -182,7 +182,7 @@ fn wide_code(b: u8) -> u64
 }
 
 // A start as a number of the machine's width, so that 1,024 more does not wrap.
-fn wide(start: u32) -> usize
+pub fn wide(start: u32) -> usize
     ensures { λ r. ⌜ r ≡ start ⌝ }
 {
     start as usize

@@ -1,13 +1,11 @@
 -- `call::place_of` meets its contract: there are few rows where the refusal is 17, so that the row's number fits.
-use Prim.Native.Nat.{ℕ, _/_}
+use Prim.Native.Nat.{_+_, _/_}
 use mathlib.Core.Path.{_∙_}
-use mathlib.Core.Bool.{not}
 use native.Mathlib.Omega.{arith}
 use borrow.Author.Tests.{eq-eqb, ne-eqb}
-use lib.Dec.{ltb}
 use lib.ListN.{length}
 use Rattle.lists.proofs.Firsts.{first-most}
-use Rattle.tables.specs.Rows.{rowsOf, routeAt}
+use Rattle.tables.specs.Places.{rowWrong}
 use borrow.Author.Needs.{needs}
 use Rattle.fewer.proofs.call.place_of.Statement.{statement}
 use Rattle.fewer.proofs.call.place_of.Tie as tie
@@ -19,7 +17,7 @@ cast-result : tie.Need-cast-result
 cast-result c =
     let s = c .before .before .before in
     let few = s .pre (λ e. omega (arith, c .before .if1 .taken)) in
-    omega (arith, c .route-place .ensures, first-most (λ (i : ℕ). not (ltb (routeAt (rowsOf (s .args .rows .now)) i) 67108864)) (length (s .args .rows .now) / 3))
+    omega (arith, c .route-place .ensures, first-most (rowWrong (s .args .rows .now)) (length (s .args .rows .now) / 3 + 1))
 
 returns : tie.Need-returns
 returns c = c .route-place .ensures ∙ simp (eq-eqb (c .before .before .before .args .refusal) 17 (c .before .if1 .taken))

@@ -1,9 +1,9 @@
 use borrow.Author.Needs.{needs}
-use mathlib.Core.Path.{sym, ap, _∙_}
+use mathlib.Core.Path.{sym, ap, ap₂, _∙_}
 use Prim.Native.Nat.{_<_}
 use native.Mathlib.Nat.{mod-lt}
 use lib.Dec.{lit<}
-use Rattle.router.proofs.Inputs.{checked, passed}
+use Rattle.router.proofs.Inputs.{checked, passed, few-at-17}
 use Rattle.router.proofs.Shown.{answer-shown, unless-none, unless-sets}
 use Rattle.router.specs.Showing.{passShown}
 use Rattle.router.specs.Call.{passOf, answer}
@@ -24,19 +24,24 @@ outcome-unless-requires c κs =
     rw (c .before .checked .ensures ∙ t .packet) (mod-lt _ (lit< tt)) in
     checked _ _ (chipTables (a .rows .now) (a .codes .now) (a .fixed)) _ control (t .tests)
 
+place-of-requires : tie.Need-place-of-requires
+place-of-requires c κs =
+    let a = c .before .before .before .before .before .before .args in
+    λ e. few-at-17 (a .bytes .now) (a .source) (chipTables (a .rows .now) (a .codes .now) (a .fixed)) (a .t) (sym (ap (λ (x : Taken). x .refusal) (c .before .before .checked .ensures)) ∙ e)
+
 shown-requires : tie.Need-shown-requires
 shown-requires c κs =
-    let a = c .before .before .before .before .before .before .args in
-    let s = unless-sets (c .before .before .checked .result) (a .source) (chipTables (a .rows .now) (a .codes .now) (a .fixed)) (a .t) in
-    rw (c .outcome-unless .ensures) (unless-none (c .before .before .checked .result) (a .source) (chipTables (a .rows .now) (a .codes .now) (a .fixed)) (a .t), (s .sent, (s .dropped, s .lost)))
+    let a = c .before .before .before .before .before .before .before .args in
+    let s = unless-sets (c .before .before .before .checked .result) (a .source) (chipTables (a .rows .now) (a .codes .now) (a .fixed)) (a .t) in
+    rw (c .before .outcome-unless .ensures) (unless-none (c .before .before .before .checked .result) (a .source) (chipTables (a .rows .now) (a .codes .now) (a .fixed)) (a .t), (s .sent, (s .dropped, s .lost)))
 
 returns : tie.Need-returns
 unfolding passOf
 returns c =
-    let a = c .before .before .before .before .before .before .before .args in
-    c .shown .ensures ∙ ap (passShown _) (c .before .outcome-unless .ensures)
-    ∙ answer-shown (c .before .before .before .checked .result) (a .source) (chipTables (a .rows .now) (a .codes .now) (a .fixed)) (a .t)
-    ∙ ap (λ (x : Taken). answer x (a .source) (chipTables (a .rows .now) (a .codes .now) (a .fixed)) (a .t)) (c .before .before .before .checked .ensures)
+    let a = c .before .before .before .before .before .before .before .before .args in
+    c .shown .ensures ∙ ap₂ (passShown _) (c .before .place-of .ensures) (c .before .before .outcome-unless .ensures)
+    ∙ answer-shown (c .before .before .before .before .checked .result) (a .source) (chipTables (a .rows .now) (a .codes .now) (a .fixed)) (a .t)
+    ∙ ap (λ (x : Taken). answer x (a .source) (chipTables (a .rows .now) (a .codes .now) (a .fixed)) (a .t)) (c .before .before .before .before .checked .ensures)
 
 pub pass-spec : {M : Type 1} → statement M
-pass-spec = tie.close (tie.spec checked-requires outcome-unless-requires shown-requires returns)
+pass-spec = tie.close (tie.spec checked-requires outcome-unless-requires place-of-requires shown-requires returns)

@@ -1,8 +1,10 @@
-use borrow.Author.Needs.{needs}
 use mathlib.Core.Path.{sym, ap, _∙_}
-use Prim.Native.Nat.{ℕ}
-use borrow.Author.Tests.{not-false}
-use Rattle.tables.specs.Accept.{codesFine}
+use Prim.Native.Nat.{ℕ, _/_}
+use borrow.Author.Tests.{not-true, not-false}
+use lib.ListN.{length}
+use Rattle.tables.specs.Accept.{fewRows, routesFine, routeFine, codesFine}
+use Rattle.router.proofs.Inputs.{lent-number, all-fine}
+use borrow.Author.Needs.{needs}
 use Rattle.router.proofs.call.setting_refusal.Statement.{statement}
 use Rattle.router.proofs.call.setting_refusal.Tie as tie
 
@@ -21,8 +23,16 @@ returns-2 c = simp (rw (c .before .setting-fine .ensures) at (c .if2 .taken), rw
 rows-lent-requires : tie.Need-rows-lent-requires
 rows-lent-requires c κs = search needs
 
+rows-number-requires : tie.Need-rows-number-requires
+rows-number-requires c κs = search needs
+
 returns-3 : tie.Need-returns-3
-returns-3 c = simp (rw (c .before .rows-lent .ensures) at (c .if3 .taken), rw (c .before .before .before .setting-fine .ensures) at (c .before .before .if2 .left), rw (c .before .before .before .before .before .size-fine .ensures) at (c .before .before .before .before .if1 .left))
+returns-3 c =
+    let sized = sym (c .before .before .before .before .before .before .size-fine .ensures) ∙ not-false _ (c .before .before .before .before .before .if1 .left) in
+    let set = sym (c .before .before .before .before .setting-fine .ensures) ∙ not-false _ (c .before .before .before .if2 .left) in
+    let lent = sym (c .before .before .rows-lent .ensures) ∙ not-true _ (c .before .if3 .taken) in
+    let a = c .before .before .before .before .before .before .before .before .before .args in
+    c .rows-number .ensures ∙ simp (sized, set) (lent-number (fewRows (length (a .rows .now) / 3)) (routesFine (a .rows .now)) (routeFine (a .fixed)) _ lent)
 
 chips-requires : tie.Need-chips-requires
 chips-requires c κs = sym (c .before .before .before .before .before .size-fine .ensures) ∙ not-false _ (c .before .before .before .before .if1 .left)
@@ -31,16 +41,37 @@ codes-fine-requires : tie.Need-codes-fine-requires
 codes-fine-requires c κs = search needs
 
 returns-4 : tie.Need-returns-4
-returns-4 c = simp (rw (c .before .codes-fine .ensures ∙ ap (λ (n : ℕ). codesFine (c .before .before .before .before .before .before .before .before .before .before .before .args .codes .now) n) (c .before .before .chips .ensures)) at (c .if4 .taken), rw (c .before .before .before .before .rows-lent .ensures) at (c .before .before .before .if3 .left), rw (c .before .before .before .before .before .before .setting-fine .ensures) at (c .before .before .before .before .before .if2 .left), rw (c .before .before .before .before .before .before .before .before .size-fine .ensures) at (c .before .before .before .before .before .before .before .if1 .left))
+returns-4 c =
+    let a = c .before .before .before .before .before .before .before .before .before .before .before .args in
+    let sized = sym (c .before .before .before .before .before .before .before .before .size-fine .ensures) ∙ not-false _ (c .before .before .before .before .before .before .before .if1 .left) in
+    let set = sym (c .before .before .before .before .before .before .setting-fine .ensures) ∙ not-false _ (c .before .before .before .before .before .if2 .left) in
+    let lent = sym (c .before .before .before .before .rows-lent .ensures) ∙ not-false _ (c .before .before .before .if3 .left) in
+    let coded = sym (c .before .codes-fine .ensures ∙ ap (λ (n : ℕ). codesFine (a .codes .now) n) (c .before .before .chips .ensures)) ∙ not-true _ (c .if4 .taken) in
+    let each = all-fine (fewRows (length (a .rows .now) / 3)) (routesFine (a .rows .now)) (routeFine (a .fixed)) lent in
+    simp (sized, set, each .0, each .1 .0, each .1 .1, coded)
 
 source-fine-requires : tie.Need-source-fine-requires
 source-fine-requires c κs = search needs
 
 returns-5 : tie.Need-returns-5
-returns-5 c = simp (rw (c .before .source-fine .ensures) at (c .if5 .taken), rw (c .before .before .before .codes-fine .ensures ∙ ap (λ (n : ℕ). codesFine (c .before .before .before .before .before .before .before .before .before .before .before .before .before .args .codes .now) n) (c .before .before .before .before .chips .ensures)) at (c .before .before .if4 .left), rw (c .before .before .before .before .before .before .rows-lent .ensures) at (c .before .before .before .before .before .if3 .left), rw (c .before .before .before .before .before .before .before .before .setting-fine .ensures) at (c .before .before .before .before .before .before .before .if2 .left), rw (c .before .before .before .before .before .before .before .before .before .before .size-fine .ensures) at (c .before .before .before .before .before .before .before .before .before .if1 .left))
+returns-5 c =
+    let a = c .before .before .before .before .before .before .before .before .before .before .before .before .before .args in
+    let sized = sym (c .before .before .before .before .before .before .before .before .before .before .size-fine .ensures) ∙ not-false _ (c .before .before .before .before .before .before .before .before .before .if1 .left) in
+    let set = sym (c .before .before .before .before .before .before .before .before .setting-fine .ensures) ∙ not-false _ (c .before .before .before .before .before .before .before .if2 .left) in
+    let lent = sym (c .before .before .before .before .before .before .rows-lent .ensures) ∙ not-false _ (c .before .before .before .before .before .if3 .left) in
+    let coded = sym (c .before .before .before .codes-fine .ensures ∙ ap (λ (n : ℕ). codesFine (a .codes .now) n) (c .before .before .before .before .chips .ensures)) ∙ not-false _ (c .before .before .if4 .left) in
+    let each = all-fine (fewRows (length (a .rows .now) / 3)) (routesFine (a .rows .now)) (routeFine (a .fixed)) lent in
+    simp (sized, set, each .0, each .1 .0, each .1 .1, coded, sym (c .before .source-fine .ensures) ∙ not-true _ (c .if5 .taken))
 
 returns-6 : tie.Need-returns-6
-returns-6 c = simp (rw (c .before .source-fine .ensures) at (c .if5 .left), rw (c .before .before .before .codes-fine .ensures ∙ ap (λ (n : ℕ). codesFine (c .before .before .before .before .before .before .before .before .before .before .before .before .before .args .codes .now) n) (c .before .before .before .before .chips .ensures)) at (c .before .before .if4 .left), rw (c .before .before .before .before .before .before .rows-lent .ensures) at (c .before .before .before .before .before .if3 .left), rw (c .before .before .before .before .before .before .before .before .setting-fine .ensures) at (c .before .before .before .before .before .before .before .if2 .left), rw (c .before .before .before .before .before .before .before .before .before .before .size-fine .ensures) at (c .before .before .before .before .before .before .before .before .before .if1 .left))
+returns-6 c =
+    let a = c .before .before .before .before .before .before .before .before .before .before .before .before .before .args in
+    let sized = sym (c .before .before .before .before .before .before .before .before .before .before .size-fine .ensures) ∙ not-false _ (c .before .before .before .before .before .before .before .before .before .if1 .left) in
+    let set = sym (c .before .before .before .before .before .before .before .before .setting-fine .ensures) ∙ not-false _ (c .before .before .before .before .before .before .before .if2 .left) in
+    let lent = sym (c .before .before .before .before .before .before .rows-lent .ensures) ∙ not-false _ (c .before .before .before .before .before .if3 .left) in
+    let coded = sym (c .before .before .before .codes-fine .ensures ∙ ap (λ (n : ℕ). codesFine (a .codes .now) n) (c .before .before .before .before .chips .ensures)) ∙ not-false _ (c .before .before .if4 .left) in
+    let each = all-fine (fewRows (length (a .rows .now) / 3)) (routesFine (a .rows .now)) (routeFine (a .fixed)) lent in
+    simp (sized, set, each .0, each .1 .0, each .1 .1, coded, sym (c .before .source-fine .ensures) ∙ not-false _ (c .if5 .left))
 
 pub setting-refusal-spec : {M : Type 1} → statement M
 setting-refusal-spec =
@@ -51,6 +82,7 @@ setting-refusal-spec =
     setting-fine-requires
     returns-2
     rows-lent-requires
+    rows-number-requires
     returns-3
     chips-requires
     codes-fine-requires
