@@ -16,7 +16,8 @@ use Rattle.buffer.specs.Holding.{holdsMesh, StatesFine}
 use Rattle.lists.specs.Lists.{All}
 use Rattle.mesh.specs.Sound.{SoundMesh}
 use Rattle.buffer.specs.PassesInTurn.{arrival, Due, Passed}
-use Rattle.mesh.specs.Calls.{injectRefusals}
+use Rattle.mesh.specs.Calls.{injectRefusals, placeIn}
+use Rattle.mesh.specs.declared.Added.{Added}
 use Rattle.buffer.specs.Leaving.{Moves, injectLeft}
 use Rattle.buffer.proofs.HoldsMesh.{holds-head, words-enough}
 use Rattle.mesh.proofs.SoundSteps.{sound-injected}
@@ -27,11 +28,12 @@ use Rattle.mesh.proofs.Accepts.{InjectGoes, inject-goes}
 use Rattle.links.specs.Offsets.{widthAt, heightAt, stateAt}
 
 pub inject-refused : (t : Tables) (l log : List ℕ) (chip : ℕ) (bytes : List ℕ) (r : ℕ) → r ≡ firstOf (injectRefusals (holdsMesh l) (chipsOf l) chip t (length log) bytes) → (r ≡ 0 → ⊥)
-    → Moves l log (injectLeft l t (length log) chip bytes) (record { refusal = r; added = 0 }) l log
+    → (p : ℕ) → p ≡ placeIn t (chipsOf l) r → Moves l log (injectLeft l t (length log) chip bytes) (record { refusal = r; added = 0; place = p }) l log
 unfolding meshOf
-inject-refused t l log chip bytes r e some =
-    subst (λ (k : ℕ). Moves l log (injectLeft l t (length log) chip bytes) (record { refusal = k; added = 0 }) l log) (sym e)
-    (refused-leaves (firstOf (injectRefusals (holdsMesh l) (chipsOf l) chip t (length log) bytes)) (meshOf l) (injected t same (meshOf l) chip (record { packet = packetAt bytes; tag = tt })) (λ z. some (e ∙ z)) l log)
+inject-refused t l log chip bytes r e some p told =
+    let n = firstOf (injectRefusals (holdsMesh l) (chipsOf l) chip t (length log) bytes) in
+    subst (λ (a : Added). Moves l log (injectLeft l t (length log) chip bytes) a l log) (λ i. record { refusal = sym e i; added = 0; place = sym (told ∙ ap (placeIn t (chipsOf l)) e) i })
+    (refused-leaves n (placeIn t (chipsOf l) n) (meshOf l) (injected t same (meshOf l) chip (record { packet = packetAt bytes; tag = tt })) (λ z. some (e ∙ z)) l log)
 
 module _ (t : Tables) (l log : List ℕ) (chip : ℕ) (bytes : List ℕ) (none : firstOf (injectRefusals (holdsMesh l) (chipsOf l) chip t (length log) bytes) ≡ 0) where
   go : InjectGoes (holdsMesh l) (chipsOf l) chip t (length log) bytes
@@ -74,13 +76,13 @@ module _ (t : Tables) (l log : List ℕ) (chip : ℕ) (bytes : List ℕ) (none :
         states-left
         (subst (λ (k : ℕ). wordsOf l₁ ≤ k) (sym (p .long)) (subst (λ (k : ℕ). k ≤ length l) (λ i. wordsFor (sym (number widthAt (lit< tt)) i) (sym (number heightAt (lit< tt)) i)) (words-enough l (go .holds))))
 
-    pub inject-leaves : Moves l log (injectLeft l t (length log) chip bytes) (record { refusal = 0; added = n }) l₁ log₁
+    pub inject-leaves : Moves l log (injectLeft l t (length log) chip bytes) (record { refusal = 0; added = n; place = 0 }) l₁ log₁
     unfolding meshOf
     inject-leaves =
         let r = firstOf (injectRefusals (holdsMesh l) (chipsOf l) chip t (length log) bytes) in
-        let told = accepted-log r (meshOf l) after none log log₁ n (ap (λ (x : Going (Unit {0})). x .log) (p .going)) (p .behind) (p .room) (omega (arith, p .few, go .room)) in
+        let told = accepted-log r (placeIn t (chipsOf l) r) (meshOf l) after none log log₁ n (ap (λ (x : Going (Unit {0})). x .log) (p .going)) (p .behind) (p .room) (omega (arith, p .few, go .room)) in
         record {
           answered = told .0;
-          buffer = accepted-leaves r (meshOf l) after none l l₁ (ap (λ (x : Going (Unit {0})). x .mesh) (p .going)) holds-left (p .long) (p .past);
+          buffer = accepted-leaves r (placeIn t (chipsOf l) r) (meshOf l) after none l l₁ (ap (λ (x : Going (Unit {0})). x .mesh) (p .going)) holds-left (p .long) (p .past);
           logged = told .1;
         }

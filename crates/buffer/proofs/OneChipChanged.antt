@@ -63,12 +63,12 @@ module _ (l : List ℕ) (chip : ℕ) (h : There l chip) (ys : List ℕ) (sized :
       go (inr (inr f)) = by (chipWords c l) (part-before (chipPlace chip) chipLong ys l (h .fits) sized (chipPlace c) chipLong (omega arith)) old
 
   -- an accepted call that changes one chip, to a sound mesh
-  pub chip-leaves : (r : ℕ) → r ≡ 0 → (g : Going (Unit {0})) → meshOf (putBack (chipPlace chip) chipLong ys l) ≡ g .mesh → SoundMesh (g .mesh) → Leaves l (putBack (chipPlace chip) chipLong ys l) (unless r (meshOf l) g)
+  pub chip-leaves : (r : ℕ) → r ≡ 0 → (g : Going (Unit {0})) → meshOf (putBack (chipPlace chip) chipLong ys l) ≡ g .mesh → SoundMesh (g .mesh) → Leaves l (putBack (chipPlace chip) chipLong ys l) (unless r 0 (meshOf l) g)
   chip-leaves r none g mesh sound =
       let long = length-back (chipPlace chip) chipLong ys l (h .fits) sized in
       let words : wordsOf changed ≤ length changed =
       subst (λ (k : ℕ). wordsOf changed ≤ k) (sym long) (subst (λ (k : ℕ). k ≤ length l) (λ i. wordsFor (sym (number widthAt (lit< tt)) i) (sym (number heightAt (lit< tt)) i)) (words-enough l (h .holds))) in
-      accepted-leaves r (meshOf l) g none l changed mesh (sound-holds changed (subst SoundMesh (sym mesh) sound) states-changed words) long
+      accepted-leaves r 0 (meshOf l) g none l changed mesh (sound-holds changed (subst SoundMesh (sym mesh) sound) states-changed words) long
       (drop-behind (chipPlace chip) chipLong ys l (h .fits) sized (wordsOf l) (omega (arith, h .near)))
 
 -- ---- a link taken up or down
@@ -93,7 +93,7 @@ module _ (l : List ℕ) (chip link : ℕ) (up : Bool) where
   pub link-refused : (r : ℕ) → r ≡ firstOf (numberRefusals (holdsMesh l) (chipsOf l) chip link 6) → (r ≡ 0 → ⊥) → (r ≡ linkLeft l chip link up .refusal) × Leaves l l (linkLeft l chip link up)
   unfolding meshOf
   link-refused r e some =
-      let f = refused-leaves (firstOf (numberRefusals (holdsMesh l) (chipsOf l) chip link 6)) (meshOf l) (record { mesh = withLink (meshOf l) chip link up; log = [] }) (λ z. some (e ∙ z)) l [] in
+      let f = refused-leaves (firstOf (numberRefusals (holdsMesh l) (chipsOf l) chip link 6)) 0 (meshOf l) (record { mesh = withLink (meshOf l) chip link up; log = [] }) (λ z. some (e ∙ z)) l [] in
       (e ∙ ap (λ (a : Added). a .refusal) (f .answered), f .buffer)
 
   pub link-leaves : firstOf (numberRefusals (holdsMesh l) (chipsOf l) chip link 6) ≡ 0
@@ -116,7 +116,7 @@ module _ (l : List ℕ) (chip link : ℕ) (up : Bool) where
         counters = sym (mesh-chip l chip (h .0 .near)) i .counters;
         lines = set (sym (mesh-chip l chip (h .0 .near)) i .lines) link (line i);
       })) in (
-        accepted-refusal (firstOf (numberRefusals (holdsMesh l) (chipsOf l) chip link 6)) (meshOf l) (record { mesh = withLink (meshOf l) chip link up; log = [] }) none,
+        accepted-refusal (firstOf (numberRefusals (holdsMesh l) (chipsOf l) chip link 6)) 0 (meshOf l) (record { mesh = withLink (meshOf l) chip link up; log = [] }) none,
         chip-leaves l chip (h .0) ys sized states (firstOf (numberRefusals (holdsMesh l) (chipsOf l) chip link 6)) none (record { mesh = withLink (meshOf l) chip link up; log = [] }) mesh (sound-linked (holds-sound l (h .0 .holds)) chip link up (h .0 .near) (h .1)),
       )
     where

@@ -56,7 +56,7 @@ module _ (l : List ℕ) (chip r : ℕ) (e : r ≡ firstOf (chipRefusals (holdsMe
   pub registers-refused : (r ≡ 0 → ⊥) → (none : Registers) → none ≡ empty → (record { refusal = r; registers = none } ≡ registersRead (holdsMesh l) (meshOf l) chip) × Leaves l l (registersLeft l chip)
   unfolding meshOf
   registers-refused some none z =
-      let f = refused-leaves (firstOf (chipRefusals (holdsMesh l) (chipsOf l) chip)) (meshOf l) (record { mesh = withEmpty (meshOf l) chip; log = [] }) (λ k. some (e ∙ k)) l [] in (
+      let f = refused-leaves (firstOf (chipRefusals (holdsMesh l) (chipsOf l) chip)) 0 (meshOf l) (record { mesh = withEmpty (meshOf l) chip; log = [] }) (λ k. some (e ∙ k)) l [] in (
         (λ i. record { refusal = e i; registers = (z ∙ sym (ap (λ (b : Bool). cond b (chipOf (meshOf l) chip .registers) empty) (ne-eqb _ 0 (λ k. some (e ∙ k))))) i }),
         f .buffer,
       )

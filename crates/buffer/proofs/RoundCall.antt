@@ -20,7 +20,8 @@ use Rattle.mesh.specs.Sound.{Arrives, SoundLine, SoundChip, SoundMesh}
 use Rattle.mesh.specs.Weights.{onLine, onChip, inFlight}
 use Rattle.buffer.specs.Aside.{AsideUpto}
 use Rattle.buffer.specs.PassesInTurn.{asideFrom, goingIn, DueAside, Passed}
-use Rattle.mesh.specs.Calls.{Lent, roundRefusals}
+use Rattle.mesh.specs.Calls.{Lent, roundRefusals, placeIn}
+use Rattle.mesh.specs.declared.Added.{Added}
 use Rattle.buffer.specs.Leaving.{Moves, roundLeft, overWords}
 use Rattle.lists.proofs.Alls.{all-getD, all-weaken}
 use Rattle.lists.proofs.Totals.{total-ones, total-most}
@@ -72,11 +73,12 @@ module _ (t : Tables) (l log : List ℕ) where
   round-holds none = round-goes (holdsMesh l) (chipsOf l) (inFlight (meshOf l)) t (length log) none .holds
 
   pub round-refused : (r : ℕ) → r ≡ firstOf (roundRefusals (holdsMesh l) (chipsOf l) (inFlight (meshOf l)) t (length log)) → (r ≡ 0 → ⊥)
-      → Moves l log (roundLeft l t (length log)) (record { refusal = r; added = 0 }) l log
+      → (p : ℕ) → p ≡ placeIn t (chipsOf l) r → Moves l log (roundLeft l t (length log)) (record { refusal = r; added = 0; place = p }) l log
   unfolding meshOf
-  round-refused r e some =
-      subst (λ (k : ℕ). Moves l log (roundLeft l t (length log)) (record { refusal = k; added = 0 }) l log) (sym e)
-      (refused-leaves (firstOf (roundRefusals (holdsMesh l) (chipsOf l) (inFlight (meshOf l)) t (length log))) (meshOf l) (rounded t same (meshOf l)) (λ z. some (e ∙ z)) l log)
+  round-refused r e some p told =
+      let n = firstOf (roundRefusals (holdsMesh l) (chipsOf l) (inFlight (meshOf l)) t (length log)) in
+      subst (λ (a : Added). Moves l log (roundLeft l t (length log)) a l log) (λ i. record { refusal = sym e i; added = 0; place = sym (told ∙ ap (placeIn t (chipsOf l)) e) i })
+      (refused-leaves n (placeIn t (chipsOf l) n) (meshOf l) (rounded t same (meshOf l)) (λ z. some (e ∙ z)) l log)
 
 module _ (t : Tables) (l log : List ℕ) (none : firstOf (roundRefusals (holdsMesh l) (chipsOf l) (inFlight (meshOf l)) t (length log)) ≡ 0) (l₁ : List ℕ) (u : AsideUpto (chipsOf l) (chipsOf l) l l₁) where
   go : RoundGoes (holdsMesh l) (chipsOf l) (inFlight (meshOf l)) t (length log)
@@ -165,10 +167,10 @@ module _ (t : Tables) (l log : List ℕ) (none : firstOf (roundRefusals (holdsMe
         ∙ subst (λ (k : ℕ). drop k l₂ ≡ drop k l₁) (λ i. wordsFor (number widthAt (lit< tt) i) (number heightAt (lit< tt) i)) (p .past)
         ∙ u .past
 
-    pub round-leaves : Moves l log (roundLeft l t (length log)) (record { refusal = 0; added = n }) (overWords l₂) log₂
+    pub round-leaves : Moves l log (roundLeft l t (length log)) (record { refusal = 0; added = n; place = 0 }) (overWords l₂) log₂
     unfolding meshOf
     round-leaves =
         let r = firstOf (roundRefusals (holdsMesh l) (chipsOf l) (inFlight (meshOf l)) t (length log)) in
         let g = rounded t same (meshOf l) in
-        let told = accepted-log r (meshOf l) g none log log₂ n (ap (λ (x : Going (Unit {0})). x .log) going) (p .behind) (p .room) (omega (arith, p .few, arrived, go .room)) in
-        record { answered = told .0; buffer = accepted-leaves r (meshOf l) g none l (overWords l₂) mesh-left holds-left long-left past-left; logged = told .1 }
+        let told = accepted-log r (placeIn t (chipsOf l) r) (meshOf l) g none log log₂ n (ap (λ (x : Going (Unit {0})). x .log) going) (p .behind) (p .room) (omega (arith, p .few, arrived, go .room)) in
+        record { answered = told .0; buffer = accepted-leaves r (placeIn t (chipsOf l) r) (meshOf l) g none l (overWords l₂) mesh-left holds-left long-left past-left; logged = told .1 }

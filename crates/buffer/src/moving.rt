@@ -4,6 +4,7 @@ use super::arriving::pass_chips;
 use super::aside::set_aside;
 use super::going::pass_one;
 use super::refusing::inject_refusal;
+use super::refusing::place_told;
 use super::refusing::round_refusal;
 use super::testing::Tested;
 use super::testing::test;
@@ -24,8 +25,8 @@ ghost use Rattle.buffer.specs.Leaving.{Moves, injectLeft, roundLeft, ove
 ghost use Rattle.buffer.specs.Testing.{testedOf};
 ghost use Rattle.links.specs.Offsets.{elapsedAt, headerLong};
 
-// Passes a local packet at a chip, at once. Refusals, the first that applies: 8 no mesh, 9 chip, 5 rows or fixed routes,
-// 11 codes, 10 log, 2 length, 4 NN with T = 1.
+// Passes a local packet at a chip, at once. Refusals, the first that applies: 8 no mesh, 9 chip, 15 starts, 16 too
+// many rows, 17 route bits, 18 fixed routes, 11 codes, 10 log, 2 length, 4 NN with T = 1.
 pub fn inject(
     mesh: &mut [u32],
     log: &mut [u32],
@@ -43,7 +44,7 @@ pub fn inject(
 }
 
 // Passes all that is in flight; then, after each F rounds, the phase steps on. Refusals, the first that applies: 8 no mesh,
-// 5 rows or fixed routes, 11 codes, 10 log.
+// 15 starts, 16 too many rows, 17 route bits, 18 fixed routes, 11 codes, 10 log.
 pub fn round(
     mesh: &mut [u32],
     log: &mut [u32],
@@ -75,7 +76,11 @@ pub fn inject_tested(
 {
     let refusal = inject_refusal(mesh, tested, log.len(), chip, bytes);
     if refusal != 0 {
-        return Added { refusal, added: 0 };
+        return Added {
+            refusal,
+            added: 0,
+            place: place_told(tested, refusal),
+        };
     }
     let taken = take(bytes);
     let p = taken.packet;
@@ -91,9 +96,11 @@ pub fn inject_tested(
         codes,
         fixed,
     );
+    let added = n as u32;
     Added {
         refusal: 0,
-        added: n as u32,
+        added,
+        place: 0,
     }
 }
 
@@ -112,15 +119,21 @@ pub fn round_tested(
 {
     let refusal = round_refusal(mesh, tested, log.len());
     if refusal != 0 {
-        return Added { refusal, added: 0 };
+        return Added {
+            refusal,
+            added: 0,
+            place: place_told(tested, refusal),
+        };
     }
     let all = chips(mesh[WIDTH], mesh[HEIGHT]);
     set_aside(mesh, all);
     let n = pass_chips(mesh, log, all, rows, starts, codes, fixed);
     round_over(mesh);
+    let added = n as u32;
     Added {
         refusal: 0,
-        added: n as u32,
+        added,
+        place: 0,
     }
 }
 

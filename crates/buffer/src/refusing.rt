@@ -11,9 +11,9 @@ ghost use Rattle.buffer.specs.Layout.{meshOf, chipsOf};
 ghost use Rattle.buffer.specs.Holding.{holdsMesh};
 ghost use Rattle.mesh.specs.Weights.{inFlight};
 ghost use Rattle.mesh.specs.Calls.{chipRefusals, numberRefusals};
-ghost use Rattle.buffer.specs.Testing.{injectNumber, roundNumber};
+ghost use Rattle.buffer.specs.Testing.{injectNumber, roundNumber, placeTold};
 
-// Injection: 8 no mesh, 9 chip, 5 rows or fixed routes, 11 codes, 10 log, 2 length, 4 NN with T = 1.
+// Injection: 8 no mesh, 9 chip, 15 starts, 16 too many rows, 17 route bits, 18 fixed routes, 11 codes, 10 log, 2 length, 4 NN with T = 1.
 pub fn inject_refusal(mesh: &[u32], tested: Tested, room: usize, chip: u32, bytes: &[u8]) -> u32
     requires { ⌜ tested .holds ≡ holdsMesh (now mesh) ⌝ }
     ensures { λ r. ⌜ r ≡ injectNumber tested (chipsOf (now (mesh .entry))) chip room (now (bytes .entry)) ⌝ }
@@ -33,7 +33,7 @@ pub fn inject_refusal(mesh: &[u32], tested: Tested, room: usize, chip: u32, byte
     packet_refusal(bytes)
 }
 
-// A round: 8 no mesh, 5 rows or fixed routes, 11 codes, 10 log.
+// A round: 8 no mesh, 15 starts, 16 too many rows, 17 route bits, 18 fixed routes, 11 codes, 10 log.
 pub fn round_refusal(mesh: &[u32], tested: Tested, room: usize) -> u32
     requires { ⌜ tested .holds ≡ holdsMesh (now mesh) ⌝ }
     ensures { λ r. ⌜ r ≡ roundNumber tested (inFlight (meshOf (now (mesh .entry)))) room ⌝ }
@@ -48,6 +48,17 @@ pub fn round_refusal(mesh: &[u32], tested: Tested, room: usize) -> u32
         return 10;
     }
     0
+}
+
+// Where a refusal holds: the tables' own number has a place, and no other.
+pub fn place_told(tested: Tested, refusal: u32) -> u32
+    ensures { λ r. ⌜ r ≡ placeTold tested refusal ⌝ }
+{
+    if refusal == tested.tables {
+        tested.place
+    } else {
+        0
+    }
 }
 
 // A chip's registers: 8 no mesh, 9 chip.

@@ -11,19 +11,18 @@ use Rattle.packet.specs.Bytes.{controlAt, wordAt, packetAt, rightLength}
 use Rattle.packet.specs.Control.{isDirect}
 use Rattle.packet.specs.Refusal.{firstOf}
 use Rattle.packet.proofs.First.{not-refused}
-use Rattle.tables.specs.Accept.{allCodes, allFixed, routesFine, startsFine, fixedFine, codesFine}
+use Rattle.tables.specs.Accept.{allCodes, allFixed, startsRight, rowsFew, fixedFine, codesFine}
 use Rattle.mesh.specs.Steps.{Tables}
 use Rattle.mesh.specs.Sound.{Passable}
-use Rattle.mesh.specs.Calls.{Lent, rowsLent, injectRefusals, roundRefusals}
+use Rattle.mesh.specs.Calls.{Lent, injectRefusals, roundRefusals}
 
-lent-tables : (t : Tables) (chips : ℕ) → rowsLent (t .rows) (t .starts) (t .fixed) chips ≡ true → codesFine (t .codes) (chips * chips) ≡ true → Lent t chips
-lent-tables t chips rows codes =
-    let right = startsFine (t .starts) chips (length (t .rows) / 3) in
-    let whole = and-eq-true-iff (routesFine (t .rows) && right) (fixedFine (t .fixed) chips) .0 rows in
+lent-tables : (t : Tables) (chips : ℕ) → startsRight (t .starts) chips (length (t .rows) / 3) ≡ true → rowsFew (t .starts) ≡ true → fixedFine (t .fixed) chips ≡ true → codesFine (t .codes) (chips * chips) ≡ true
+    → Lent t chips
+lent-tables t chips right few fixed codes =
     record {
-      starts = and-eq-true-iff (routesFine (t .rows)) right .0 (whole .0) .1;
+      starts = and-eq-true-iff (startsRight (t .starts) chips (length (t .rows) / 3)) (rowsFew (t .starts)) .1 (right, few);
       codes = eqb-true _ _ (and-eq-true-iff (eqb (length (t .codes)) (chips * chips)) (allCodes (t .codes)) .0 codes .0);
-      fixed = eqb-true _ _ (and-eq-true-iff (eqb (length (t .fixed)) chips) (allFixed (t .fixed)) .0 (whole .1) .0);
+      fixed = eqb-true _ _ (and-eq-true-iff (eqb (length (t .fixed)) chips) (allFixed (t .fixed)) .0 fixed .0);
     }
 
 pub record RoundGoes (held : Bool) (chips flying : ℕ) (t : Tables) (size : ℕ) : Type 0 where
@@ -36,7 +35,7 @@ round-goes holds chips flying t room e =
     let fine = not-refused (roundRefusals holds chips flying t room) refl e in
     record {
       holds = not-false _ (fine 8);
-      lent = lent-tables t chips (not-false _ (fine 5)) (not-false _ (fine 11));
+      lent = lent-tables t chips (not-false _ (fine 15)) (not-false _ (fine 16)) (not-false _ (fine 18)) (not-false _ (fine 11));
       room = ltb-false _ _ (fine 10);
     }
 
@@ -68,7 +67,7 @@ inject-goes holds chips chip t room bytes e =
     record {
       holds = not-false _ (fine 8);
       there = ltb-true _ _ (not-false _ (fine 9));
-      lent = lent-tables t chips (not-false _ (fine 5)) (not-false _ (fine 11));
+      lent = lent-tables t chips (not-false _ (fine 15)) (not-false _ (fine 16)) (not-false _ (fine 18)) (not-false _ (fine 11));
       room = ltb-false _ _ (fine 10);
       whole = not-false _ (fine 2);
       passable = passable-at bytes (fine 4);

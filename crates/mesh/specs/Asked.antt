@@ -66,7 +66,7 @@ module _ {A : Type 0} where
   leftBy turn tag m (change (round t room)) = calls.rounding true t turn m room
   leftBy turn tag m (change (setLink chip link up)) = calls.linking true m chip link up
   leftBy turn tag m (change (readRegisters chip)) = calls.emptying true m chip
-  leftBy turn tag m (look l) = record { refusal = refusalOf (seenBy m l); mesh = m; log = [] }
+  leftBy turn tag m (look l) = record { refusal = refusalOf (seenBy m l); place = 0; mesh = m; log = [] }
 
   abbrev pub answerOf : (A → A) → A → Mesh A → Call → Answer
   answerOf turn tag m (change (inject chip bytes t room)) = ofAdded (calls.addedOf (calls.injecting true t turn m room chip bytes tag))

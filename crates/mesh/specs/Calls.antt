@@ -7,7 +7,8 @@ use lib.Dec.{eqb, ltb}
 use lib.ListN.{length, getD, drop, set}
 use Rattle.packet.specs.Bytes.{packetAt, nothing}
 use Rattle.packet.specs.Refusal.{Refusal, firstOf, refuse, packetRefusals}
-use Rattle.tables.specs.Accept.{routesFine, startsFine, fixedFine, codesFine}
+use Rattle.tables.specs.Accept.{startsRight, rowsFew, startsFine, routesFine, fixedFine, codesFine}
+use Rattle.tables.specs.Places.{startsPlace, crowdPlace, routePlace, fixedPlace}
 use Rattle.steps.specs.Errors.{flag}
 use Rattle.kept.specs.Keeping.{empty}
 use Rattle.mesh.specs.declared.Added.{Added}
@@ -21,15 +22,22 @@ use Rattle.mesh.specs.Mesh.{Chip, Mesh, fresh}
 use Rattle.mesh.specs.Steps.{Tables, Going, setOut, withChip, injected, rounded}
 use Rattle.mesh.specs.Weights.{inFlight}
 
--- ---- refusals: "Order: 8, 7, 9, 6, 5, 11, 10, 1, 2, .. 4, those that apply to the call". `holds` says whether the buffer holds a mesh.
+-- ---- refusals: "injection 8, 9, 15, 16, 17, 18, 11, 10, 2, 4; round 8, 15, 16, 17, 18, 11, 10". `holds` says whether the buffer holds a mesh.
 
--- 5: "over 1,024 rows for a chip, route bit 26 to 31 set, bad starts", "a fixed route with bits 26 to 31 set ..., and so is a wrong number of them"; 11: "P2P table of wrong
--- size, or a code above 7".
-abbrev pub rowsLent : List ℕ → List ℕ → List ℕ → ℕ → Bool
-rowsLent rows starts fixed chips = routesFine rows && startsFine starts chips (length rows / 3) && fixedFine fixed chips
-
+-- "15 bad starts, 16 too many rows, 17 route bits, in 5's old place and that order; a bad fixed route .. 18, after 17"; 11: "P2P table of wrong size, or a code above 7".
 abbrev pub tablesRefusals : Tables → ℕ → List Refusal
-tablesRefusals t chips = refuse (not (rowsLent (t .rows) (t .starts) (t .fixed) chips)) 5 ∷ refuse (not (codesFine (t .codes) (chips * chips))) 11 ∷ []
+tablesRefusals t chips =
+    refuse (not (startsRight (t .starts) chips (length (t .rows) / 3))) 15 ∷ refuse (not (rowsFew (t .starts))) 16 ∷ refuse (not (routesFine (t .rows))) 17
+    ∷ refuse (not (fixedFine (t .fixed) chips)) 18
+    ∷ refuse (not (codesFine (t .codes) (chips * chips))) 11
+    ∷ []
+
+-- "Each with the first place where it holds": "0 but for 15 to 18".
+abbrev pub placeIn : Tables → ℕ → ℕ → ℕ
+placeIn t chips refusal =
+    cond (eqb refusal 15) (startsPlace (t .starts) chips (length (t .rows) / 3))
+    (cond (eqb refusal 16) (crowdPlace (t .starts) chips)
+    (cond (eqb refusal 17) (routePlace (t .rows)) (cond (eqb refusal 18) (fixedPlace (t .fixed) chips) 0)))
 
 -- Tables that were accepted.
 pub record Lent (t : Tables) (chips : ℕ) : Type 0 where
@@ -60,15 +68,16 @@ counterRefusals holds chips chip counter = numberRefusals holds chips chip count
 
 -- ---- what a call leaves
 
--- The refusal or 0, the mesh, and the records added to the log.
+-- The refusal or 0, its place, the mesh, and the records added to the log.
 pub record Left (A : Type 0) : Type 0 where
   pub refusal : ℕ
+  pub place : ℕ
   pub mesh : Mesh A
   pub log : List ℕ
 
 -- "Injection and round answer how many were added."
 abbrev pub addedOf : {A : Type 0} → Left A → Added
-addedOf r = record { refusal = r .refusal; added = length (r .log) / 6 }
+addedOf r = record { refusal = r .refusal; added = length (r .log) / 6; place = r .place }
 
 -- "Log beyond the records written is untouched."
 abbrev pub loggedOn : List ℕ → List ℕ → List ℕ
@@ -89,19 +98,22 @@ module _ {A : Type 0} where
   lineOf m chip link = getD (chipOf m chip .lines) link idle
 
   -- "A refusal returns its number ..., and lent memory stays as it came."
-  abbrev pub unless : ℕ → Mesh A → Going A → Left A
-  unless refusal m g =
-      cond (eqb refusal 0) (record { refusal = 0; mesh = g .mesh; log = g .log }) (record { refusal = refusal; mesh = m; log = [] })
+  abbrev pub unless : ℕ → ℕ → Mesh A → Going A → Left A
+  unless refusal place m g =
+      cond (eqb refusal 0) (record { refusal = 0; place = 0; mesh = g .mesh; log = g .log }) (record { refusal = refusal; place = place; mesh = m; log = [] })
 
   -- ---- injection and round; a sending turns the tag of a packet, and an injected one begins with the tag that is given
 
   module _ (holds : Bool) (t : Tables) (turn : A → A) (m : Mesh A) (room : ℕ) where
     abbrev pub injecting : ℕ → List ℕ → A → Left A
     injecting chip bytes tag =
-        unless (firstOf (injectRefusals holds (many m) chip t room bytes)) m (injected t turn m chip (record { packet = packetAt bytes; tag = tag }))
+        let refusal = firstOf (injectRefusals holds (many m) chip t room bytes) in
+        unless refusal (placeIn t (many m) refusal) m (injected t turn m chip (record { packet = packetAt bytes; tag = tag }))
 
     abbrev pub rounding : Left A
-    rounding = unless (firstOf (roundRefusals holds (many m) (inFlight m) t room)) m (rounded t turn m)
+    rounding =
+        let refusal = firstOf (roundRefusals holds (many m) (inFlight m) t room) in
+        unless refusal (placeIn t (many m) refusal) m (rounded t turn m)
 
   -- ---- the calls that change one thing
 
@@ -116,14 +128,14 @@ module _ {A : Type 0} where
   -- "A link change sets the one directed link it names up or down, as asked, and nothing else".
   abbrev pub linking : Bool → Mesh A → ℕ → ℕ → Bool → Left A
   linking holds m chip link up =
-      unless (firstOf (linkRefusals holds (many m) chip link)) m (setOut (withLink m chip link up))
+      unless (firstOf (linkRefusals holds (many m) chip link)) 0 m (setOut (withLink m chip link up))
 
   abbrev pub withEmpty : Mesh A → ℕ → Mesh A
   withEmpty m chip = let c = chipOf m chip in withChip m chip (record { registers = empty; counters = c .counters; lines = c .lines })
 
   -- "Reading hands them over and empties them; empty ones are all zeros."
   abbrev pub emptying : Bool → Mesh A → ℕ → Left A
-  emptying holds m chip = unless (firstOf (chipRefusals holds (many m) chip)) m (setOut (withEmpty m chip))
+  emptying holds m chip = unless (firstOf (chipRefusals holds (many m) chip)) 0 m (setOut (withEmpty m chip))
 
   abbrev pub registersRead : Bool → Mesh A → ℕ → RegistersRead
   registersRead holds m chip =

@@ -2,11 +2,12 @@
 use kept::Registers;
 use packet::Packet;
 
-// What an injection and a round answer.
+// What an injection and a round answer; the place is that of a refusal from 15 to 18.
 #[repr(C)]
 pub struct Added {
     pub refusal: u32,
     pub added: u32,
+    pub place: u32,
 }
 
 // What reading a chip's registers answers.

@@ -16,6 +16,10 @@ pub record Size (width height : ℕ) : Type 0 where
 pub size : (width height : ℕ) → sizeFine width height ≡ true → Size width height
 size width height e = omega (arith, leb-true, simp and-eq-true-iff at e)
 
--- a mesh has at most 144 chips
+-- a mesh has at least one chip
+pub chips-some : (width height : ℕ) → sizeFine width height ≡ true → 1 ≤ height * width
+chips-some width height e = let s : Size width height = size width height e in mul-le-mul (s .height-low) (s .width-low)
+
+-- and at most 144
 pub chips-small : (width height : ℕ) → sizeFine width height ≡ true → height * width ≤ 144
 chips-small width height e = let s : Size width height = size width height e in mul-le-mul (s .height-high) (s .width-high)

@@ -3,7 +3,7 @@
 use mathlib.Core.Path.{_≡_, refl, sym, ap, _∙_, subst}
 use mathlib.Core.Bool.{Bool, true, false, not, _&&_, and-comm, and-false, and-assoc, and-eq-true-iff}
 use mathlib.Core.List.{List, [], _∷_}
-use Prim.Native.Nat.{ℕ, zero, suc, _+_, _-_, _<_, _≤_}
+use Prim.Native.Nat.{ℕ, zero, suc, _+_, _-_, _*_, _<_, _≤_}
 use native.Mathlib.Nat.{add-zero, suc-add, le-of-eq}
 use native.Mathlib.Omega.{arith}
 use native.Mathlib.Numerals.{add-one}
@@ -121,6 +121,7 @@ climb-up s c (suc d) e h =
 
 record Parts (starts : List ℕ) (chips rows : ℕ) : Type 0 where
   long : length starts ≡ chips + 1
+  first : getD starts 0 0 ≡ 0
   top : getD starts chips 0 ≡ rows
   rising : climbs starts ≡ true
 
@@ -133,7 +134,7 @@ module _ (starts : List ℕ) (chips rows c : ℕ) (fine : startsFine starts chip
       let apart = and-eq-true-iff (startsRight starts chips rows) (rowsFew starts) .0 fine in
       let t = and-eq-true-iff (long && first && last) (neverFalling starts) .0 (apart .0) in
       let u = and-eq-true-iff (long && first) last .0 (t .0) in
-      record { long = eqb-true _ _ (and-eq-true-iff long first .0 (u .0) .0); top = eqb-true _ _ (u .1); rising = climbs-apart starts ∙ simp (t .1, apart .1) }
+      record { long = eqb-true _ _ (and-eq-true-iff long first .0 (u .0) .0); first = eqb-true _ _ (and-eq-true-iff long first .0 (u .0) .1); top = eqb-true _ _ (u .1); rising = climbs-apart starts ∙ simp (t .1, apart .1) }
 
   pub starts-one-more : length starts ≡ chips + 1
   starts-one-more = parts .long
@@ -152,3 +153,12 @@ module _ (starts : List ℕ) (chips rows c : ℕ) (fine : startsFine starts chip
   -- at most 1,024 rows a chip
   pub start-few : c < chips → getD starts (c + 1) 0 - getD starts c 0 ≤ 1024
   start-few h = climb-at starts c (parts .rising) (omega (arith, parts .long)) .few
+
+-- so that there are at most 1,024 rows for each chip before a start
+pub start-most : (starts : List ℕ) (chips rows : ℕ) → startsFine starts chips rows ≡ true → (c : ℕ) → c ≤ chips → getD starts c 0 ≤ c * 1024
+start-most starts chips rows fine zero h = omega (arith, parts starts chips rows 0 fine .first)
+start-most starts chips rows fine (suc c) h =
+    omega (arith, start-most starts chips rows fine c (omega arith), start-few starts chips rows c fine h, ap (λ (k : ℕ). getD starts k 0) (add-one c))
+
+pub rows-most : (starts : List ℕ) (chips rows : ℕ) → startsFine starts chips rows ≡ true → rows ≤ chips * 1024
+rows-most starts chips rows fine = omega (arith, start-most starts chips rows fine chips (omega arith), parts starts chips rows 0 fine .top)

@@ -9,11 +9,11 @@ use lib.Dec.{eqb, ltb, leb}
 use lib.ListN.{length, getD}
 use borrow.Author.Tests.{leb-true, le-leb, ltb-true, lt-ltb, le-ltb, ltb-false, eqb-true, eq-eqb, ne-eqb, not-false, not-true}
 use Rattle.lists.specs.Firsts.{Exact}
-use Rattle.lists.proofs.Firsts.{exact, lt-or-ge}
+use Rattle.lists.proofs.Firsts.{exact, exact-fine, exact-not, lt-or-ge}
 use mathlib.Core.Logic.{⊎-elim}
 use Rattle.tables.specs.Rows.{Entry, rowsOf, routeAt, blankEntry}
 use Rattle.tables.specs.Accept.{routeFine, fewRows, allRoutes, routesFine, allFixed, fixedFine, neverFalling, startsRight, rowsFew}
-use Rattle.tables.specs.Places.{startWrong, crowded, rowWrong, fixedWrong, PlacesExact}
+use Rattle.tables.specs.Places.{startWrong, startsPlace, crowded, crowdPlace, rowWrong, fixedWrong, PlacesExact}
 use Rattle.tables.proofs.RowsByNumber.{rows-many}
 use Rattle.tables.proofs.StartsFound.{one-less, not-first}
 
@@ -175,6 +175,25 @@ module _ (starts : List ℕ) (chips rows : ℕ) (some : 1 ≤ chips) where
 
   pub starts-exact : Exact (startWrong starts chips rows) (chips + 1) (startsRight starts chips rows)
   starts-exact = exact _ (chips + 1) (startsRight starts chips rows) right-none none-right
+
+  -- so where a walk stops says whether they are right
+  pub right-told : (p : ℕ) → p ≡ startsPlace starts chips rows → chips < p → startsRight starts chips rows ≡ true
+  right-told p e h = exact-fine (startWrong starts chips rows) (chips + 1) _ starts-exact (omega arith)
+
+  pub wrong-told : (p : ℕ) → p ≡ startsPlace starts chips rows → p ≤ chips → startsRight starts chips rows ≡ false
+  wrong-told p e h = exact-not (startWrong starts chips rows) (chips + 1) _ starts-exact (omega arith)
+
+  pub right-long : startsRight starts chips rows ≡ true → length starts ≡ chips + 1
+  right-long e =
+      let t = and-eq-true-iff (long && first && last) (neverFalling starts) .0 e in
+      eqb-true _ _ (and-eq-true-iff long first .0 (and-eq-true-iff (long && first) last .0 (t .0) .0) .0)
+
+module _ (starts : List ℕ) (chips : ℕ) (long : length starts ≡ chips + 1) where
+  pub few-told : (c : ℕ) → c ≡ crowdPlace starts chips → chips ≤ c → rowsFew starts ≡ true
+  few-told c e h = exact-fine (crowded starts) chips _ (crowd-exact starts chips long) (omega arith)
+
+  pub many-told : (c : ℕ) → c ≡ crowdPlace starts chips → c < chips → rowsFew starts ≡ false
+  many-told c e h = exact-not (crowded starts) chips _ (crowd-exact starts chips long) (omega arith)
 
 pub places-exact : PlacesExact
 places-exact = record { starts = starts-exact; crowd = crowd-exact; routes = route-exact; fixed = fixed-exact }

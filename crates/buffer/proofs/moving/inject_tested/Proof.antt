@@ -3,7 +3,7 @@ use mathlib.Core.Path.{_∙_, sym, ap}
 use lib.ListN.{length}
 use Rattle.mesh.specs.Steps.{tablesOf}
 use Rattle.buffer.specs.declared.testing.Tested.{Tested}
-use Rattle.buffer.proofs.Refusals.{inject-number}
+use Rattle.buffer.proofs.Refusals.{inject-number, inject-place}
 use Rattle.buffer.proofs.InjectCall.{inject-refused, taken-packet, inject-due, inject-leaves}
 use Rattle.buffer.proofs.moving.inject_tested.Statement.{statement}
 use Rattle.buffer.proofs.moving.inject_tested.Tie as tie
@@ -11,14 +11,17 @@ use Rattle.buffer.proofs.moving.inject_tested.Tie as tie
 inject-refusal-requires : tie.Need-inject-refusal-requires
 inject-refusal-requires c κs = ap (λ (x : Tested). x .holds) (c .before .before .before .before .before .before .before .before .pre)
 
+place-told-requires : tie.Need-place-told-requires
+place-told-requires c κs = search needs
+
 same-length : tie.Need-same-length
 same-length c = search needs
 
 returns : tie.Need-returns
 returns c =
-    let s = c .before .before .before .before .before .before .before .before .before .before in
+    let s = c .before .before .before .before .before .before .before .before .before .before .before in
     let t = tablesOf (s .args .rows .now) (s .args .starts .now) (s .args .codes .now) (s .args .fixed .now) in
-    inject-refused t (s .args .mesh .now) (s .args .log .now) (s .args .chip) (s .args .bytes .now) _ (c .before .inject-refusal .ensures ∙ inject-number (s .args .mesh .now) t (s .args .tested) (s .pre) (s .args .chip) (length (s .args .log .now)) (s .args .bytes .now)) (c .if1 .taken)
+    inject-refused t (s .args .mesh .now) (s .args .log .now) (s .args .chip) (s .args .bytes .now) _ (c .before .before .inject-refusal .ensures ∙ inject-number (s .args .mesh .now) t (s .args .tested) (s .pre) (s .args .chip) (length (s .args .log .now)) (s .args .bytes .now)) (c .before .if1 .taken) _ (c .place-told .ensures ∙ inject-place (s .args .mesh .now) t (s .args .tested) (s .pre) (s .args .chip) (length (s .args .log .now)) (s .args .bytes .now) _ (c .before .before .inject-refusal .ensures) (c .before .if1 .taken))
 
 take-requires : tie.Need-take-requires
 take-requires c κs = search needs
@@ -30,8 +33,8 @@ pass-one-requires c κs =
     let whole = taken-packet t (s .args .mesh .now) (s .args .log .now) (s .args .chip) (s .args .bytes .now) (sym (c .before .before .before .before .before .inject-refusal .ensures ∙ inject-number (s .args .mesh .now) t (s .args .tested) (s .pre) (s .args .chip) (length (s .args .log .now)) (s .args .bytes .now)) ∙ c .before .before .before .before .if1 .left) (c .before .before .before .take .result) (c .before .before .before .take .ensures) in
     rw whole (inject-due t (s .args .mesh .now) (s .args .log .now) (s .args .chip) (s .args .bytes .now) (sym (c .before .before .before .before .before .inject-refusal .ensures ∙ inject-number (s .args .mesh .now) t (s .args .tested) (s .pre) (s .args .chip) (length (s .args .log .now)) (s .args .bytes .now)) ∙ c .before .before .before .before .if1 .left))
 
-cast-t22 : tie.Need-cast-t22
-cast-t22 c = search needs
+cast-added : tie.Need-cast-added
+cast-added c = search needs
 
 same-length-2 : tie.Need-same-length-2
 same-length-2 c = search needs
@@ -51,11 +54,12 @@ inject-tested-spec =
     tie.close
     (tie.spec
     inject-refusal-requires
+    place-told-requires
     same-length
     returns
     take-requires
     pass-one-requires
-    cast-t22
+    cast-added
     same-length-2
     same-length-3
     returns-2)

@@ -4,7 +4,7 @@ use native.Mathlib.Omega.{arith}
 use lib.ListN.{length}
 use Rattle.mesh.specs.Steps.{tablesOf}
 use Rattle.buffer.specs.declared.testing.Tested.{Tested}
-use Rattle.buffer.proofs.Refusals.{round-number}
+use Rattle.buffer.proofs.Refusals.{round-number, round-place}
 use Rattle.buffer.proofs.HoldsMesh.{holds-size, words-enough, few-held}
 use Rattle.buffer.proofs.Headers.{chips-kept}
 use Rattle.buffer.proofs.RoundCall.{round-holds, round-refused, round-due, over-requires, count-small, round-leaves}
@@ -14,14 +14,17 @@ use Rattle.buffer.proofs.moving.round_tested.Tie as tie
 round-refusal-requires : tie.Need-round-refusal-requires
 round-refusal-requires c κs = ap (λ (x : Tested). x .holds) (c .before .before .before .before .before .before .before .pre)
 
+place-told-requires : tie.Need-place-told-requires
+place-told-requires c κs = search needs
+
 same-length : tie.Need-same-length
 same-length c = search needs
 
 returns : tie.Need-returns
 returns c =
-    let s = c .before .before .before .before .before .before .before .before .before in
+    let s = c .before .before .before .before .before .before .before .before .before .before in
     let t = tablesOf (s .args .rows .now) (s .args .starts .now) (s .args .codes .now) (s .args .fixed .now) in
-    round-refused t (s .args .mesh .now) (s .args .log .now) _ (c .before .round-refusal .ensures ∙ round-number (s .args .mesh .now) t (s .args .tested) (s .pre) (length (s .args .log .now))) (c .if1 .taken)
+    round-refused t (s .args .mesh .now) (s .args .log .now) _ (c .before .before .round-refusal .ensures ∙ round-number (s .args .mesh .now) t (s .args .tested) (s .pre) (length (s .args .log .now))) (c .before .if1 .taken) _ (c .place-told .ensures ∙ round-place (s .args .mesh .now) t (s .args .tested) (s .pre) _ (length (s .args .log .now)) _ (c .before .before .round-refusal .ensures) (c .before .if1 .taken))
 
 slice-read-chips : tie.Need-slice-read-chips
 slice-read-chips c =
@@ -61,8 +64,8 @@ round-over-requires c κs =
     let t = tablesOf (s .args .rows .now) (s .args .starts .now) (s .args .codes .now) (s .args .fixed .now) in
     over-requires t (s .args .mesh .now) (s .args .log .now) (sym (c .before .before .before .before .before .before .before .before .before .before .before .before .before .before .before .before .round-refusal .ensures ∙ round-number (s .args .mesh .now) t (s .args .tested) (s .pre) (length (s .args .log .now))) ∙ c .before .before .before .before .before .before .before .before .before .before .before .before .before .before .before .if1 .left) _ (rw (c .before .before .before .before .before .before .before .before .before .before .before .before .chips .ensures) at (c .before .before .before .before .before .before .before .before .before .before .set-aside .ensures)) _ _ _ (rw (c .before .before .before .before .before .before .before .before .before .before .before .before .chips .ensures) at (c .before .before .before .before .before .pass-chips .ensures))
 
-cast-t16 : tie.Need-cast-t16
-cast-t16 c =
+cast-added : tie.Need-cast-added
+cast-added c =
     let s = c .before .before .before .before .before .before .before .before .before .before .before .before .before .before .before .before .before .before .before .before .before .before .before .before .before .before .before in
     let t = tablesOf (s .args .rows .now) (s .args .starts .now) (s .args .codes .now) (s .args .fixed .now) in
     omega (arith, count-small t (s .args .mesh .now) (s .args .log .now) (sym (c .before .before .before .before .before .before .before .before .before .before .before .before .before .before .before .before .before .before .before .round-refusal .ensures ∙ round-number (s .args .mesh .now) t (s .args .tested) (s .pre) (length (s .args .log .now))) ∙ c .before .before .before .before .before .before .before .before .before .before .before .before .before .before .before .before .before .before .if1 .left) _ (rw (c .before .before .before .before .before .before .before .before .before .before .before .before .before .before .before .chips .ensures) at (c .before .before .before .before .before .before .before .before .before .before .before .before .before .set-aside .ensures)) _ _ _ (rw (c .before .before .before .before .before .before .before .before .before .before .before .before .before .before .before .chips .ensures) at (c .before .before .before .before .before .before .before .before .pass-chips .ensures)))
@@ -84,6 +87,7 @@ round-tested-spec =
     tie.close
     (tie.spec
     round-refusal-requires
+    place-told-requires
     same-length
     returns
     slice-read-chips
@@ -92,7 +96,7 @@ round-tested-spec =
     set-aside-requires
     pass-chips-requires
     round-over-requires
-    cast-t16
+    cast-added
     same-length-2
     same-length-3
     returns-2)

@@ -1,8 +1,14 @@
-use borrow.Author.Needs.{needs}
-use mathlib.Core.Path.{_∙_, sym}
+use mathlib.Core.Path.{_∙_, sym, ap, ap₂}
+use mathlib.Core.Bool.{true}
+use Prim.Native.Nat.{ℕ}
 use native.Mathlib.Omega.{arith}
-use Rattle.tables.proofs.Sizes.{chips-small}
+use Rattle.tables.proofs.Sizes.{chips-small, chips-some}
+use Rattle.packet.specs.Refusal.{firstOf}
+use Rattle.mesh.specs.Steps.{tablesOf}
+use Rattle.mesh.specs.Calls.{tablesRefusals, placeIn}
+use Rattle.buffer.proofs.Refusals.{tables-sized}
 use Rattle.buffer.proofs.HoldsMesh.{holds-size, words-enough}
+use borrow.Author.Needs.{needs}
 use Rattle.buffer.proofs.testing.test.Statement.{statement}
 use Rattle.buffer.proofs.testing.test.Tie as tie
 
@@ -19,10 +25,25 @@ chips-requires : tie.Need-chips-requires
 chips-requires c κs = holds-size (c .before .before .before .before .before .before .before .before .before .args .mesh .now) (sym (c .before .before .before .holds .ensures) ∙ c .before .before .if1 .taken)
 
 tables-refusal-requires : tie.Need-tables-refusal-requires
-tables-refusal-requires c κs = rw (c .chips .ensures) (chips-small _ _ (holds-size (c .before .before .before .before .before .before .before .before .before .before .args .mesh .now) (sym (c .before .before .before .before .holds .ensures) ∙ c .before .before .before .if1 .taken)))
+tables-refusal-requires c κs =
+    let sized = holds-size (c .before .before .before .before .before .before .before .before .before .before .args .mesh .now) (sym (c .before .before .before .before .holds .ensures) ∙ c .before .before .before .if1 .taken) in
+    rw (c .chips .ensures) (chips-some _ _ sized, chips-small _ _ sized)
+
+place-in-requires : tie.Need-place-in-requires
+place-in-requires c κs =
+    let a = c .before .before .before .before .before .before .before .before .before .before .before .args in
+    let sized = holds-size (a .mesh .now) (sym (c .before .before .before .before .before .holds .ensures) ∙ c .before .before .before .before .if1 .taken) in
+    let number = tables-sized (tablesOf (a .rows .now) (a .starts .now) (a .codes .now) (a .fixed .now)) (c .before .chips .result) (c .tables-refusal .result) (c .tables-refusal .ensures) in
+    (rw (c .before .chips .ensures) (chips-some _ _ sized), (rw (c .before .chips .ensures) (chips-small _ _ sized), number))
 
 returns : tie.Need-returns
-returns c = let h = (sym (c .before .before .before .before .before .holds .ensures) ∙ c .before .before .before .before .if1 .taken) in simp (h, rw (c .before .chips .ensures) at (c .tables-refusal .ensures))
+returns c =
+    let a = c .before .before .before .before .before .before .before .before .before .before .before .before .args in
+    let h = sym (c .before .before .before .before .before .before .holds .ensures) ∙ c .before .before .before .before .before .if1 .taken in
+    let t = tablesOf (a .rows .now) (a .starts .now) (a .codes .now) (a .fixed .now) in
+    let number = c .before .tables-refusal .ensures ∙ ap (λ (n : ℕ). firstOf (tablesRefusals t n)) (c .before .before .chips .ensures) in
+    let place = c .place-in .ensures ∙ ap₂ (placeIn t) (c .before .before .chips .ensures) number in
+    simp h (λ i. record { holds = true; tables = number i; place = place i })
 
 returns-2 : tie.Need-returns-2
 returns-2 c = let h = (sym (c .before .holds .ensures) ∙ c .if1 .left) in simp h
@@ -36,5 +57,6 @@ test-spec =
     shared-slice-read-chips-2
     chips-requires
     tables-refusal-requires
+    place-in-requires
     returns
     returns-2)
