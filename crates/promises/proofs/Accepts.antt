@@ -12,7 +12,7 @@ use Rattle.packet.specs.Refusal.{firstOf}
 use Rattle.packet.proofs.First.{not-refused}
 use Rattle.mesh.specs.Mesh.{Mesh}
 use Rattle.mesh.specs.Steps.{Tables, Arrival, Going, setOut, setAside, arrivals, injected, rounded}
-use Rattle.mesh.specs.Calls.{Left, many, unless, withLink, withEmpty, injectRefusals, roundRefusals, chipRefusals, linkRefusals}
+use Rattle.mesh.specs.Calls.{Left, many, unless, placeIn, withLink, withEmpty, injectRefusals, roundRefusals, chipRefusals, linkRefusals}
 use Rattle.mesh.specs.Weights.{inFlight}
 use Rattle.mesh.specs.Sound.{Passable}
 use Rattle.mesh.proofs.SoundSteps.{CodesFor}
@@ -23,16 +23,16 @@ use Rattle.promises.specs.History.{Tag, Given, State, Event, emptied, tu
 -- ---- the tests that have passed
 
 module _ {A : Type 0} where
-  pub unless-accepts : (n : ℕ) (m : Mesh A) (g : Going A) → unless n m g .refusal ≡ 0 → n ≡ 0
-  unless-accepts n m g e = go (eqb n 0) refl e
+  pub unless-accepts : (n p : ℕ) (m : Mesh A) (g : Going A) → unless n p m g .refusal ≡ 0 → n ≡ 0
+  unless-accepts n p m g e = go (eqb n 0) refl e
     where
       go : (b : Bool) → eqb n 0 ≡ b
-          → (cond {A = Left A} b (record { refusal = 0; mesh = g .mesh; log = g .log }) (record { refusal = n; mesh = m; log = [] })) .refusal ≡ 0 → n ≡ 0
+          → (cond {A = Left A} b (record { refusal = 0; place = 0; mesh = g .mesh; log = g .log }) (record { refusal = n; place = p; mesh = m; log = [] })) .refusal ≡ 0 → n ≡ 0
       go true h e = eqb-true n 0 h
       go false h e = e
 
-  pub unless-leaves : (n : ℕ) (m : Mesh A) (g : Going A) → unless n m g .refusal ≡ 0 → unless n m g ≡ record { refusal = 0; mesh = g .mesh; log = g .log }
-  unless-leaves n m g e = ap (λ (k : ℕ). unless k m g) (unless-accepts n m g e)
+  pub unless-leaves : (n p : ℕ) (m : Mesh A) (g : Going A) → unless n p m g .refusal ≡ 0 → unless n p m g ≡ record { refusal = 0; place = 0; mesh = g .mesh; log = g .log }
+  unless-leaves n p m g e = ap (λ (k : ℕ). unless k p m g) (unless-accepts n p m g e)
 
   -- an injection that is accepted
   pub record Injects (m : Mesh A) (chip : ℕ) (bytes : List ℕ) (t : Tables) : Type 0 where
@@ -104,14 +104,14 @@ module _ (s : State) where
   inject-leaves chip bytes t room e =
       let k = afterInjection chip bytes t in
       ap (λ (r : Left Tag). accepted s r (change (inject chip bytes t room)))
-      (unless-leaves (firstOf (injectRefusals true (many (s .mesh)) chip t room bytes)) (s .mesh) (injected t turned (s .mesh) chip (arrivalNow chip bytes .flight)) e)
+      (unless-leaves (firstOf (injectRefusals true (many (s .mesh)) chip t room bytes)) (placeIn t (many (s .mesh)) (firstOf (injectRefusals true (many (s .mesh)) chip t room bytes))) (s .mesh) (injected t turned (s .mesh) chip (arrivalNow chip bytes .flight)) e)
       ∙ ap (λ (n : ℕ). plainly (k .mesh) (k .events) (k .log) (k .given) n) (add-zero (s .rounds))
 
   pub round-leaves : (t : Tables) (room : ℕ) → here (change (round t room)) .refusal ≡ 0 → accepted s (here (change (round t room))) (change (round t room)) ≡ afterRound t
   round-leaves t room e =
       let k = afterRound t in
       ap (λ (r : Left Tag). accepted s r (change (round t room)))
-      (unless-leaves (firstOf (roundRefusals true (many (s .mesh)) (inFlight (s .mesh)) t room)) (s .mesh) (rounded t turned (s .mesh)) e)
+      (unless-leaves (firstOf (roundRefusals true (many (s .mesh)) (inFlight (s .mesh)) t room)) (placeIn t (many (s .mesh)) (firstOf (roundRefusals true (many (s .mesh)) (inFlight (s .mesh)) t room))) (s .mesh) (rounded t turned (s .mesh)) e)
       ∙ ap (λ (given : List Given). plainly (k .mesh) (k .events) (k .log) given (s .rounds + 1)) (append-nil (s .given))
 
   -- nothing but the mesh and the events is another
@@ -127,13 +127,13 @@ module _ (s : State) where
   pub link-leaves : (chip link : ℕ) (up : Bool) → here (change (setLink chip link up)) .refusal ≡ 0 → accepted s (here (change (setLink chip link up))) (change (setLink chip link up)) ≡ afterLink chip link up
   link-leaves chip link up e =
       ap (λ (r : Left Tag). accepted s r (change (setLink chip link up)))
-      (unless-leaves (firstOf (linkRefusals true (many (s .mesh)) chip link)) (s .mesh) (setOut (withLink (s .mesh) chip link up)) e)
+      (unless-leaves (firstOf (linkRefusals true (many (s .mesh)) chip link)) 0 (s .mesh) (setOut (withLink (s .mesh) chip link up)) e)
       ∙ quiet (withLink (s .mesh) chip link up)
 
   pub read-leaves : (chip : ℕ) → here (change (readRegisters chip)) .refusal ≡ 0 → accepted s (here (change (readRegisters chip))) (change (readRegisters chip)) ≡ afterRead chip
   read-leaves chip e =
       ap (λ (r : Left Tag). accepted s r (change (readRegisters chip)))
-      (unless-leaves (firstOf (chipRefusals true (many (s .mesh)) chip)) (s .mesh) (setOut (withEmpty (s .mesh) chip)) e)
+      (unless-leaves (firstOf (chipRefusals true (many (s .mesh)) chip)) 0 (s .mesh) (setOut (withEmpty (s .mesh) chip)) e)
       ∙ still (withEmpty (s .mesh) chip) (s .events ++ emptied chip ∷ [])
 
   pub look-leaves : (l : Look) → accepted s (here (look l)) (look l) ≡ s

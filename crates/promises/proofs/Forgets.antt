@@ -29,12 +29,12 @@ use Rattle.lists.proofs.Changed.{map-set}
 use Rattle.promises.proofs.Plains.{plainGoing, plain-chip, plain-line, plain-ready, plain-flying, plain-with, plain-pass, plain-rounded}
 
 module _ {A : Type 0} where
-  plain-unless : (n : ℕ) (m : Mesh A) (g : Going A) → plainLeft (calls.unless n m g) ≡ calls.unless n (plain m) (plainGoing g)
-  plain-unless n m g = go (eqb n 0)
+  plain-unless : (n p : ℕ) (m : Mesh A) (g : Going A) → plainLeft (calls.unless n p m g) ≡ calls.unless n p (plain m) (plainGoing g)
+  plain-unless n p m g = go (eqb n 0)
     where
       go : (b : Bool)
-          → plainLeft (cond b (record { refusal = 0; mesh = g .mesh; log = g .log }) (record { refusal = n; mesh = m; log = [] }))
-          ≡ cond b (record { refusal = 0; mesh = plain (g .mesh); log = g .log }) (record { refusal = n; mesh = plain m; log = [] })
+          → plainLeft (cond b (record { refusal = 0; place = 0; mesh = g .mesh; log = g .log }) (record { refusal = n; place = p; mesh = m; log = [] }))
+          ≡ cond b (record { refusal = 0; place = 0; mesh = plain (g .mesh); log = g .log }) (record { refusal = n; place = p; mesh = plain m; log = [] })
       go true = refl
       go false = refl
 
@@ -93,21 +93,22 @@ module _ {A : Type 0} where
     forgets-left (change (inject chip bytes t room)) =
         let n = firstOf (calls.injectRefusals true (calls.many m) chip t room bytes) in
         let f : Flight A = record { packet = packetAt bytes; tag = tag } in
-        plain-unless n m (injected t turn m chip f)
-        ∙ ap (λ (g : Going (Unit {0})). calls.unless n (plain m) g)
+        plain-unless n (calls.placeIn t (calls.many m) n) m (injected t turn m chip f)
+        ∙ ap (λ (g : Going (Unit {0})). calls.unless n (calls.placeIn t (calls.many m) n) (plain m) g)
         (plain-pass t turn (setOut m) (record { chip = chip; source = 7; flight = f }))
     forgets-left (change (round t room)) =
-        plain-unless (firstOf (calls.roundRefusals true (calls.many m) (inFlight m) t room)) m (rounded t turn m)
-        ∙ (λ k. calls.unless (firstOf (calls.roundRefusals true (calls.many m) (sym (plain-flying m) k) t room)) (plain m) (plain-rounded t turn m k))
+        let number : ℕ → ℕ = λ flying. firstOf (calls.roundRefusals true (calls.many m) flying t room) in
+        plain-unless (number (inFlight m)) (calls.placeIn t (calls.many m) (number (inFlight m))) m (rounded t turn m)
+        ∙ (λ k. calls.unless (number (sym (plain-flying m) k)) (calls.placeIn t (calls.many m) (number (sym (plain-flying m) k))) (plain m) (plain-rounded t turn m k))
     forgets-left (change (setLink chip link up)) =
         let n = firstOf (calls.linkRefusals true (calls.many m) chip link) in
-        plain-unless n m (setOut (calls.withLink m chip link up))
-        ∙ ap (λ (x : Mesh (Unit {0})). calls.unless n (plain m) (setOut x)) (plain-link m chip link up)
+        plain-unless n 0 m (setOut (calls.withLink m chip link up))
+        ∙ ap (λ (x : Mesh (Unit {0})). calls.unless n 0 (plain m) (setOut x)) (plain-link m chip link up)
     forgets-left (change (readRegisters chip)) =
         let n = firstOf (calls.chipRefusals true (calls.many m) chip) in
-        plain-unless n m (setOut (calls.withEmpty m chip))
-        ∙ ap (λ (x : Mesh (Unit {0})). calls.unless n (plain m) (setOut x)) (plain-empty m chip)
-    forgets-left (look l) = ap (λ (r : Seen). record { refusal = refusalOf r; mesh = plain m; log = [] }) (forgets-seen m l)
+        plain-unless n 0 m (setOut (calls.withEmpty m chip))
+        ∙ ap (λ (x : Mesh (Unit {0})). calls.unless n 0 (plain m) (setOut x)) (plain-empty m chip)
+    forgets-left (look l) = ap (λ (r : Seen). record { refusal = refusalOf r; place = 0; mesh = plain m; log = [] }) (forgets-seen m l)
 
     forgets-answer : (c : Call) → answerOf turn tag m c ≡ answerOf same tt (plain m) c
     forgets-answer (change (inject chip bytes t room)) = ap (λ (r : calls.Left (Unit {0})). ofAdded (calls.addedOf r)) (forgets-left (change (inject chip bytes t room)))

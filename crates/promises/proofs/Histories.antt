@@ -12,7 +12,7 @@ use Rattle.lists.specs.Lists.{All}
 use Rattle.links.specs.Line.{Flight}
 use Rattle.mesh.specs.Mesh.{Mesh}
 use Rattle.mesh.specs.Steps.{Tables, Going, setOut, injected, rounded}
-use Rattle.mesh.specs.Calls.{Left, many, unless, withLink, withEmpty, injectRefusals, roundRefusals, chipRefusals, linkRefusals}
+use Rattle.mesh.specs.Calls.{Left, many, unless, placeIn, withLink, withEmpty, injectRefusals, roundRefusals, chipRefusals, linkRefusals}
 use Rattle.mesh.specs.Weights.{inFlight}
 use Rattle.mesh.specs.Sound.{SoundMesh}
 use Rattle.mesh.proofs.SoundChanges.{sound-linked, sound-emptied}
@@ -53,22 +53,24 @@ module _ (P : ℕ → State → Type 0) where
 
 module _ {A : Type 0} {m : Mesh A} (sound : SoundMesh m) where
   -- a call that is accepted leaves what it makes
-  left : (n : ℕ) (g : Going A) → unless n m g .refusal ≡ 0 → (n ≡ 0 → SoundMesh (g .mesh)) → SoundMesh (unless n m g .mesh)
-  left n g e h = subst (λ (r : Left A). SoundMesh (r .mesh)) (sym (accepts.unless-leaves n m g e)) (h (accepts.unless-accepts n m g e))
+  left : (n p : ℕ) (g : Going A) → unless n p m g .refusal ≡ 0 → (n ≡ 0 → SoundMesh (g .mesh)) → SoundMesh (unless n p m g .mesh)
+  left n p g e h = subst (λ (r : Left A). SoundMesh (r .mesh)) (sym (accepts.unless-leaves n p m g e)) (h (accepts.unless-accepts n p m g e))
 
   pub sound-left : (turn : A → A) (tag : A) (c : Call) → leftBy turn tag m c .refusal ≡ 0 → SoundMesh (leftBy turn tag m c .mesh)
   sound-left turn tag (change (inject chip bytes t room)) e =
       let f : Flight A = record { packet = packetAt bytes; tag = tag } in
-      left (firstOf (injectRefusals true (many m) chip t room bytes)) (injected t turn m chip f) e
+      let n = firstOf (injectRefusals true (many m) chip t room bytes) in
+      left n (placeIn t (many m) n) (injected t turn m chip f) e
       (λ z. let h = accepts.inject-accepts m chip bytes t room z in sound-injected t turn m chip f sound (h .there) (h .passable) (h .codes))
   sound-left turn tag (change (round t room)) e =
-      left (firstOf (roundRefusals true (many m) (inFlight m) t room)) (rounded t turn m) e
+      let n = firstOf (roundRefusals true (many m) (inFlight m) t room) in
+      left n (placeIn t (many m) n) (rounded t turn m) e
       (λ z. sound-rounded t turn sound (accepts.round-accepts m (inFlight m) t room z))
   sound-left turn tag (change (setLink chip link up)) e =
-      left (firstOf (linkRefusals true (many m) chip link)) (setOut (withLink m chip link up)) e
+      left (firstOf (linkRefusals true (many m) chip link)) 0 (setOut (withLink m chip link up)) e
       (λ z. let h = accepts.link-accepts m chip link z in sound-linked sound chip link up (h .0) (h .1))
   sound-left turn tag (change (readRegisters chip)) e =
-      left (firstOf (chipRefusals true (many m) chip)) (setOut (withEmpty m chip)) e (λ z. sound-emptied sound chip (accepts.chip-accepts m chip z))
+      left (firstOf (chipRefusals true (many m) chip)) 0 (setOut (withEmpty m chip)) e (λ z. sound-emptied sound chip (accepts.chip-accepts m chip z))
   sound-left turn tag (look l) e = sound
 
 pub sound-always : Always (λ f s. SoundMesh (s .mesh))
@@ -107,20 +109,20 @@ module _ (C : Call → Type 0) (P : ℕ → State → Type 0) (steps : Steps C P
   step-kept : (f : ℕ) (s : State) (c : Call) → C c → SoundMesh (s .mesh) → answered s c .refusal ≡ 0 → P f s → P f (accepted s (answered s c) c)
   step-kept f s (change (inject chip bytes t room)) allowed sound e p =
       let n = firstOf (injectRefusals true (many (s .mesh)) chip t room bytes) in
-      let z : n ≡ 0 = accepts.unless-accepts n (s .mesh) (injected t turned (s .mesh) chip (accepts.arrivalNow s chip bytes .flight)) e in
+      let z : n ≡ 0 = accepts.unless-accepts n (placeIn t (many (s .mesh)) n) (s .mesh) (injected t turned (s .mesh) chip (accepts.arrivalNow s chip bytes .flight)) e in
       subst (P f) (sym (accepts.inject-leaves s chip bytes t room e)) (steps .injects f s chip bytes t room allowed sound (accepts.inject-accepts (s .mesh) chip bytes t room z) p)
   step-kept f s (change (round t room)) allowed sound e p =
       let n = firstOf (roundRefusals true (many (s .mesh)) (inFlight (s .mesh)) t room) in
-      let z : n ≡ 0 = accepts.unless-accepts n (s .mesh) (rounded t turned (s .mesh)) e in
+      let z : n ≡ 0 = accepts.unless-accepts n (placeIn t (many (s .mesh)) n) (s .mesh) (rounded t turned (s .mesh)) e in
       subst (P f) (sym (accepts.round-leaves s t room e)) (steps .rounds f s t room allowed sound (accepts.round-accepts (s .mesh) (inFlight (s .mesh)) t room z) p)
   step-kept f s (change (setLink chip link up)) allowed sound e p =
       let n = firstOf (linkRefusals true (many (s .mesh)) chip link) in
-      let z : n ≡ 0 = accepts.unless-accepts n (s .mesh) (setOut (withLink (s .mesh) chip link up)) e in
+      let z : n ≡ 0 = accepts.unless-accepts n 0 (s .mesh) (setOut (withLink (s .mesh) chip link up)) e in
       let h = accepts.link-accepts (s .mesh) chip link z in
       subst (P f) (sym (accepts.link-leaves s chip link up e)) (steps .links f s chip link up allowed sound (h .0) (h .1) p)
   step-kept f s (change (readRegisters chip)) allowed sound e p =
       let n = firstOf (chipRefusals true (many (s .mesh)) chip) in
-      let z : n ≡ 0 = accepts.unless-accepts n (s .mesh) (setOut (withEmpty (s .mesh) chip)) e in
+      let z : n ≡ 0 = accepts.unless-accepts n 0 (s .mesh) (setOut (withEmpty (s .mesh) chip)) e in
       subst (P f) (sym (accepts.read-leaves s chip e)) (steps .reads f s chip allowed sound (accepts.chip-accepts (s .mesh) chip z) p)
   step-kept f s (look l) allowed sound e p = subst (P f) (sym (accepts.look-leaves s l)) p
 

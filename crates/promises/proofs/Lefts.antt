@@ -14,7 +14,7 @@ use Rattle.mesh.specs.Mesh.{Mesh}
 use Rattle.buffer.specs.Layout.{meshOf}
 use Rattle.mesh.specs.Steps.{Tables, setOut, injected, rounded, same}
 use Rattle.mesh.specs.Weights.{inFlight}
-use Rattle.mesh.specs.Calls.{Left, many, withLink, withEmpty, injectRefusals, roundRefusals, linkRefusals, chipRefusals, loggedOn}
+use Rattle.mesh.specs.Calls.{placeIn, Left, many, withLink, withEmpty, injectRefusals, roundRefusals, linkRefusals, chipRefusals, loggedOn}
 use Rattle.mesh.specs.Asked.{Call, inject, round, setLink, readRegisters, change, look, leftBy, answerOf}
 use Rattle.trace.specs.Replay.{Trace, over, refused, then, making, stopped, behind, replaying}
 use Rattle.trace.proofs.KeptSizes.{Keeps, size-injected, size-rounded, keeps-unless, keeps-made}
@@ -29,21 +29,23 @@ use Rattle.promises.proofs.Forgets.{forgetting}
 module _ {A : Type 0} (turn : A → A) (tag : A) (m : Mesh A) where
   keeps-left : (c : Call) → Keeps true m (leftBy turn tag m c)
   keeps-left (change (inject chip bytes t room)) =
-      keeps-unless true (firstOf (injectRefusals true (many m) chip t room bytes)) (λ z. refl) m (injected t turn m chip (record { packet = packetAt bytes; tag = tag })) (size-injected t turn m chip tag bytes)
+      let n = firstOf (injectRefusals true (many m) chip t room bytes) in
+      keeps-unless true n (placeIn t (many m) n) (λ z. refl) m (injected t turn m chip (record { packet = packetAt bytes; tag = tag })) (size-injected t turn m chip tag bytes)
   keeps-left (change (round t room)) =
-      keeps-unless true (firstOf (roundRefusals true (many m) (inFlight m) t room)) (λ z. refl) m (rounded t turn m) (size-rounded t turn m)
+      let n = firstOf (roundRefusals true (many m) (inFlight m) t room) in
+      keeps-unless true n (placeIn t (many m) n) (λ z. refl) m (rounded t turn m) (size-rounded t turn m)
   keeps-left (change (setLink chip link up)) =
-      keeps-unless true (firstOf (linkRefusals true (many m) chip link)) (λ z. refl) m (setOut (withLink m chip link up)) (record { width = refl; height = refl; sixes = refl })
+      keeps-unless true (firstOf (linkRefusals true (many m) chip link)) 0 (λ z. refl) m (setOut (withLink m chip link up)) (record { width = refl; height = refl; sixes = refl })
   keeps-left (change (readRegisters chip)) =
-      keeps-unless true (firstOf (chipRefusals true (many m) chip)) (λ z. refl) m (setOut (withEmpty m chip)) (record { width = refl; height = refl; sixes = refl })
+      keeps-unless true (firstOf (chipRefusals true (many m) chip)) 0 (λ z. refl) m (setOut (withEmpty m chip)) (record { width = refl; height = refl; sixes = refl })
   keeps-left (look l) = record { width = refl; height = refl; sixes = refl; there = λ z. refl; none = λ some. refl }
 
   -- the answer says how many numbers
   added-left : (c : Call) → addedIn (answerOf turn tag m c) * 6 ≡ length (leftBy turn tag m c .log)
   added-left (change (inject chip bytes t room)) = omega (arith, keeps-left (change (inject chip bytes t room)) .sixes)
   added-left (change (round t room)) = omega (arith, keeps-left (change (round t room)) .sixes)
-  added-left (change (setLink chip link up)) = ap length (sym (unless-quiet (firstOf (linkRefusals true (many m) chip link)) m (setOut (withLink m chip link up)) refl))
-  added-left (change (readRegisters chip)) = ap length (sym (unless-quiet (firstOf (chipRefusals true (many m) chip)) m (setOut (withEmpty m chip)) refl))
+  added-left (change (setLink chip link up)) = ap length (sym (unless-quiet (firstOf (linkRefusals true (many m) chip link)) 0 m (setOut (withLink m chip link up)) refl))
+  added-left (change (readRegisters chip)) = ap length (sym (unless-quiet (firstOf (chipRefusals true (many m) chip)) 0 m (setOut (withEmpty m chip)) refl))
   added-left (look l) = refl
 
 -- so many numbers at the front of the log
@@ -84,7 +86,7 @@ replay-sixes t (then c n rest) m room = go (eqb (x .refusal) 0) (λ u v. replay-
         (cond b
         (behind n (making true t same tt m room c .log)
         (replaying true t (making true t same tt m room c .mesh) (room - length (making true t same tt m room c .log)) rest))
-        (stopped (making true t same tt m room c .refusal) m)
+        (stopped (making true t same tt m room c .refusal) (making true t same tt m room c .place) m)
         .log)
         % 6
         ≡ 0

@@ -74,7 +74,7 @@ replayed-calls t (then c n rest) room s = go (eqb (making true t same tt (plain 
         (foldl after (after s (askedOf t room c)) (cond b (callsIn t (making true t same tt (plain (s .mesh)) room c .mesh) (room - length (making true t same tt (plain (s .mesh)) room c .log)) rest) []))
         (cond b
         (behind n (making true t same tt (plain (s .mesh)) room c .log) (replaying true t (making true t same tt (plain (s .mesh)) room c .mesh) (room - length (making true t same tt (plain (s .mesh)) room c .log)) rest))
-        (stopped (making true t same tt (plain (s .mesh)) room c .refusal) (plain (s .mesh))))
+        (stopped (making true t same tt (plain (s .mesh)) room c .refusal) (making true t same tt (plain (s .mesh)) room c .place) (plain (s .mesh))))
     go false e more =
         let stays : after s q ≡ s = after-refused s q (ap (λ (y : Left (Unit {0})). eqb (y .refusal) 0) forgotten ∙ e) in
         (ap (λ (v : State). plain (v .mesh)) (sym stays), ap (λ (v : State). v .log) stays ∙ sym (append-nil (s .log)))

@@ -146,4 +146,4 @@ module _ {A : Type 0} where
       }
 
   abbrev pub plainLeft : Left A → Left (Unit {0})
-  plainLeft r = record { refusal = r .refusal; mesh = plain (r .mesh); log = r .log }
+  plainLeft r = record { refusal = r .refusal; place = r .place; mesh = plain (r .mesh); log = r .log }

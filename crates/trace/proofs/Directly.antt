@@ -22,7 +22,7 @@ use Rattle.trace.proofs.MadeCalls.{made-injection, made-round, made-cha
 
 -- what a run leaves, where x is what it is to leave
 record Left-by (l log l₁ log₁ : List ℕ) (r : Replayed) (x : Replay) : Type 0 where
-  pub answered : r ≡ record { refusal = x .refusal; at = x .at; added = length (x .log) / 6 }
+  pub answered : r ≡ record { refusal = x .refusal; at = x .at; added = length (x .log) / 6; place = x .place }
   pub logged : log₁ ≡ loggedOn (x .log) log
   pub mesh : meshOf l₁ ≡ x .mesh
   pub holds : holdsMesh l₁ ≡ holdsMesh l
@@ -45,20 +45,23 @@ module _ (t : Tables) where
     number : a .refusal ≡ madeLeft l t (length log) c .refusal
     number = ap (λ (b : Added). b .refusal) (m .answered)
 
+    placed : a .place ≡ madeLeft l t (length log) c .place
+    placed = ap (λ (b : Added). b .place) (m .answered)
+
     keeps : Keeps (holdsMesh l) (meshOf l) (madeLeft l t (length log) c)
     keeps = keeps-made (holdsMesh l) t same tt (meshOf l) (length log) c
 
     abbrev choice : Bool → Replay
-    choice b = cond b (behind n (x .log) (replaying (holdsMesh l) t (x .mesh) (length log - length (x .log)) rest)) (stopped (x .refusal) (meshOf l))
+    choice b = cond b (behind n (x .log) (replaying (holdsMesh l) t (x .mesh) (length log - length (x .log)) rest)) (stopped (x .refusal) (x .place) (meshOf l))
 
-    left-stops : (a .refusal ≡ 0 → ⊥) → Left-by l log l₁ log₁ (record { refusal = a .refusal; at = 0; added = 0 }) (onward l log (then c n rest))
+    left-stops : (a .refusal ≡ 0 → ⊥) → Left-by l log l₁ log₁ (record { refusal = a .refusal; at = 0; added = 0; place = a .place }) (onward l log (then c n rest))
     unfolding replaying
     left-stops some =
         let none : x .refusal ≡ 0 → ⊥ = λ z. some (number ∙ z) in
-        let e : onward l log (then c n rest) ≡ stopped (x .refusal) (meshOf l) = ap choice (ne-eqb (x .refusal) 0 none) in
+        let e : onward l log (then c n rest) ≡ stopped (x .refusal) (x .place) (meshOf l) = ap choice (ne-eqb (x .refusal) 0 none) in
         let kept : l₁ ≡ l = m .buffer .refused none in
         record {
-          answered = (λ i. record { refusal = number i; at = 0; added = 0 }) ∙ sym (ap (λ (y : Replay). record { refusal = y .refusal; at = y .at; added = length (y .log) / 6 }) e);
+          answered = (λ i. record { refusal = number i; at = 0; added = 0; place = placed i }) ∙ sym (ap (λ (y : Replay). record { refusal = y .refusal; at = y .at; added = length (y .log) / 6; place = y .place }) e);
           logged = m .logged ∙ ap (λ (y : List ℕ). loggedOn y log) (keeps .none none) ∙ sym (ap (λ (y : Replay). loggedOn (y .log) log) e);
           mesh = ap meshOf kept ∙ sym (ap (λ (y : Replay). y .mesh) e);
           holds = ap holdsMesh kept;
@@ -78,7 +81,7 @@ module _ (t : Tables) where
       untold = ap (drop (a .added * 6)) (m .logged) ∙ drop-at (x .log) (drop (length (x .log)) log) (a .added * 6) (sym size)
 
       left-goes : (l₂ log₂ : List ℕ) (r : Replayed) → Left-by l₁ (drop (a .added * 6) log₁) l₂ log₂ r (onward l₁ (drop (a .added * 6) log₁) rest)
-          → Left-by l log l₂ (take (a .added * 6) log₁ ++ log₂) (record { refusal = r .refusal; at = n + r .at; added = a .added + r .added }) (onward l log (then c n rest))
+          → Left-by l log l₂ (take (a .added * 6) log₁ ++ log₂) (record { refusal = r .refusal; at = n + r .at; added = a .added + r .added; place = r .place }) (onward l log (then c n rest))
       unfolding replaying
       left-goes l₂ log₂ r h =
           let y = onward l₁ (drop (a .added * 6) log₁) rest in
@@ -90,8 +93,8 @@ module _ (t : Tables) where
           let count : a .added + r .added ≡ length (x .log ++ y .log) / 6 =
           omega (arith, size, ap (λ (b : Replayed). b .added) (h .answered), length-append (x .log) (y .log)) in
           record {
-            answered = (λ i. record { refusal = h .answered i .refusal; at = n + h .answered i .at; added = count i })
-                ∙ sym (ap (λ (z : Replay). record { refusal = z .refusal; at = z .at; added = length (z .log) / 6 }) e);
+            answered = (λ i. record { refusal = h .answered i .refusal; at = n + h .answered i .at; added = count i; place = h .answered i .place })
+                ∙ sym (ap (λ (z : Replay). record { refusal = z .refusal; at = z .at; added = length (z .log) / 6; place = z .place }) e);
             logged = (λ i. told i ++ h .logged i) ∙ ap (λ (q : List ℕ). x .log ++ (y .log ++ drop (length (y .log)) q)) untold
                 ∙ sym (append-assoc (x .log) (y .log) (drop (length (y .log)) (drop (length (x .log)) log)))
                 ∙ ap (λ (q : List ℕ). (x .log ++ y .log) ++ q) (drop-drop (length (y .log)) (length (x .log)) log ∙ ap (λ (k : ℕ). drop k log) (sym (length-append (x .log) (y .log))))

@@ -14,7 +14,7 @@ use Rattle.steps.specs.Links.{processorsOf}
 use Rattle.mesh.specs.Mesh.{Mesh}
 use Rattle.mesh.specs.Steps.{Tables, Arrival, Going, setOut, outcomeAt, logOf, setAside, arrivals, passAt, injected, rounded}
 use Rattle.mesh.specs.Weights.{inFlight}
-use Rattle.mesh.specs.Calls.{Left, many, unless, withLink, withEmpty, injectRefusals, roundRefusals, linkRefusals, chipRefusals}
+use Rattle.mesh.specs.Calls.{Left, many, unless, placeIn, withLink, withEmpty, injectRefusals, roundRefusals, linkRefusals, chipRefusals}
 use Rattle.trace.specs.declared.Call.{Call}
 use Rattle.trace.specs.Records.{packetOf}
 use Rattle.trace.specs.Replay.{making}
@@ -61,11 +61,11 @@ module _ {A : Type 0} where
         record { width = h .width; height = h .height; sixes = h .sixes }
 
   -- where a call is accepted there is a mesh
-  module _ (holds : Bool) (n : ℕ) (accepted : n ≡ 0 → holds ≡ true) (m : Mesh A) (g : Going A) (h : Size m g) where
-    pub keeps-unless : Keeps holds m (unless n m g)
+  module _ (holds : Bool) (n p : ℕ) (accepted : n ≡ 0 → holds ≡ true) (m : Mesh A) (g : Going A) (h : Size m g) where
+    pub keeps-unless : Keeps holds m (unless n p m g)
     keeps-unless = go (eqb n 0) refl
       where
-        go : (b : Bool) → eqb n 0 ≡ b → Keeps holds m (cond b (record { refusal = 0; mesh = g .mesh; log = g .log }) (record { refusal = n; mesh = m; log = [] }))
+        go : (b : Bool) → eqb n 0 ≡ b → Keeps holds m (cond b (record { refusal = 0; place = 0; mesh = g .mesh; log = g .log }) (record { refusal = n; place = p; mesh = m; log = [] }))
         go true e = record { width = h .width; height = h .height; sixes = h .sixes; there = λ z. accepted (eqb-true n 0 e); none = λ some. absurd (some refl) }
         go false e = record { width = refl; height = refl; sixes = refl; there = accepted; none = λ some. refl }
 
@@ -80,31 +80,37 @@ module _ {A : Type 0} where
       quiet : (n : Mesh A) → n .width ≡ m .width → n .height ≡ m .height → Size m (setOut n)
       quiet n w h = record { width = w; height = h; sixes = refl }
 
-      one : Keeps holds m (unless (firstOf (injectRefusals holds (many m) (c .chip) t room (packetOf c))) m (injected t turn m (c .chip) (record { packet = packetAt (packetOf c); tag = tag })))
+      first : ℕ
+      first = firstOf (injectRefusals holds (many m) (c .chip) t room (packetOf c))
+
+      second : ℕ
+      second = firstOf (roundRefusals holds (many m) (inFlight m) t room)
+
+      one : Keeps holds m (unless first (placeIn t (many m) first) m (injected t turn m (c .chip) (record { packet = packetAt (packetOf c); tag = tag })))
       one =
-          keeps-unless holds (firstOf (injectRefusals holds (many m) (c .chip) t room (packetOf c))) (mesh-there holds _) m
+          keeps-unless holds first (placeIn t (many m) first) (mesh-there holds _) m
           (injected t turn m (c .chip) (record { packet = packetAt (packetOf c); tag = tag }))
           (size-injected t turn m (c .chip) tag (packetOf c))
 
-      two : Keeps holds m (unless (firstOf (roundRefusals holds (many m) (inFlight m) t room)) m (rounded t turn m))
-      two = keeps-unless holds (firstOf (roundRefusals holds (many m) (inFlight m) t room)) (mesh-there holds _) m (rounded t turn m) (size-rounded t turn m)
+      two : Keeps holds m (unless second (placeIn t (many m) second) m (rounded t turn m))
+      two = keeps-unless holds second (placeIn t (many m) second) (mesh-there holds _) m (rounded t turn m) (size-rounded t turn m)
 
-      three : Keeps holds m (unless (firstOf (linkRefusals holds (many m) (c .chip) (c .link))) m (setOut (withLink m (c .chip) (c .link) (eqb (c .up) 1))))
+      three : Keeps holds m (unless (firstOf (linkRefusals holds (many m) (c .chip) (c .link))) 0 m (setOut (withLink m (c .chip) (c .link) (eqb (c .up) 1))))
       three =
-          keeps-unless holds (firstOf (linkRefusals holds (many m) (c .chip) (c .link))) (mesh-there holds _) m (setOut (withLink m (c .chip) (c .link) (eqb (c .up) 1)))
+          keeps-unless holds (firstOf (linkRefusals holds (many m) (c .chip) (c .link))) 0 (mesh-there holds _) m (setOut (withLink m (c .chip) (c .link) (eqb (c .up) 1)))
           (quiet (withLink m (c .chip) (c .link) (eqb (c .up) 1)) refl refl)
 
-      four : Keeps holds m (unless (firstOf (chipRefusals holds (many m) (c .chip))) m (setOut (withEmpty m (c .chip))))
+      four : Keeps holds m (unless (firstOf (chipRefusals holds (many m) (c .chip))) 0 m (setOut (withEmpty m (c .chip))))
       four =
-          keeps-unless holds (firstOf (chipRefusals holds (many m) (c .chip))) (mesh-there holds _) m (setOut (withEmpty m (c .chip)))
+          keeps-unless holds (firstOf (chipRefusals holds (many m) (c .chip))) 0 (mesh-there holds _) m (setOut (withEmpty m (c .chip)))
           (quiet (withEmpty m (c .chip)) refl refl)
 
       go : (x y z : Bool)
           → Keeps holds m
-          (cond x (unless (firstOf (injectRefusals holds (many m) (c .chip) t room (packetOf c))) m (injected t turn m (c .chip) (record { packet = packetAt (packetOf c); tag = tag })))
-          (cond y (unless (firstOf (roundRefusals holds (many m) (inFlight m) t room)) m (rounded t turn m))
-          (cond z (unless (firstOf (linkRefusals holds (many m) (c .chip) (c .link))) m (setOut (withLink m (c .chip) (c .link) (eqb (c .up) 1))))
-          (unless (firstOf (chipRefusals holds (many m) (c .chip))) m (setOut (withEmpty m (c .chip)))))))
+          (cond x (unless first (placeIn t (many m) first) m (injected t turn m (c .chip) (record { packet = packetAt (packetOf c); tag = tag })))
+          (cond y (unless second (placeIn t (many m) second) m (rounded t turn m))
+          (cond z (unless (firstOf (linkRefusals holds (many m) (c .chip) (c .link))) 0 m (setOut (withLink m (c .chip) (c .link) (eqb (c .up) 1))))
+          (unless (firstOf (chipRefusals holds (many m) (c .chip))) 0 m (setOut (withEmpty m (c .chip)))))))
       go true y z = one
       go false true z = two
       go false false true = three

@@ -22,26 +22,33 @@ use Rattle.trace.proofs.ByKind.{by-1, by-2, by-3, by-else}
 
 -- ---- refused or not, a call that makes no pass adds no record, and answers its number
 
-module _ {A : Type 0} (n : ℕ) (m : Mesh A) (g : Going A) where
-  pub unless-quiet : g .log ≡ [] → unless n m g .log ≡ []
+module _ {A : Type 0} (n p : ℕ) (m : Mesh A) (g : Going A) where
+  pub unless-quiet : g .log ≡ [] → unless n p m g .log ≡ []
   unless-quiet e = go (eqb n 0)
     where
-      go : (b : Bool) → cond {A = Left A} b (record { refusal = 0; mesh = g .mesh; log = g .log }) (record { refusal = n; mesh = m; log = [] }) .log ≡ []
+      go : (b : Bool) → cond {A = Left A} b (record { refusal = 0; place = 0; mesh = g .mesh; log = g .log }) (record { refusal = n; place = p; mesh = m; log = [] }) .log ≡ []
       go true = e
       go false = refl
 
-  unless-number : unless n m g .refusal ≡ n
+  unless-nowhere : p ≡ 0 → 0 ≡ unless n p m g .place
+  unless-nowhere e = go (eqb n 0)
+    where
+      go : (b : Bool) → 0 ≡ cond {A = Left A} b (record { refusal = 0; place = 0; mesh = g .mesh; log = g .log }) (record { refusal = n; place = p; mesh = m; log = [] }) .place
+      go true = refl
+      go false = sym e
+
+  unless-number : unless n p m g .refusal ≡ n
   unless-number = go (eqb n 0) refl
     where
-      go : (b : Bool) → eqb n 0 ≡ b → cond {A = Left A} b (record { refusal = 0; mesh = g .mesh; log = g .log }) (record { refusal = n; mesh = m; log = [] }) .refusal ≡ n
+      go : (b : Bool) → eqb n 0 ≡ b → cond {A = Left A} b (record { refusal = 0; place = 0; mesh = g .mesh; log = g .log }) (record { refusal = n; place = p; mesh = m; log = [] }) .refusal ≡ n
       go true e = sym (eqb-true n 0 e)
       go false e = refl
 
 module _ (t : Tables) (l log : List ℕ) where
-  quiet : (r : Added) (l₁ : List ℕ) (x : Left (Unit {0})) → x .log ≡ [] → r ≡ record { refusal = x .refusal; added = 0 } → Leaves l l₁ x → Moves l log x r l₁ log
+  quiet : (r : Added) (l₁ : List ℕ) (x : Left (Unit {0})) → x .log ≡ [] → r ≡ record { refusal = x .refusal; added = 0; place = x .place } → Leaves l l₁ x → Moves l log x r l₁ log
   quiet r l₁ x none e h =
       record {
-        answered = e ∙ sym (ap (λ (z : List ℕ). addedOf (record { refusal = x .refusal; mesh = x .mesh; log = z })) none);
+        answered = e ∙ sym (ap (λ (z : List ℕ). addedOf (record { refusal = x .refusal; place = x .place; mesh = x .mesh; log = z })) none);
         buffer = h;
         logged = sym (ap (λ (z : List ℕ). loggedOn z log) none);
       }
@@ -67,20 +74,24 @@ module _ (t : Tables) (l log : List ℕ) where
 
   module _ (c : Call) (l₁ : List ℕ) where
     pub made-change : c .kind ≡ 3 → (n : ℕ) → n ≡ linkLeft l (c .chip) (c .link) (eqb (c .up) 1) .refusal → Leaves l l₁ (linkLeft l (c .chip) (c .link) (eqb (c .up) 1))
-        → Moves l log (madeLeft l t (length log) c) (record { refusal = n; added = 0 }) l₁ log
+        → Moves l log (madeLeft l t (length log) c) (record { refusal = n; added = 0; place = 0 }) l₁ log
     made-change k n number h =
         let x = linkLeft l (c .chip) (c .link) (eqb (c .up) 1) in
-        let none = unless-quiet (firstOf (linkRefusals (holdsMesh l) (many (meshOf l)) (c .chip) (c .link))) (meshOf l) (setOut (withLink (meshOf l) (c .chip) (c .link) (eqb (c .up) 1))) refl in
-        subst (λ (y : Left (Unit {0})). Moves l log y (record { refusal = n; added = 0 }) l₁ log) (sym (by-3 (a c (record { refusal = n; added = 0 }) l₁ log) (b c (record { refusal = n; added = 0 }) l₁ log) x (registersLeft l (c .chip)) (c .kind) k))
-        (quiet (record { refusal = n; added = 0 }) l₁ x none (λ i. record { refusal = number i; added = 0 }) h)
+        let refusal = firstOf (linkRefusals (holdsMesh l) (many (meshOf l)) (c .chip) (c .link)) in
+        let g = setOut (withLink (meshOf l) (c .chip) (c .link) (eqb (c .up) 1)) in
+        let none = unless-quiet refusal 0 (meshOf l) g refl in
+        let nowhere = unless-nowhere refusal 0 (meshOf l) g refl in
+        subst (λ (y : Left (Unit {0})). Moves l log y (record { refusal = n; added = 0; place = 0 }) l₁ log) (sym (by-3 (a c (record { refusal = n; added = 0; place = 0 }) l₁ log) (b c (record { refusal = n; added = 0; place = 0 }) l₁ log) x (registersLeft l (c .chip)) (c .kind) k))
+        (quiet (record { refusal = n; added = 0; place = 0 }) l₁ x none (λ i. record { refusal = number i; added = 0; place = nowhere i }) h)
 
     pub made-read : (c .kind ≡ 1 → ⊥) → (c .kind ≡ 2 → ⊥) → (c .kind ≡ 3 → ⊥) → (r : RegistersRead) → r ≡ registersRead (holdsMesh l) (meshOf l) (c .chip)
         → Leaves l l₁ (registersLeft l (c .chip))
-        → Moves l log (madeLeft l t (length log) c) (record { refusal = r .refusal; added = 0 }) l₁ log
+        → Moves l log (madeLeft l t (length log) c) (record { refusal = r .refusal; added = 0; place = 0 }) l₁ log
     made-read x y z r read h =
         let n = firstOf (chipRefusals (holdsMesh l) (many (meshOf l)) (c .chip)) in
         let g = setOut (withEmpty (meshOf l) (c .chip)) in
-        let number : r .refusal ≡ registersLeft l (c .chip) .refusal = ap (λ (q : RegistersRead). q .refusal) read ∙ sym (unless-number n (meshOf l) g) in
-        let answer : Added = record { refusal = r .refusal; added = 0 } in
+        let number : r .refusal ≡ registersLeft l (c .chip) .refusal = ap (λ (q : RegistersRead). q .refusal) read ∙ sym (unless-number n 0 (meshOf l) g) in
+        let nowhere = unless-nowhere n 0 (meshOf l) g refl in
+        let answer : Added = record { refusal = r .refusal; added = 0; place = 0 } in
         subst (λ (y : Left (Unit {0})). Moves l log y answer l₁ log) (sym (by-else (a c answer l₁ log) (b c answer l₁ log) (linkLeft l (c .chip) (c .link) (eqb (c .up) 1)) (registersLeft l (c .chip)) (c .kind) x y z))
-        (quiet answer l₁ (registersLeft l (c .chip)) (unless-quiet n (meshOf l) g refl) (λ i. record { refusal = number i; added = 0 }) h)
+        (quiet answer l₁ (registersLeft l (c .chip)) (unless-quiet n 0 (meshOf l) g refl) (λ i. record { refusal = number i; added = 0; place = nowhere i }) h)

@@ -51,16 +51,16 @@ module _ (t : Tables) (s l₀ log₀ l log : List ℕ) (at added : ℕ) (h : SoF
 
   -- ---- the end, or a refusal
 
-  pub finished : (n : ℕ) → onward t l (length (drop (added * 6) log)) (drop at s) ≡ stopped n (meshOf l)
-      → Replays l₀ l log₀ log (record { refusal = n; at = at; added = added }) (replayOf l₀ t (length log₀) s)
-  finished n e =
+  pub finished : (n p : ℕ) → onward t l (length (drop (added * 6) log)) (drop at s) ≡ stopped n p (meshOf l)
+      → Replays l₀ l log₀ log (record { refusal = n; at = at; added = added; place = p }) (replayOf l₀ t (length log₀) s)
+  finished n p e =
       let front = take (added * 6) log in
-      let whole : replayOf l₀ t (length log₀) s ≡ behind at front (stopped n (meshOf l)) = h .left ∙ ap (behind at front) e in
+      let whole : replayOf l₀ t (length log₀) s ≡ behind at front (stopped n p (meshOf l)) = h .left ∙ ap (behind at front) e in
       let size : length (front ++ []) ≡ added * 6 = ap length (append-nil front) ∙ length-take-le (added * 6) log (h .room) in
       let count : added ≡ length (front ++ []) / 6 = omega arith in
-      subst (Replays l₀ l log₀ log (record { refusal = n; at = at; added = added })) (sym whole)
+      subst (Replays l₀ l log₀ log (record { refusal = n; at = at; added = added; place = p })) (sym whole)
       (record {
-        answered = λ i. record { refusal = n; at = sym (add-zero at) i; added = count i };
+        answered = λ i. record { refusal = n; at = sym (add-zero at) i; added = count i; place = p };
         logged = sym (take-append-drop (added * 6) log) ∙ (λ i. sym (append-nil front) i ++ h .untold i) ∙ ap (λ (k : ℕ). (front ++ []) ++ drop k log₀) (sym size);
         mesh = refl;
         holds = h .holds;
@@ -69,9 +69,9 @@ module _ (t : Tables) (s l₀ log₀ l log : List ℕ) (at added : ℕ) (h : SoF
         past = h .past;
       })
 
-  pub at-the-end : length s ≤ at → Replays l₀ l log₀ log (record { refusal = 0; at = at; added = added }) (replayOf l₀ t (length log₀) s)
+  pub at-the-end : length s ≤ at → Replays l₀ l log₀ log (record { refusal = 0; at = at; added = added; place = 0 }) (replayOf l₀ t (length log₀) s)
   unfolding replaying
-  at-the-end e = finished 0 (ap (replaying (holdsMesh l) t (meshOf l) (length (drop (added * 6) log))) (trace-over (drop at s) (simp length-drop (omega arith))))
+  at-the-end e = finished 0 0 (ap (replaying (holdsMesh l) t (meshOf l) (length (drop (added * 6) log))) (trace-over (drop at s) (simp length-drop (omega arith))))
 
   module _ (more : at < length s) (l₁ w₁ : List ℕ) (done : Done)
       (lent : OneDone t (take (length s - at) (drop at s)) l (take (length log - added * 6) (drop (added * 6) log)) l₁ w₁ done) where
@@ -93,16 +93,16 @@ module _ (t : Tables) (s l₀ log₀ l log : List ℕ) (at added : ℕ) (h : SoF
     keeps : Keeps (holdsMesh l) (meshOf l) (oneLeft t (drop at s) l (length (drop (added * 6) log)))
     keeps = keeps-one t (drop at s) l (length (drop (added * 6) log))
 
-    pub stopped-here : (done .refusal ≡ 0 → ⊥) → Replays l₀ l₁ log₀ (backIn log (added * 6) w₁) (record { refusal = done .refusal; at = at; added = added }) (replayOf l₀ t (length log₀) s)
+    pub stopped-here : (done .refusal ≡ 0 → ⊥) → Replays l₀ l₁ log₀ (backIn log (added * 6) w₁) (record { refusal = done .refusal; at = at; added = added; place = done .place }) (replayOf l₀ t (length log₀) s)
     stopped-here some =
         let none : x .refusal ≡ 0 → ⊥ = λ z. some (d .refusal ∙ z) in
         let same-log : backIn log (added * 6) w₁ ≡ log =
         back-in log (added * 6) w₁ ∙ ap (λ (r : List ℕ). take (added * 6) log ++ r) (d .logged ∙ ap (λ (r : List ℕ). loggedOn r rest) (keeps .none none)) ∙ take-append-drop (added * 6) log in
-        let stop : onward t l (length rest) here ≡ stopped (done .refusal) (meshOf l) =
-        onward-stop t here l (length rest) some-left none ∙ ap (λ (n : ℕ). stopped n (meshOf l)) (sym (d .refusal)) in
-        let answer : Replayed = record { refusal = done .refusal; at = at; added = added } in
+        let stop : onward t l (length rest) here ≡ stopped (done .refusal) (done .place) (meshOf l) =
+        onward-stop t here l (length rest) some-left none ∙ (λ i. stopped (sym (d .refusal) i) (sym (d .place) i) (meshOf l)) in
+        let answer : Replayed = record { refusal = done .refusal; at = at; added = added; place = done .place } in
         subst (λ (a : List ℕ). Replays l₀ a log₀ (backIn log (added * 6) w₁) answer (replayOf l₀ t (length log₀) s)) (sym (d .buffer .refused none))
-        (subst (λ (k : List ℕ). Replays l₀ l log₀ k answer (replayOf l₀ t (length log₀) s)) (sym same-log) (finished (done .refusal) stop))
+        (subst (λ (k : List ℕ). Replays l₀ l log₀ k answer (replayOf l₀ t (length log₀) s)) (sym same-log) (finished (done .refusal) (done .place) stop))
 
     -- ---- one record more
 
@@ -179,7 +179,7 @@ module _ (t : Tables) (s l₀ log₀ l log : List ℕ) (at added : ℕ) (h : SoF
           let joined : take (added * 6) log ++ (x .log ++ r .log) ≡ take ((added + done .added) * 6) (backIn log (added * 6) w₁) ++ r .log =
           sym (append-assoc (take (added * 6) log) (x .log) (r .log)) ∙ ap (λ (f : List ℕ). f ++ r .log) (sym told) in
           ap (behind at (take (added * 6) log)) (onward-step t here l (length rest) some-left fine ∙ ap (behind n (x .log)) onward-left)
-          ∙ (λ i. record { refusal = r .refusal; at = place i; mesh = r .mesh; log = joined i })
+          ∙ (λ i. record { refusal = r .refusal; place = r .place; at = place i; mesh = r .mesh; log = joined i })
 
       pub one-more : SoFar t s l₀ log₀ l₁ (backIn log (added * 6) w₁) (at + done .length) (added + done .added)
       unfolding meshOf

@@ -12,7 +12,7 @@ use Rattle.packet.specs.Refusal.{firstOf}
 use Rattle.buffer.specs.Layout.{meshOf, wordsFor}
 use Rattle.buffer.specs.Holding.{holdsMesh}
 use Rattle.mesh.specs.Steps.{Tables, same}
-use Rattle.mesh.specs.Calls.{Left, tablesRefusals}
+use Rattle.mesh.specs.Calls.{Left, tablesRefusals, placeIn}
 use Rattle.buffer.specs.Testing.{testedOf}
 use Rattle.trace.specs.Records.{recordRead}
 use Rattle.trace.specs.Replay.{traceOf, madeLeft, Replay, stopped, behind, replaying, replayOf, oneLeft}
@@ -28,7 +28,7 @@ onward t l room s = replaying (holdsMesh l) t (meshOf l) room (traceOf s)
 
 module _ (t : Tables) (s l : List ℕ) (room : ℕ) where
   abbrev choice : Bool → Left (Unit {0})
-  choice b = cond b (madeLeft l t room (recordRead s .call)) (record { refusal = recordRead s .refusal; mesh = meshOf l; log = [] })
+  choice b = cond b (madeLeft l t room (recordRead s .call)) (record { refusal = recordRead s .refusal; place = 0; mesh = meshOf l; log = [] })
 
   -- where it is accepted, the record was read, and its call is made
   pub accepted-record : oneLeft t s l room .refusal ≡ 0 → (recordRead s .refusal ≡ 0) × (oneLeft t s l room ≡ madeLeft l t room (recordRead s .call))
@@ -66,20 +66,20 @@ module _ (t : Tables) (s l : List ℕ) (room : ℕ) where
         let rest = traceOf (drop (recordRead s .length) s) in
         let after : Left (Unit {0}) → Replay = λ y. behind (recordRead s .length) (y .log) (replaying (holdsMesh l) t (y .mesh) (room - length (y .log)) rest) in
         ap (replaying (holdsMesh l) t (meshOf l) room) (trace-step s more (h .0))
-        ∙ ap (λ (b : Bool). cond b (after x) (stopped (x .refusal) (meshOf l))) (eq-eqb (x .refusal) 0 none)
+        ∙ ap (λ (b : Bool). cond b (after x) (stopped (x .refusal) (x .place) (meshOf l))) (eq-eqb (x .refusal) 0 none)
         ∙ ap after (sym (h .1))
 
     -- the replay stops before it
-    pub onward-stop : (oneLeft t s l room .refusal ≡ 0 → ⊥) → onward t l room s ≡ stopped (oneLeft t s l room .refusal) (meshOf l)
+    pub onward-stop : (oneLeft t s l room .refusal ≡ 0 → ⊥) → onward t l room s ≡ stopped (oneLeft t s l room .refusal) (oneLeft t s l room .place) (meshOf l)
     unfolding replaying
     onward-stop some = go (eqb (recordRead s .refusal) 0) refl some
       where
-        go : (b : Bool) → eqb (recordRead s .refusal) 0 ≡ b → (choice b .refusal ≡ 0 → ⊥) → onward t l room s ≡ stopped (choice b .refusal) (meshOf l)
+        go : (b : Bool) → eqb (recordRead s .refusal) 0 ≡ b → (choice b .refusal ≡ 0 → ⊥) → onward t l room s ≡ stopped (choice b .refusal) (choice b .place) (meshOf l)
         go false e none = ap (replaying (holdsMesh l) t (meshOf l) room) (trace-stop s more none)
         go true e none =
             let x = madeLeft l t room (recordRead s .call) in
             ap (replaying (holdsMesh l) t (meshOf l) room) (trace-step s more (eqb-true _ _ e))
-            ∙ ap (λ (b : Bool). cond b (behind (recordRead s .length) (x .log) (replaying (holdsMesh l) t (x .mesh) (room - length (x .log)) (traceOf (drop (recordRead s .length) s)))) (stopped (x .refusal) (meshOf l))) (ne-eqb (x .refusal) 0 none)
+            ∙ ap (λ (b : Bool). cond b (behind (recordRead s .length) (x .log) (replaying (holdsMesh l) t (x .mesh) (room - length (x .log)) (traceOf (drop (recordRead s .length) s)))) (stopped (x .refusal) (x .place) (meshOf l))) (ne-eqb (x .refusal) 0 none)
 
 -- ---- the way
 
@@ -104,7 +104,12 @@ module _ (t : Tables) (s l₀ log₀ : List ℕ) where
       let same-holds = sym (h .holds) in
       let same-width = sym (h .width) in
       let same-height = sym (h .height) in
-      λ i. record { holds = same-holds i; tables = cond (same-holds i) (firstOf (tablesRefusals t (same-height i * same-width i))) 0 }
+      let number : ℕ → ℕ = λ n. firstOf (tablesRefusals t n) in
+      λ i. record {
+        holds = same-holds i;
+        tables = cond (same-holds i) (number (same-height i * same-width i)) 0;
+        place = cond (same-holds i) (placeIn t (same-height i * same-width i) (number (same-height i * same-width i))) 0;
+      }
 
 -- nothing has been done
 pub begun : (t : Tables) (s l log : List ℕ) → SoFar t s l log l log 0 0
@@ -118,7 +123,7 @@ begun t s l log =
       height = refl;
       holds = refl;
       untold = refl;
-      left = λ i. record { refusal = onward t l (length log) s .refusal; at = sym (zero-add (onward t l (length log) s .at)) i; mesh = onward t l (length log) s .mesh; log = onward t l (length log) s .log };
+      left = λ i. record { refusal = onward t l (length log) s .refusal; place = onward t l (length log) s .place; at = sym (zero-add (onward t l (length log) s .at)) i; mesh = onward t l (length log) s .mesh; log = onward t l (length log) s .log };
       past = refl;
       untouched = λ e. refl;
     }

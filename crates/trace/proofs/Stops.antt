@@ -18,8 +18,8 @@ use Rattle.trace.proofs.Traces.{read-within, trace-over, trace-step, tr
 
 module _ (holds : Bool) (t : Tables) where
   -- a replay that stops before the record at its start
-  stopped-right : (m : Mesh (Unit {0})) (room : ℕ) (s : List ℕ) (n : ℕ) → 0 < length s → (n ≡ 0 → ⊥) → numberAt holds t m room s ≡ n → StoppedRight holds t room s (stopped n m)
-  stopped-right m room s n more some e =
+  stopped-right : (m : Mesh (Unit {0})) (room : ℕ) (s : List ℕ) (n p : ℕ) → 0 < length s → (n ≡ 0 → ⊥) → numberAt holds t m room s ≡ n → StoppedRight holds t room s (stopped n p m)
+  stopped-right m room s n p more some e =
       let whole : room - 0 ≡ room = omega arith in
       record { ended = λ z. absurd (some z); within = λ z. more; number = λ z. ap (λ (k : ℕ). numberAt holds t m k s) whole ∙ e }
 
@@ -49,12 +49,12 @@ module _ (holds : Bool) (t : Tables) where
           → (b : Bool) → eqb (making holds t same tt m room (recordRead s .call) .refusal) 0 ≡ b
           → StoppedRight holds t room s
           (cond b (behind (recordRead s .length) (making holds t same tt m room (recordRead s .call) .log) (replaying holds t (making holds t same tt m room (recordRead s .call) .mesh) (room - length (making holds t same tt m room (recordRead s .call) .log)) (traceOf (drop (recordRead s .length) s))))
-          (stopped (making holds t same tt m room (recordRead s .call) .refusal) m))
+          (stopped (making holds t same tt m room (recordRead s .call) .refusal) (making holds t same tt m room (recordRead s .call) .place) m))
       accepted more read later true e =
           let within = read-within s read in
           behind-right room s (recordRead s .length) (x .log) _ (within .1) (later (drop (recordRead s .length) s) (rw length-drop (omega arith)) (x .mesh) (room - length (x .log)))
       accepted more read later false e =
-          stopped-right m room s (x .refusal) more (eqb-false _ _ e)
+          stopped-right m room s (x .refusal) (x .place) more (eqb-false _ _ e)
           (ap (λ (b : Bool). cond b (x .refusal) (recordRead s .refusal)) (eq-eqb (recordRead s .refusal) 0 read))
 
       some : 0 < length s → ((u : List ℕ) → length u ≤ n → (w : Mesh (Unit {0})) (k : ℕ) → StoppedRight holds t k u (replaying holds t w k (traceOf u)))
@@ -64,7 +64,7 @@ module _ (holds : Bool) (t : Tables) where
           (accepted more (eqb-true _ _ e) later (eqb (x .refusal) 0) refl)
       some more later false e =
           subst (λ tr. StoppedRight holds t room s (replaying holds t m room tr)) (sym (trace-stop s more (eqb-false _ _ e)))
-          (stopped-right m room s (recordRead s .refusal) more (eqb-false _ _ e)
+          (stopped-right m room s (recordRead s .refusal) 0 more (eqb-false _ _ e)
           (ap (λ (b : Bool). cond b (x .refusal) (recordRead s .refusal)) (ne-eqb (recordRead s .refusal) 0 (eqb-false _ _ e))))
 
       none : (b : Bool) → eqb (length s) 0 ≡ b → ((u : List ℕ) → length u ≤ n → (w : Mesh (Unit {0})) (k : ℕ) → StoppedRight holds t k u (replaying holds t w k (traceOf u)))

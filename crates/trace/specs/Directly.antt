@@ -25,21 +25,21 @@ pub data Made (t : Tables) (before log : List ℕ) (c : Call) : Added → List �
       → Made t before log c answer after written
   changed : {number : ℕ} {after : List ℕ} → c .kind ≡ 3 → number ≡ linkLeft before (c .chip) (c .link) (eqb (c .up) 1) .refusal
       → Leaves before after (linkLeft before (c .chip) (c .link) (eqb (c .up) 1))
-      → Made t before log c (record { refusal = number; added = 0 }) after log
+      → Made t before log c (record { refusal = number; added = 0; place = 0 }) after log
   emptied : {read : RegistersRead} {after : List ℕ} → c .kind ≡ 4 → read ≡ registersRead (holdsMesh before) (meshOf before) (c .chip)
       → Leaves before after (registersLeft before (c .chip))
-      → Made t before log c (record { refusal = read .refusal; added = 0 }) after log
+      → Made t before log c (record { refusal = read .refusal; added = 0; place = 0 }) after log
 
 -- The calls of a trace, each on the buffer that the one before left, with the same tables and the rest of the log, up to the first that is refused or cannot
 -- be read.
 pub data Directly (t : Tables) : List ℕ → List ℕ → Trace → List ℕ → List ℕ → Replayed → Type 0 where
-  done : {l log : List ℕ} → Directly t l log over l log (record { refusal = 0; at = 0; added = 0 })
-  unread : {l log : List ℕ} {n : ℕ} → Directly t l log (refused n) l log (record { refusal = n; at = 0; added = 0 })
+  done : {l log : List ℕ} → Directly t l log over l log (record { refusal = 0; at = 0; added = 0; place = 0 })
+  unread : {l log : List ℕ} {n : ℕ} → Directly t l log (refused n) l log (record { refusal = n; at = 0; added = 0; place = 0 })
   stops : {l log l₁ log₁ : List ℕ} {c : Call} {n : ℕ} {rest : Trace} {a : Added} → Made t l log c a l₁ log₁ → (a .refusal ≡ 0 → ⊥)
-      → Directly t l log (then c n rest) l₁ log₁ (record { refusal = a .refusal; at = 0; added = 0 })
+      → Directly t l log (then c n rest) l₁ log₁ (record { refusal = a .refusal; at = 0; added = 0; place = a .place })
   goes : {l log l₁ log₁ l₂ log₂ : List ℕ} {c : Call} {n : ℕ} {rest : Trace} {a : Added} {r : Replayed} → Made t l log c a l₁ log₁ → a .refusal ≡ 0
       → Directly t l₁ (drop (a .added * 6) log₁) rest l₂ log₂ r
-      → Directly t l log (then c n rest) l₂ (take (a .added * 6) log₁ ++ log₂) (record { refusal = r .refusal; at = n + r .at; added = a .added + r .added })
+      → Directly t l log (then c n rest) l₂ (take (a .added * 6) log₁ ++ log₂) (record { refusal = r .refusal; at = n + r .at; added = a .added + r .added; place = r .place })
 
 -- Two buffers, logs and answers with nothing between them: the same number, first byte and count, the same log, the same mesh, both with one or both without.
 pub record Alike (l₁ log₁ : List ℕ) (r₁ : Replayed) (l₂ log₂ : List ℕ) (r₂ : Replayed) : Type 0 where

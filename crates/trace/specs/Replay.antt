@@ -49,36 +49,37 @@ madeLeft l t room c = making (holdsMesh l) t same tt (meshOf l) room c
 
 -- ---- all of them
 
--- The number of the first refusal or 0, where it stopped, the mesh and the records added.
+-- The number of the first refusal or 0, its place, where it stopped, the mesh and the records added.
 pub record Replay : Type 0 where
   pub refusal : ℕ
+  pub place : ℕ
   pub at : ℕ
   pub mesh : Mesh (Unit {0})
   pub log : List ℕ
 
 -- Stopped at its first byte, with nothing done.
-abbrev pub stopped : ℕ → Mesh (Unit {0}) → Replay
-stopped refusal m = record { refusal = refusal; at = 0; mesh = m; log = [] }
+abbrev pub stopped : ℕ → ℕ → Mesh (Unit {0}) → Replay
+stopped refusal place m = record { refusal = refusal; place = place; at = 0; mesh = m; log = [] }
 
 -- The same, behind n bytes and some records of the log.
 abbrev pub behind : ℕ → List ℕ → Replay → Replay
-behind n log r = record { refusal = r .refusal; at = n + r .at; mesh = r .mesh; log = log ++ r .log }
+behind n log r = record { refusal = r .refusal; place = r .place; at = n + r .at; mesh = r .mesh; log = log ++ r .log }
 
 -- "The replay makes these calls on a lent mesh with one set of tables, each with the rest of the log, and stops at the first refusal, giving its number, the
 -- record's first byte and the log records added; what earlier records did stands".
 unfoldable pub replaying : Bool → Tables → Mesh (Unit {0}) → ℕ → Trace → Replay
-replaying holds t m room over = stopped 0 m
-replaying holds t m room (refused n) = stopped n m
+replaying holds t m room over = stopped 0 0 m
+replaying holds t m room (refused n) = stopped n 0 m
 replaying holds t m room (then c n rest) =
     let r = making holds t same tt m room c in
-    cond (eqb (r .refusal) 0) (behind n (r .log) (replaying holds t (r .mesh) (room - length (r .log)) rest)) (stopped (r .refusal) m)
+    cond (eqb (r .refusal) 0) (behind n (r .log) (replaying holds t (r .mesh) (room - length (r .log)) rest)) (stopped (r .refusal) (r .place) m)
 
 abbrev pub replayOf : List ℕ → Tables → ℕ → List ℕ → Replay
 replayOf l t room s = replaying (holdsMesh l) t (meshOf l) room (traceOf s)
 
--- "... giving its number, the record's first byte and the log records added".
+-- "... giving its number, the record's first byte and the log records added"; the place is that of the call that was refused.
 abbrev pub replayedOf : Replay → Replayed
-replayedOf r = record { refusal = r .refusal; at = r .at; added = length (r .log) / 6 }
+replayedOf r = record { refusal = r .refusal; at = r .at; added = length (r .log) / 6; place = r .place }
 
 -- A replay's buffer, log and answer. A replay that stopped at its first record has changed no word; words past the needed length are never touched.
 pub record Replays (before after log written : List ℕ) (answer : Replayed) (r : Replay) : Type 0 where
@@ -96,11 +97,12 @@ pub record Replays (before after log written : List ℕ) (answer : Replayed) (r 
 abbrev pub oneLeft : Tables → List ℕ → List ℕ → ℕ → Left (Unit {0})
 oneLeft t s l room =
     let r = recordRead s in
-    cond (eqb (r .refusal) 0) (madeLeft l t room (r .call)) (record { refusal = r .refusal; mesh = meshOf l; log = [] })
+    cond (eqb (r .refusal) 0) (madeLeft l t room (r .call)) (record { refusal = r .refusal; place = 0; mesh = meshOf l; log = [] })
 
 pub record OneDone (t : Tables) (s before log after written : List ℕ) (done : Done) : Type 0 where
   pub refusal : done .refusal ≡ oneLeft t s before (length log) .refusal
   pub bytes : done .refusal ≡ 0 → done .length ≡ recordRead s .length
   pub added : done .added ≡ length (oneLeft t s before (length log) .log) / 6
+  pub place : done .place ≡ oneLeft t s before (length log) .place
   pub buffer : Leaves before after (oneLeft t s before (length log))
   pub logged : written ≡ loggedOn (oneLeft t s before (length log) .log) log

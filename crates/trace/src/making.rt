@@ -48,13 +48,18 @@ pub fn make(
         2 => round_tested(mesh, log, rows, starts, codes, fixed, tested),
         3 => {
             let refusal = set_link_tested(mesh, call.chip, call.link, call.up == 1, tested.holds);
-            Added { refusal, added: 0 }
+            Added {
+                refusal,
+                added: 0,
+                place: 0,
+            }
         }
         _ => {
             let read = read_registers_tested(mesh, call.chip, tested.holds);
             Added {
                 refusal: read.refusal,
                 added: 0,
+                place: 0,
             }
         }
     }

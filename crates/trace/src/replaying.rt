@@ -43,6 +43,7 @@ pub fn replay(
                 refusal: done.refusal,
                 at,
                 added,
+                place: done.place,
             };
         }
         at += done.length;
@@ -52,14 +53,16 @@ pub fn replay(
         refusal: 0,
         at,
         added,
+        place: 0,
     }
 }
 
-// What one record of a replay does: a refusal, or the bytes of the record and the log records added.
+// What one record of a replay does: a refusal and its place, or the bytes of the record and the log records added.
 struct Done {
     refusal: u32,
     length: usize,
     added: u32,
+    place: u32,
 }
 
 fn replay_one(
@@ -81,6 +84,7 @@ fn replay_one(
             refusal: record.refusal,
             length: 0,
             added: 0,
+            place: 0,
         };
     }
     let call = record.call;
@@ -89,5 +93,6 @@ fn replay_one(
         refusal: made.refusal,
         length: record.length,
         added: made.added,
+        place: made.place,
     }
 }
