@@ -25,12 +25,12 @@ holds-where-taken : (holds : Bool) (rest : List Refusal) → firstOf (refuse (no
 holds-where-taken true rest e = refl
 holds-where-taken false rest e = absurd (omega arith)
 
-module _ (l l₁ : List ℕ) (rest : List Refusal) (g : Going (Unit {0})) where
+module _ (l l₁ : List ℕ) (rest : List Refusal) (p : ℕ) (g : Going (Unit {0})) where
   abbrev refusal : ℕ
   refusal = firstOf (refuse (not (holdsMesh l)) 8 ∷ rest)
 
   abbrev left : Left (Unit {0})
-  left = unless refusal (meshOf l) g
+  left = unless refusal p (meshOf l) g
 
   pub left-held : Leaves l l₁ left → heldIn l₁ ≡ after (heldIn l) left
   left-held k = go (eqb refusal 0) refl
@@ -48,12 +48,12 @@ module _ (l l₁ : List ℕ) (rest : List Refusal) (g : Going (Unit {0})) where
 module _ (l l₁ : List ℕ) where
   pub round-held : Leaves l l₁ (round (heldIn l)) → heldIn l₁ ≡ next (heldIn l)
   unfolding round next
-  round-held = left-held l l₁ (tablesRefusals lent (many (meshOf l)) ++ (refuse (ltb 6 (inFlight (meshOf l) * 6)) 10 ∷ [])) (rounded lent same (meshOf l))
+  round-held = left-held l l₁ (tablesRefusals lent (many (meshOf l)) ++ (refuse (ltb 6 (inFlight (meshOf l) * 6)) 10 ∷ [])) _ (rounded lent same (meshOf l))
 
   pub inject-held : (chip : ℕ) → Leaves l l₁ (inject (heldIn l) chip) → heldIn l₁ ≡ after (heldIn l) (inject (heldIn l) chip)
   unfolding inject
   inject-held chip =
-      left-held l l₁ (refuse (not (ltb chip (many (meshOf l)))) 9 ∷ (tablesRefusals lent (many (meshOf l)) ++ (refuse (ltb 6 6) 10 ∷ packetRefusals packet)))
+      left-held l l₁ (refuse (not (ltb chip (many (meshOf l)))) 9 ∷ (tablesRefusals lent (many (meshOf l)) ++ (refuse (ltb 6 6) 10 ∷ packetRefusals packet))) _
       (injected lent same (meshOf l) chip (record { packet = packetAt packet; tag = tt }))
 
 -- a buffer of zeros is opened

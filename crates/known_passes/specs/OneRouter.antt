@@ -39,4 +39,4 @@ case13 =
 
 -- "15. ... 1,024 rows pass; 1,025 are refused."
 unfoldable pub rowsFit : Bool
-rowsFit = eqb (refusalWith (take 5 ten) (replicate 3072 0)) 0 && eqb (refusalWith (take 5 ten) (replicate 3075 0)) 5
+rowsFit = eqb (refusalWith (take 5 ten) (replicate 3072 0)) 0 && eqb (refusalWith (take 5 ten) (replicate 3075 0)) 16

@@ -19,13 +19,13 @@ pub fn case_13() -> bool
         & parity_wrong(&even)
 }
 
-// 1,024 rows pass, and 1,025 are refused with 5.
+// 1,024 rows pass, and 1,025 are refused with 16.
 pub fn rows_fit() -> bool
     ensures { λ r. ⌜ r ≡ rowsFit ⌝ }
 {
     let bytes: [u8; 5] = [0, 0, 0, 0, 1];
     let rows = [0u32; 3075];
-    (refusal_with(&bytes, &rows[..3072]) == 0) & (refusal_with(&bytes, &rows) == 5)
+    (refusal_with(&bytes, &rows[..3072]) == 0) & (refusal_with(&bytes, &rows) == 16)
 }
 
 // Whether reading and the pass both refuse the bytes with this number.

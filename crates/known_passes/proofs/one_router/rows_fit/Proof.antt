@@ -28,7 +28,7 @@ refusal-with-requires-2 c κs = search needs
 
 returns : tie.Need-returns
 unfolding rowsFit
-returns c = λ i. eqb (c .before .before .before .refusal-with .ensures i) 0 && eqb (c .refusal-with2 .ensures i) 5
+returns c = λ i. eqb (c .before .before .before .refusal-with .ensures i) 0 && eqb (c .refusal-with2 .ensures i) 16
 
 pub rows-fit-spec : {M : Type 1} → statement M
 rows-fit-spec =
