@@ -1,6 +1,7 @@
 // The calls that FILE makes, each told as it is made.
 use super::course::Course;
 use super::course::answered;
+use super::course::answered_lent;
 use super::course::going_on;
 use super::deliveries::tell_deliveries;
 use super::keeping::injection;
@@ -52,7 +53,7 @@ pub fn send(
         codes,
         fixed,
     );
-    let mut c = answered(before, a.refusal);
+    let mut c = answered_lent(before, a.refusal, a.place, rows, starts);
     if a.refusal == 0 {
         c.injected = wrapping_add_u64(c.injected, 1);
     }
@@ -148,7 +149,7 @@ pub fn one_round(
     fixed: &[u32],
 ) -> Course {
     let a = round(mesh, log, rows, starts, codes, fixed);
-    let mut c = answered(going_on(before), a.refusal);
+    let mut c = answered_lent(going_on(before), a.refusal, a.place, rows, starts);
     if a.refusal == 0 {
         c.rounds = wrapping_add_u64(c.rounds, 1);
     }

@@ -1,4 +1,7 @@
 // How far a run has come, and what it has counted.
+use super::placing::has_place;
+use super::placing::tell_place;
+use super::telling::begin_refusal;
 use super::telling::tell_refusal;
 use libc::STDERR_FILENO;
 use script::say;
@@ -55,6 +58,24 @@ pub fn answered(before: Course, refusal: u32) -> Course {
         tell_refusal(c.at, c.replayed, refusal);
         c.refused = wrapping_add_u64(c.refused, 1);
     }
+    c
+}
+
+// The same of a call that is lent tables: where they are what is refused, the place is told.
+pub fn answered_lent(
+    before: Course,
+    refusal: u32,
+    at: u32,
+    rows: &[u32],
+    starts: &[u32],
+) -> Course {
+    if !has_place(refusal) {
+        return answered(before, refusal);
+    }
+    let mut c = before;
+    begin_refusal(c.at, c.replayed, refusal);
+    tell_place(c.board, refusal, at, rows, starts);
+    c.refused = wrapping_add_u64(c.refused, 1);
     c
 }
 

@@ -11,6 +11,7 @@ mod keeping;
 mod legend;
 mod passes;
 mod picture;
+mod placing;
 mod playing;
 mod records;
 mod replaying;

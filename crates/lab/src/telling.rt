@@ -47,6 +47,13 @@ fn tell_ids(word: u32) {
 
 // A refused call: its line or its record's first byte, the number, and the number in words.
 pub fn tell_refusal(at: u64, replayed: bool, refusal: u32) {
+    begin_refusal(at, replayed, refusal);
+    tell_reason(refusal);
+    text(b"\n");
+}
+
+// Its line or byte and its number alone.
+pub fn begin_refusal(at: u64, replayed: bool, refusal: u32) {
     if replayed {
         text(b"record at byte ");
     } else {
@@ -56,17 +63,12 @@ pub fn tell_refusal(at: u64, replayed: bool, refusal: u32) {
     text(b": refused ");
     small(refusal);
     text(b": ");
-    tell_reason(refusal);
-    text(b"\n");
 }
 
-fn tell_reason(refusal: u32) {
+pub fn tell_reason(refusal: u32) {
     match refusal {
         2 => text(b"the packet's length is not 5 or 9"),
         4 => text(b"an NN packet with T = 1"),
-        5 => text(
-            b"over 1,024 rows for a chip, a route bit above 25, bad starts, or fixed routes of wrong number",
-        ),
         6 => text(b"a monitor above 19"),
         7 => text(b"width, height or rounds in a phase out of range"),
         8 => text(b"no mesh in the buffer"),

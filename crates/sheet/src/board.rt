@@ -25,6 +25,9 @@ pub const LOG: usize = 41472;
 // No chip has this number.
 pub const NO_CHIP: u32 = 65535;
 
+// The lowest route bit that names neither a link nor a processor.
+const LEAST_BAD: u32 = 26;
+
 // Width 0 stands for no mesh.
 pub struct Board {
     pub width: u32,
@@ -76,4 +79,9 @@ pub fn times(a: u32, b: u32) -> u32
         }
     }
     0
+}
+
+// The lowest bit above 25 that a route has.
+pub fn bad_bit(route: u32) -> u32 {
+    wrapping_add_u32(LEAST_BAD, u32::trailing_zeros(route >> LEAST_BAD))
 }

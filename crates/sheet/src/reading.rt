@@ -5,9 +5,12 @@ use super::board::CODES;
 use super::board::NO_CHIP;
 use super::board::ROWS;
 use super::board::STARTS;
+use super::board::bad_bit;
 use super::board::chip_at;
 use super::board::chips;
 use super::board::no_board;
+use super::board::x_of;
+use super::board::y_of;
 use super::boards::CUT;
 use super::boards::FINE;
 use super::boards::Rows;
@@ -24,6 +27,7 @@ use libc::STDERR_FILENO;
 use packet::control::is_fixed;
 use packet::control::kind_of;
 use script::cells::between;
+use script::cells::word_at;
 use script::complaints::begin;
 use script::complaints::complain;
 use script::complaints::err;
@@ -397,12 +401,12 @@ fn with_rows_of(
         return no_file(r, path);
     }
     let from = read_rows(fd, chip, rows, counts);
-    let after = with_trouble(r, from, path);
+    let after = with_trouble(r, from, path, word_at(counts, chip as usize));
     libc::close(fd);
     after
 }
 
-fn with_trouble(r: Reading, from: Rows, path: &[u8]) -> Reading {
+fn with_trouble(r: Reading, from: Rows, path: &[u8], row: u32) -> Reading {
     let mut trouble = from.trouble;
     if (trouble == TOO_MANY) & r.counting {
         trouble = FINE;
@@ -418,7 +422,7 @@ fn with_trouble(r: Reading, from: Rows, path: &[u8]) -> Reading {
             r,
             b"the chip has 1,024 rows before the file ends, and a router takes no more\n",
         ),
-        _ => bad_route(r, from.count),
+        _ => bad_route(r, from, row),
     }
 }
 
@@ -454,11 +458,19 @@ fn no_file(before: Reading, path: &[u8]) -> Reading {
     r
 }
 
-fn bad_route(before: Reading, row: u64) -> Reading {
+// A row with a route bit that names nothing: its number among the chip's rows, the bit, and which row of the file it is.
+fn bad_route(before: Reading, from: Rows, row: u32) -> Reading {
     let r = begin_wrong(before);
+    let b = r.board;
     err(b"row ");
-    say::number(STDERR_FILENO, row);
-    err(b" of the file has a route bit above 25: bits 0 to 5 are links, 6 to 25 processors\n");
+    say::small(STDERR_FILENO, row);
+    err(b" of chip ");
+    say::place(STDERR_FILENO, x_of(b, from.chip), y_of(b, from.chip));
+    err(b": route bit ");
+    say::small(STDERR_FILENO, bad_bit(from.route));
+    err(b", row ");
+    say::number(STDERR_FILENO, from.count);
+    err(b" of the file: bits 0 to 5 are links, 6 to 25 processors\n");
     r
 }
 
