@@ -96,7 +96,7 @@ flooded-way w h f monitor o xs from to bytes t room links cs accepted follows wa
     let c : Call = injecting s f from to bytes t room in
     let x = accepts.arrivalNow s from bytes .flight in
     let here : Trip = trip w h f monitor o xs from to bytes t follows links way most in
-    let fine = accepts.inject-accepts (s .mesh) from bytes t room (accepts.unless-accepts _ (s .mesh) (injected t turned (s .mesh) from x) accepted) in
+    let fine = accepts.inject-accepts (s .mesh) from bytes t room (accepts.unless-accepts _ _ (s .mesh) (injected t turned (s .mesh) from x) accepted) in
     let first : accepts.afterInjection s from bytes t ≡ after s c = sym (after-accepted s c (eq-eqb _ 0 accepted) ∙ accepts.inject-leaves s from bytes t room accepted) in
     let sound-first : SoundMesh (after s c .mesh) =
     subst (λ (e : State). SoundMesh (e .mesh)) first (sound-injected t turned (s .mesh) from x (sound w h f monitor o xs) (fine .there) (fine .passable) (fine .codes)) in
