@@ -1,28 +1,37 @@
 /* The C interface of libyagbolshen, a proved model of the SpiNNaker router.
  *
  * Every function takes any input and answers, or refuses with a number: `refusal` is 0 for an accepted call, and a
- * refused one answers zeros in every other field and leaves lent memory as it came; a replay, which is many calls, says
- * what it does instead. A slice is a pointer and a count; an empty one may be NULL. Memory that is lent to be written
- * overlaps no other memory lent to the same call. Nothing is kept between calls. A phase is a code, and phases follow
- * each other as 0, 1, 3, 2.
+ * refused one answers zeros in every other field but `place` and leaves lent memory as it came; a replay, which is many
+ * calls, says what it does instead. A slice is a pointer and a count; an empty one may be NULL. Memory that is lent to be
+ * written overlaps no other memory lent to the same call. Nothing is kept between calls. A phase is a code, and phases
+ * follow each other as 0, 1, 3, 2.
  *
  *  1  source 6 or above 7                   7  width or height not 1 to 12, or rounds in a phase not 1 to 65,535
  *  2  packet length not 5 or 9              8  mesh buffer too short on opening, or later not holding a mesh
  *  4  nearest neighbour packet with T = 1   9  chip, link, counter or place in flight not there
- *  5  not whole rows, over 1,024 of them   10  log shorter than six numbers per packet in flight (injection: six)
- *     for a chip, or route bit 26 to 31    11  P2P table of wrong size, or a code above 7
- *     set; starts that do not fit; fixed
- *     routes of another number than chips,
- *     or with bit 26 to 31 set
- *  6  phase above 3, ready set above 63, monitor above 19, or a field out of range in packing
+ *  6  phase above 3, ready set above 63,   10  log shorter than six numbers per packet in flight (injection: six)
+ *     monitor above 19, or a field out of  11  P2P table of wrong size, or a code above 7
+ *     range in packing
  * 12  record of a trace cut short
  * 13  record with an empty body, or of a version other than 1
  * 14  record of no kind 1 to 4, of a length that is not its kind's, or with a link state above 1; in writing, a call
  *     that cannot be kept as it is
- * 16  over 16,384 rows that are to be made fewer
- * 17  a row of them with route bit 26 to 31 set, or not whole rows
+ * 15  bad starts: not one more than chips, the first not 0, one below the one before it, or the last not the number of
+ *     rows
+ * 16  over 1,024 rows for a chip, or over 16,384 that are to be made fewer
+ * 17  a row with route bit 26 to 31 set, or not whole rows
+ * 18  a fixed route with bit 26 to 31 set, or another number of them than chips
  * 27  room shorter than the record to be written
  * 28  room for fewer rows, or for fewer numbers of rows, than there are
+ *
+ * For 15 to 18 `place` is the first place where it is so, and for every other number, 0 too, it is 0:
+ * 15  the position among the starts: 0 if their number is wrong or the first is not 0, p if the start at p is below the
+ *     one before it, the number of chips if the last is not the number of rows
+ * 16  the chip; 0 where one table is lent
+ * 17  the number of the row in the slice that is lent, from 0, over all chips; words past the last whole row are the row
+ *     after it, and 15 and 16 do not count them
+ * 18  the chip; 0 where one route is lent, or where their number is wrong
+ * The numbers go before the places: a bad start at the end comes before a bad route in row 0.
  */
 #ifndef YAGBOLSHEN_H
 #define YAGBOLSHEN_H
@@ -35,15 +44,14 @@
 
 /* Raised with each change that a caller can see; 2 brings kept traces, 3 has a row match by its key itself,
  * 4 brings fixed-route packets, 5 has registers say where, when and how many, 6 brings P2P codes by flooding,
- * 7 makes tables fewer rows. */
-#define YAGBOLSHEN_VERSION 7
+ * 7 makes tables fewer rows, 8 says of bad tables which start, chip, row or fixed route it is: 15 to 18, with a place. */
+#define YAGBOLSHEN_VERSION 8
 
 /* The refusals by name. */
 #define YB_ACCEPTED 0
 #define YB_NO_SOURCE 1      /* source 6 or above 7 */
 #define YB_PACKET_LENGTH 2
 #define YB_DIRECT 4         /* nearest neighbour packet with T = 1 */
-#define YB_ROWS 5           /* rows, routes, starts or fixed routes */
 #define YB_RANGE 6          /* phase, ready set, monitor or a packet's field */
 #define YB_SIZE 7           /* width, height or rounds in a phase */
 #define YB_NO_MESH 8
@@ -53,8 +61,10 @@
 #define YB_CUT_SHORT 12
 #define YB_RECORD_VERSION 13
 #define YB_RECORD 14
-#define YB_MANY_ROWS 16     /* over 16,384, to be made fewer */
+#define YB_STARTS 15
+#define YB_MANY_ROWS 16     /* over 1,024 for a chip; over 16,384, to be made fewer */
 #define YB_ROUTE 17         /* a row's route, or not whole rows */
+#define YB_FIXED_ROUTE 18   /* a fixed route, or how many there are */
 #define YB_NO_ROOM 27
 #define YB_FEWER_ROOM 28
 
@@ -156,6 +166,7 @@ typedef struct {
     yb_packet leg;          /* the second leg as sent; zeros where none is */
     yb_registers registers; /* begun from zeros */
     yb_counters counters;   /* begun from zeros */
+    uint32_t place;         /* the row that 17 is about, and 0 else */
 } yb_pass;
 
 /* One row of a table in structs. */
@@ -172,8 +183,9 @@ typedef struct {
     uint32_t refusal, words;
 } yb_size;
 
+/* place: the start, chip or row that 15 to 18 is about, and 0 else */
 typedef struct {
-    uint32_t refusal, added;
+    uint32_t refusal, added, place;
 } yb_added;
 
 typedef struct {
@@ -221,10 +233,12 @@ typedef struct {
 } yb_record;
 
 /* at: where the replay stopped, which is the first byte of the record that was refused, or the length of the trace
- * where none was. added: the log records of all calls that were made. Both are given beside a refusal too. */
+ * where none was. added: the log records of all calls that were made. Both are given beside a refusal too. place: that of
+ * the call that was refused, as in yb_added. */
 typedef struct {
     uint32_t refusal;
     size_t at, added;
+    uint32_t place;
 } yb_replayed;
 
 /* rows: how many are left. gone: how many numbers are listed; both together are the rows that went in. place: the row
@@ -243,7 +257,8 @@ yb_packed yagbolshen_pack(yb_fields fields);
 /* Passes one packet through one router. `source` is the link 0 to 5 that it came by, or 7 for a local one. `rows` has
  * three words a row: key, mask, route; `rows_len` counts words. `codes` has one P2P code for each of the width * height
  * chips, at y * width + x. `monitor` is the number of the processor that watches the chip, 0 to 19; `ready` has bit i for
- * link i; `fixed` is the route of the chip's fixed-route packets. Refuses 7, 6, 5, 11, 1, 2, 4, the first that applies. */
+ * link i; `fixed` is the route of the chip's fixed-route packets. Refuses 7, 6, 16, 17, 18, 11, 1, 2, 4, the first that
+ * applies. */
 yb_pass yagbolshen_pass(const uint8_t *packet, size_t packet_len, uint32_t source, uint32_t width, uint32_t height,
                         const uint32_t *rows, size_t rows_len, const uint8_t *codes, size_t codes_len,
                         uint32_t monitor, uint32_t phase, uint32_t ready, uint32_t fixed);
@@ -270,15 +285,15 @@ yb_size yagbolshen_size(uint32_t width, uint32_t height);
 uint32_t yagbolshen_open(uint32_t *mesh, size_t mesh_len, uint32_t width, uint32_t height, uint32_t rounds_per_phase,
                          uint32_t monitor);
 
-/* Passes a local packet at a chip, at once, and answers how many log records were added. Refuses 8, 9, 5, 11, 10, 2, 4,
- * the first that applies. */
+/* Passes a local packet at a chip, at once, and answers how many log records were added. Refuses 8, 9, 15, 16, 17, 18,
+ * 11, 10, 2, 4, the first that applies. */
 yb_added yagbolshen_inject(uint32_t *mesh, size_t mesh_len, uint32_t *log, size_t log_len, uint32_t chip,
                            const uint8_t *packet, size_t packet_len, const uint32_t *rows, size_t rows_len,
                            const uint32_t *starts, size_t starts_len, const uint8_t *codes, size_t codes_len,
                            const uint32_t *fixed, size_t fixed_len);
 
 /* Passes all that is in flight, once, and answers how many log records were added; after each `rounds_per_phase` rounds
- * the phase steps on. Refuses 8, 5, 11, 10, the first that applies. */
+ * the phase steps on. Refuses 8, 15, 16, 17, 18, 11, 10, the first that applies. */
 yb_added yagbolshen_round(uint32_t *mesh, size_t mesh_len, uint32_t *log, size_t log_len, const uint32_t *rows,
                           size_t rows_len, const uint32_t *starts, size_t starts_len, const uint8_t *codes,
                           size_t codes_len, const uint32_t *fixed, size_t fixed_len);
@@ -320,8 +335,9 @@ yb_record yagbolshen_read_record(const uint8_t *trace, size_t trace_len);
 
 /* Reads the records of a trace one after another and makes their calls on the mesh, each with the rest of the log,
  * and stops at the first refusal. What earlier records did stands, and the call that was refused changes neither
- * mesh nor log. Refuses a record by 12, 13, 14, the first that applies, and then by what its call refuses: tables
- * are looked at by records that pass packets alone. A trace of no bytes makes no call and is accepted, whatever is
+ * mesh nor log. Refuses a record by 12, 13, 14, the first that applies, and then by what its call refuses, in the call's
+ * own order: an injection 8, 9, 15, 16, 17, 18, 11, 10, 4, a round 8, 15, 16, 17, 18, 11, 10, a link change and a read of
+ * registers 8, 9. Tables are looked at by records that pass packets alone. A trace of no bytes makes no call and is accepted, whatever is
  * lent with it. Registers that a replay reads are emptied, and handed to nobody. */
 yb_replayed yagbolshen_replay(uint32_t *mesh, size_t mesh_len, uint32_t *log, size_t log_len, const uint8_t *trace,
                               size_t trace_len, const uint32_t *rows, size_t rows_len, const uint32_t *starts,

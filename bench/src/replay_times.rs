@@ -66,7 +66,7 @@ fn one_by_one(mesh: &mut [u32], log: &mut [u32], trace: &[u8], tables: &LentTabl
         let record = trace_calls::read_record(&trace[replayed.at..]);
         let rest = &mut log[6 * replayed.added..];
         let made = if record.refusal == 0 { call(mesh, rest, &record.call, tables) } else { refused(record.refusal) };
-        replayed.refusal = made.refusal;
+        (replayed.refusal, replayed.place) = (made.refusal, made.place);
         replayed.added += made.added as usize;
         replayed.at += if made.refusal == 0 { record.length } else { 0 };
     }
@@ -84,7 +84,7 @@ fn call(mesh: &mut [u32], log: &mut [u32], call: &KeptCall, tables: &LentTables)
 
 /// Nothing is added; 0 is no refusal.
 fn refused(refusal: u32) -> Added {
-    Added { refusal, added: 0 }
+    Added { refusal, added: 0, place: 0 }
 }
 
 /// Packets in flight when a round begins, on the average.

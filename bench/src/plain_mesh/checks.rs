@@ -9,7 +9,7 @@ pub const NO_MESH: u32 = 8;
 pub const NOT_THERE: u32 = 9;
 pub const LOG: u32 = 10;
 
-/// 8, 9, 5, 11, 10, 2, 4.
+/// 8, 9, 15, 16, 17, 18, 11, 10, 2, 4.
 pub fn inject<const JOINED: bool>(
     mesh: &[u32],
     log: &[u32],
@@ -39,7 +39,7 @@ pub fn packet(bytes: &[u8]) -> Result<Packet, u32> {
     Ok(packet)
 }
 
-/// 8, 5, 11, 10.
+/// 8, 15, 16, 17, 18, 11, 10.
 pub fn round<const JOINED: bool>(mesh: &[u32], log: &[u32], tables: &LentTables) -> Result<(), u32> {
     if !holds(mesh) {
         return Err(NO_MESH);
@@ -51,15 +51,24 @@ pub fn round<const JOINED: bool>(mesh: &[u32], log: &[u32], tables: &LentTables)
     Ok(())
 }
 
-/// 5, 11.
+/// 15, 16, 17, 18, 11.
 pub fn check_tables<const JOINED: bool>(chips: usize, tables: &LentTables) -> Result<(), u32> {
     let starts = tables.starts;
     let starts_fit = starts.len() == chips + 1
         && starts[0] == 0
-        && starts.windows(2).all(|pair| pair[0] <= pair[1] && (pair[1] - pair[0]) as usize <= MOST_ROWS)
-        && starts[chips] as usize * 3 == tables.rows.len();
-    if !starts_fit || !routes_fit::<JOINED>(tables.rows) || !fixed_fit::<JOINED>(tables.fixed, chips) {
-        return Err(refusal::ROWS);
+        && starts.windows(2).all(|pair| pair[0] <= pair[1])
+        && starts[chips] as usize == tables.rows.len() / 3;
+    if !starts_fit {
+        return Err(refusal::STARTS);
+    }
+    if starts.windows(2).any(|pair| (pair[1] - pair[0]) as usize > MOST_ROWS) {
+        return Err(refusal::MANY_ROWS);
+    }
+    if !routes_fit::<JOINED>(tables.rows) {
+        return Err(refusal::ROUTE);
+    }
+    if !fixed_fit::<JOINED>(tables.fixed, chips) {
+        return Err(refusal::FIXED_ROUTE);
     }
     if !codes_fit::<JOINED>(tables.codes, (chips * chips) as u32) {
         return Err(refusal::CODES);

@@ -6,11 +6,13 @@ mod checks;
 mod flooding;
 mod holding;
 mod passing;
+mod places;
 mod replaying;
 
 use crate::interface::{Added, LentTables};
 use crate::model::{self, LINKS, LOCAL};
 use passing::{packet_at, pass_at};
+use places::place_of;
 pub use flooding::flood;
 pub use replaying::replay;
 
@@ -49,19 +51,23 @@ pub fn inject<const JOINED: bool>(
     tables: &LentTables,
 ) -> Added {
     if let Err(refusal) = checks::inject::<JOINED>(mesh, log, chip, bytes, tables) {
-        return Added { refusal, added: 0 };
+        return Added { refusal, added: 0, place: place_of(refusal, mesh, tables) };
     }
     match model::take(bytes) {
-        Err(refusal) => Added { refusal, added: 0 },
-        Ok(packet) => Added { refusal: 0, added: pass_at(mesh, log, 0, chip as usize, LOCAL, packet, tables) as u32 },
+        Err(refusal) => Added { refusal, added: 0, place: 0 },
+        Ok(packet) => accepted(pass_at(mesh, log, 0, chip as usize, LOCAL, packet, tables)),
     }
 }
 
 pub fn round<const JOINED: bool>(mesh: &mut [u32], log: &mut [u32], tables: &LentTables) -> Added {
     if let Err(refusal) = checks::round::<JOINED>(mesh, log, tables) {
-        return Added { refusal, added: 0 };
+        return Added { refusal, added: 0, place: place_of(refusal, mesh, tables) };
     }
-    Added { refusal: 0, added: pass_all(mesh, log, 0, tables) as u32 }
+    accepted(pass_all(mesh, log, 0, tables))
+}
+
+fn accepted(added: usize) -> Added {
+    Added { refusal: 0, added: added as u32, place: 0 }
 }
 
 /// What a round does once it is accepted. The log has so many records before. Answers how many it has then. Inlined by

@@ -4,6 +4,7 @@
 use super::checks::{check_tables, in_flight, packet, LOG, NOT_THERE, NO_MESH};
 use super::holding::holds;
 use super::passing::pass_at;
+use super::places::place_of;
 use super::{chips_of, link_at, pass_all, CHIP, COUNTERS_AT, DOWN, HEADER, RECORD};
 use crate::interface::{LentTables, Replayed};
 use crate::model::{LINKS, LOCAL};
@@ -19,10 +20,13 @@ pub fn replay<const JOINED: bool>(mesh: &mut [u32], log: &mut [u32], trace: &[u8
         let made = read(&trace[at..]).and_then(|(length, call)| replay.make::<JOINED>(call).map(|()| length));
         match made {
             Ok(length) => at += length,
-            Err(refusal) => return Replayed { refusal, at, added: replay.records },
+            Err(refusal) => {
+                let place = place_of(refusal, replay.mesh, tables);
+                return Replayed { refusal, at, added: replay.records, place };
+            }
         }
     }
-    Replayed { refusal: 0, at, added: replay.records }
+    Replayed { refusal: 0, at, added: replay.records, place: 0 }
 }
 
 enum Call<'a> {

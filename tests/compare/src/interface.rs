@@ -79,6 +79,7 @@ pub struct Pass {
     pub leg: Packet,
     pub registers: Registers,
     pub counters: Counters,
+    pub place: u32,
 }
 
 /// The arguments of `yagbolshen_pass`.
@@ -108,6 +109,7 @@ pub struct Size {
 pub struct Added {
     pub refusal: u32,
     pub added: u32,
+    pub place: u32,
 }
 
 #[repr(C)]
@@ -199,13 +201,14 @@ pub struct RecordRead {
     pub call: KeptCall,
 }
 
-/// `at` and `added` are given beside a refusal too.
+/// `at` and `added` are given beside a refusal too; `place` is that of the call that was refused.
 #[repr(C)]
 #[derive(Clone, Copy, Debug, Default, PartialEq, Eq)]
 pub struct Replayed {
     pub refusal: u32,
     pub at: usize,
     pub added: usize,
+    pub place: u32,
 }
 
 /// `rows` are left and `gone` are listed; `place` is the row of refusal 17.

@@ -74,7 +74,13 @@ fn main() {
     fewer::systematic(&mut fewer_tally, &mut random);
     fewer::random(&mut fewer_tally, &mut random, (FEWERS * scale) as u64);
 
-    if !(tally.print() & find_tally.print() & record_tally.print() & mesh_tally.print() & flood_tally.print() & fewer_tally.print()) {
+    if !(tally.print()
+        & find_tally.print()
+        & record_tally.print()
+        & mesh_tally.print()
+        & flood_tally.print()
+        & fewer_tally.print())
+    {
         std::process::exit(1);
     }
     println!("no difference (scale {scale}, seed {seed})");

@@ -36,10 +36,13 @@ pub mod refusal {
     pub const SOURCE: u32 = 1;
     pub const LENGTH: u32 = 2;
     pub const DIRECT: u32 = 4;
-    pub const ROWS: u32 = 5;
     pub const RANGE: u32 = 6;
     pub const SIZE: u32 = 7;
     pub const CODES: u32 = 11;
+    pub const STARTS: u32 = 15;
+    pub const MANY_ROWS: u32 = 16;
+    pub const ROUTE: u32 = 17;
+    pub const FIXED_ROUTE: u32 = 18;
 }
 
 pub fn read(bytes: &[u8]) -> Read {
@@ -65,7 +68,7 @@ pub fn pack(fields: &Fields) -> Packed {
 /// it; or all numbers joined and tested once, a loop that cannot end early and is compiled to vector instructions.
 pub fn pass<const JOINED: bool>(call: &PassCall) -> Pass {
     match accept::<JOINED>(call) {
-        Err(refusal) => Pass { refusal, ..Pass::default() },
+        Err(refusal) => Pass { refusal, place: place_of(refusal, call), ..Pass::default() },
         Ok(packet) => match errors_of(call, &packet) {
             0 => sound_pass(call, packet),
             errors => error_pass(call, packet, errors),
@@ -194,7 +197,22 @@ pub fn with_stamp(packet: &Packet, stamp: u32) -> Packet {
 
 // One pass
 
-/// The packet, or the first refusal that applies: 7, 6, 5, 11, 1, 2, 4.
+/// "0 but for 15 to 18", and "the chip is 0 where one table is lent": a bad row alone has a place of its own.
+#[cold]
+fn place_of(refusal: u32, call: &PassCall) -> u32 {
+    if refusal == refusal::ROUTE {
+        bad_row(call.rows).unwrap_or(0) as u32
+    } else {
+        0
+    }
+}
+
+/// The first row that has a bad route; "words past the last whole row are a row without a route".
+pub fn bad_row(rows: &[u32]) -> Option<usize> {
+    rows.chunks(ROW).position(|row| row.len() < ROW || !is_route(row[2]))
+}
+
+/// The packet, or the first refusal that applies: 7, 6, 16, 17, 18, 11, 1, 2, 4.
 fn accept<const JOINED: bool>(call: &PassCall) -> Result<Packet, u32> {
     if !is_side(call.width) || !is_side(call.height) {
         return Err(refusal::SIZE);
@@ -202,8 +220,14 @@ fn accept<const JOINED: bool>(call: &PassCall) -> Result<Packet, u32> {
     if call.phase > 3 || call.ready >= 1 << LINKS || call.monitor >= PROCESSORS {
         return Err(refusal::RANGE);
     }
-    if !rows_fit::<JOINED>(call.rows) || !is_route(call.fixed) {
-        return Err(refusal::ROWS);
+    if call.rows.len() / ROW > MOST_ROWS {
+        return Err(refusal::MANY_ROWS);
+    }
+    if !routes_fit::<JOINED>(call.rows) {
+        return Err(refusal::ROUTE);
+    }
+    if !is_route(call.fixed) {
+        return Err(refusal::FIXED_ROUTE);
     }
     if !codes_fit::<JOINED>(call.codes, call.width * call.height) {
         return Err(refusal::CODES);
@@ -226,14 +250,11 @@ pub fn is_route(route: u32) -> bool {
     route < 1 << ROUTE_BITS
 }
 
-pub fn rows_fit<const JOINED: bool>(rows: &[u32]) -> bool {
-    if rows.len() % ROW != 0 || rows.len() / ROW > MOST_ROWS {
+/// There are whole rows alone, and all have a route.
+pub fn routes_fit<const JOINED: bool>(rows: &[u32]) -> bool {
+    if rows.len() % ROW != 0 {
         return false;
     }
-    routes_fit::<JOINED>(rows)
-}
-
-pub fn routes_fit<const JOINED: bool>(rows: &[u32]) -> bool {
     let mut rows = rows.chunks_exact(ROW);
     if JOINED {
         is_route(rows.fold(0, |joined, row| joined | row[2]))

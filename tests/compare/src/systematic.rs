@@ -18,6 +18,7 @@ pub fn all(tally: &mut Tally, random: &mut Random) {
     neighbours(tally, random);
     control_by_length(tally, random);
     row_counts(tally, random);
+    bad_rows(tally, random);
     sizes(tally, random);
     damage_pairs(tally, random);
 }
@@ -162,6 +163,26 @@ fn row_counts(tally: &mut Tally, random: &mut Random) {
             set_parity_right(&mut case.packet);
             case.rows[words - from_end] = random.pick(&[0, 2, 1 << 25, 1 << 26, 1 << 31]);
             compare::pass(tally, &case);
+        }
+    }
+}
+
+/// Each row of small tables and of the largest with a bad route, alone and with a second one, a bad fixed route or words past
+/// the rows.
+fn bad_rows(tally: &mut Tally, random: &mut Random) {
+    for rows in (1..13).chain([MOST_ROWS - 1, MOST_ROWS]) {
+        for row in 0..rows {
+            for bit in 26..32 {
+                let second = random.below(rows as u32) as usize;
+                let mut case = one_chip(random, 0, 63, 0);
+                case.rows = [1, u32::MAX, 0x03ff_ffff].repeat(rows);
+                case.rows[3 * row + 2] = random.word() >> 6 | 1 << bit;
+                compare::pass(tally, &case);
+                case.fixed |= random.below(2) << (26 + random.below(6));
+                case.rows[3 * second + 2] |= random.below(2) << 31;
+                case.rows.resize(3 * rows + random.below(3) as usize, u32::MAX);
+                compare::pass(tally, &case);
+            }
         }
     }
 }

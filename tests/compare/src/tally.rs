@@ -1,7 +1,7 @@
 //! How often each thing that a call can do was reached.
 
 use crate::interface::{Fields, Packed, Packet, Pass, PassCall, Read};
-use crate::model::{self, error, kind, kind_of, mark, mark_of, refusal};
+use crate::model::{self, error, is_route, kind, kind_of, mark, mark_of, refusal, MOST_ROWS};
 
 pub type Events<Answer> = &'static [(&'static str, fn(&Answer) -> bool)];
 
@@ -31,17 +31,69 @@ const PASS_CALL: Events<Pass> = &[
     ("pass accepted", |pass| pass.refusal == 0),
     ("pass refusal 7, size", |pass| pass.refusal == refusal::SIZE),
     ("pass refusal 6, range", |pass| pass.refusal == refusal::RANGE),
-    ("pass refusal 5, rows", |pass| pass.refusal == refusal::ROWS),
+    ("pass refusal 16, many rows", |pass| pass.refusal == refusal::MANY_ROWS),
+    ("pass refusal 17, a row's route", |pass| pass.refusal == refusal::ROUTE),
+    ("pass refusal 18, the fixed route", |pass| pass.refusal == refusal::FIXED_ROUTE),
     ("pass refusal 11, codes", |pass| pass.refusal == refusal::CODES),
     ("pass refusal 1, source", |pass| pass.refusal == refusal::SOURCE),
     ("pass refusal 2, length", |pass| pass.refusal == refusal::LENGTH),
     ("pass refusal 4, NN with T = 1", |pass| pass.refusal == refusal::DIRECT),
 ];
 
-/// Calls that were refused by 5 for their fixed route alone, by the kind of their packet.
-const BAD_FIXED: Events<u32> = &[
-    ("pass refusal 5, fixed route alone, packet of type 11", |&kind| kind == kind::FIXED),
-    ("pass refusal 5, fixed route alone, packet of another type", |&kind| kind != kind::FIXED),
+/// What a pass that was refused was lent, and the row that it told of.
+struct BadTables {
+    refusal: u32,
+    place: u32,
+    /// Words of the rows, and rows with a bad route.
+    words: usize,
+    bad_rows: usize,
+    bad_fixed: bool,
+    bad_code: bool,
+    of_fixed: bool,
+}
+
+impl BadTables {
+    fn new(call: &PassCall, answer: &Pass) -> BadTables {
+        BadTables {
+            refusal: answer.refusal,
+            place: answer.place,
+            words: call.rows.len(),
+            bad_rows: call.rows.chunks_exact(3).filter(|row| !is_route(row[2])).count(),
+            bad_fixed: !is_route(call.fixed),
+            bad_code: call.codes.iter().any(|&code| code > 7),
+            of_fixed: call.packet.first().is_some_and(|&control| kind_of(control.into()) == kind::FIXED),
+        }
+    }
+
+    /// How many words there are from the row that it told of on; 17 alone tells of one.
+    fn from_row(&self) -> usize {
+        if self.refusal == refusal::ROUTE {
+            self.words - 3 * self.place as usize
+        } else {
+            0
+        }
+    }
+}
+
+const BAD_TABLES: Events<BadTables> = &[
+    ("16, 1,025 rows", |case| case.refusal == refusal::MANY_ROWS && case.words / 3 == MOST_ROWS + 1),
+    ("16 before 17", |case| case.refusal == refusal::MANY_ROWS && case.bad_rows > 0),
+    ("16 before 18", |case| case.refusal == refusal::MANY_ROWS && case.bad_fixed),
+    ("17, row 0", |case| case.refusal == refusal::ROUTE && case.place == 0),
+    ("17, row 1,023", |case| case.refusal == refusal::ROUTE && case.place == 1_023),
+    ("17, the last row of some", |case| case.place > 0 && case.from_row() == 3),
+    ("17, the first row of some that are bad", |case| case.refusal == refusal::ROUTE && case.bad_rows > 1),
+    ("17, one word past the rows", |case| case.from_row() == 1),
+    ("17, two words past the rows", |case| case.from_row() == 2),
+    ("17, a row, and words past the rows", |case| case.from_row() >= 3 && case.words % 3 != 0),
+    ("17, words past 1,024 rows", |case| case.refusal == refusal::ROUTE && case.place == 1_024),
+    ("17 before 18", |case| case.refusal == refusal::ROUTE && case.bad_fixed),
+    ("17 before 11", |case| case.refusal == refusal::ROUTE && case.bad_code),
+    ("18, packet of type 11", |case| case.refusal == refusal::FIXED_ROUTE && case.of_fixed),
+    ("18, packet of another type", |case| case.refusal == refusal::FIXED_ROUTE && !case.of_fixed),
+    ("18 before 11", |case| case.refusal == refusal::FIXED_ROUTE && case.bad_code),
+    ("7 before 17", |case| case.refusal == refusal::SIZE && case.bad_rows > 0),
+    ("6 before 17", |case| case.refusal == refusal::RANGE && case.bad_rows > 0),
 ];
 
 /// What a pass does, in the one-router call and in a mesh.
@@ -139,7 +191,7 @@ pub struct Tally {
     pack: [u64; PACK.len()],
     unpacked: [u64; UNPACKED.len()],
     pass_call: [u64; PASS_CALL.len()],
-    bad_fixed: [u64; BAD_FIXED.len()],
+    bad_tables: [u64; BAD_TABLES.len()],
     passes: PassTally,
 }
 
@@ -157,8 +209,8 @@ impl Tally {
 
     pub fn pass(&mut self, call: &PassCall, answer: &Pass) {
         count(PASS_CALL, &mut self.pass_call, answer);
-        if answer.refusal == refusal::ROWS && model::rows_fit::<false>(call.rows) && !call.packet.is_empty() {
-            count(BAD_FIXED, &mut self.bad_fixed, &kind_of(call.packet[0].into()));
+        if answer.refusal != 0 {
+            count(BAD_TABLES, &mut self.bad_tables, &BadTables::new(call, answer));
         }
         if answer.refusal == 0 {
             let word = u32::from_be_bytes([call.packet[1], call.packet[2], call.packet[3], call.packet[4]]);
@@ -176,7 +228,7 @@ impl Tally {
     pub fn print(&self) -> bool {
         let calls = print_all("", READ, &self.read) & print_all("", PACK, &self.pack);
         let refused = print_all("", UNPACKED, &self.unpacked) & print_all("", PASS_CALL, &self.pass_call);
-        calls & refused & print_all("", BAD_FIXED, &self.bad_fixed) & self.passes.print("")
+        calls & refused & print_all("pass refusal ", BAD_TABLES, &self.bad_tables) & self.passes.print("")
     }
 }
 

@@ -41,28 +41,28 @@ impl Pair {
         tables: &LentTables,
     ) -> Added {
         self.begin("inject", || format!("at {chip:x}, log {room:x}, {packet:x?}, {tables:x?}"));
-        let refusal = refusals::inject(self.mesh.as_ref(), room, chip, packet, tables);
+        let refused = refusals::inject(self.mesh.as_ref(), room, chip, packet, tables);
         let in_flight = account::in_flight(self.mesh.as_ref());
         let done = match &mut self.mesh {
-            Some(mesh) if refusal == 0 => mesh.inject(chip, packet, tables),
+            Some(mesh) if refused.number == 0 => mesh.inject(chip, packet, tables),
             _ => Done::default(),
         };
         let (words, log) = (&mut self.words[..self.lent], &mut self.log[..room]);
         let answer = mesh_calls::inject(words, log, chip, packet, tables);
-        self.settle_moved(refusal, &done, answer);
+        self.settle_moved(refused, &done, answer);
         self.settle_account(in_flight, &done);
-        tally.refusal(Call::Inject, refusal);
-        tally.tables(self.mesh.as_ref(), tables, refusal);
+        tally.refusal(Call::Inject, refused.number);
+        tally.places.inject.tables(self.mesh.as_ref(), tables, refused);
         tally.moved(&done, self.mesh.as_ref());
         answer
     }
 
     pub fn round(&mut self, tally: &mut MeshTally, room: usize, tables: &LentTables) -> Added {
         self.begin("round", || format!("log {room:x}, {tables:x?}"));
-        let refusal = refusals::round(self.mesh.as_ref(), room, tables);
+        let refused = refusals::round(self.mesh.as_ref(), room, tables);
         let in_flight = account::in_flight(self.mesh.as_ref());
         let done = match &mut self.mesh {
-            Some(mesh) if refusal == 0 => {
+            Some(mesh) if refused.number == 0 => {
                 tally.round_begins(mesh, room);
                 mesh.round(tables)
             }
@@ -70,12 +70,12 @@ impl Pair {
         };
         let (words, log) = (&mut self.words[..self.lent], &mut self.log[..room]);
         let answer = mesh_calls::round(words, log, tables);
-        self.settle_moved(refusal, &done, answer);
+        self.settle_moved(refused, &done, answer);
         self.settle_account(in_flight, &done);
-        tally.refusal(Call::Round, refusal);
-        tally.tables(self.mesh.as_ref(), tables, refusal);
+        tally.refusal(Call::Round, refused.number);
+        tally.places.round.tables(self.mesh.as_ref(), tables, refused);
         tally.moved(&done, self.mesh.as_ref());
-        if refusal == 0 {
+        if refused.number == 0 {
             tally.round_over(self.mesh.as_ref());
         }
         answer

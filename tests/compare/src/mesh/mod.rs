@@ -2,9 +2,11 @@
 
 mod account;
 mod bad_records;
+mod bad_tables;
 mod calls;
 mod damage;
 mod every_byte;
+mod every_place;
 mod every_word;
 mod flood_model;
 mod flood_tally;
@@ -17,6 +19,7 @@ mod most_units;
 mod packets;
 mod pair;
 mod passing;
+mod place_tally;
 mod refusals;
 mod refused_steps;
 mod replay;
@@ -33,11 +36,12 @@ pub use sequence::run;
 pub use tally::MeshTally;
 pub use traces::run as run_trace;
 
-/// What is no sequence of random calls: the known passes, every word of some buffers, every byte of some traces, and more
-/// drops on a chip than its registers count.
+/// What is no sequence of random calls: the known passes, every word of some buffers, every byte of some traces, tables
+/// that are wrong at every place, and more drops on a chip than its registers count.
 pub fn systematic(tally: &mut MeshTally, seed: u64) {
     known::all();
     every_word::all(tally, seed);
     every_byte::all(tally, seed);
+    every_place::all(tally, seed);
     most_units::all(tally, seed);
 }

@@ -2,6 +2,7 @@
 //! for word where the call may not touch a word. The first difference ends the program.
 
 use super::account;
+use super::bad_tables::Refused;
 use super::layout::{mesh_in, words_for};
 use super::model::{Done, Mesh};
 use crate::interface::Added;
@@ -53,8 +54,9 @@ impl Pair {
     }
 
     /// After an injection or a round.
-    pub fn settle_moved(&mut self, refusal: u32, done: &Done, answer: Added) {
-        self.same("answer", &Added { refusal, added: done.records.len() as u32 }, &answer);
+    pub fn settle_moved(&mut self, refused: Refused, done: &Done, answer: Added) {
+        let Refused { number: refusal, place } = refused;
+        self.same("answer", &Added { refusal, added: done.records.len() as u32, place }, &answer);
         self.logs(&done.records);
         self.settle(refusal);
     }

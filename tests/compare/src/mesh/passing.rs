@@ -302,6 +302,7 @@ impl Passed {
             leg: self.leg.map_or(Packet::default(), |(_, packet)| packet),
             registers: registers.unwrap_or_default(),
             counters: Counters { count: self.counts() },
+            place: 0,
         }
     }
 

@@ -1,6 +1,7 @@
 //! A replay in plain Rust, written from the rules, without sight of the Rattle sources: records are read one after another
 //! and their calls made on the model's mesh, "each with the rest of the log", up to the first refusal.
 
+use super::bad_tables::Refused;
 use super::model::{Done, Mesh};
 use super::refusals;
 use crate::interface::{KeptCall, LentTables, Registers, Replayed};
@@ -26,8 +27,8 @@ pub fn replay(mesh: &mut Option<Mesh>, room: usize, trace: &[u8], tables: &LentT
     while played.answer.at < trace.len() {
         match played.next(mesh, room, &trace[played.answer.at..], tables) {
             Ok(length) => played.answer.at += length,
-            Err(refusal) => {
-                played.answer.refusal = refusal;
+            Err(refused) => {
+                (played.answer.refusal, played.answer.place) = (refused.number, refused.place);
                 break;
             }
         }
@@ -38,14 +39,20 @@ pub fn replay(mesh: &mut Option<Mesh>, room: usize, trace: &[u8], tables: &LentT
 
 impl Played {
     /// Makes the call at the start of what is left of the trace, and answers how long its record is.
-    fn next(&mut self, mesh: &mut Option<Mesh>, room: usize, left: &[u8], tables: &LentTables) -> Result<usize, u32> {
+    fn next(
+        &mut self,
+        mesh: &mut Option<Mesh>,
+        room: usize,
+        left: &[u8],
+        tables: &LentTables,
+    ) -> Result<usize, Refused> {
         let (length, call) = take(left)?;
         let rest = room - LOG_RECORD * self.done.records.len();
-        match (refusal_of(mesh.as_ref(), rest, &call, tables), mesh) {
-            (0, Some(mesh)) => self.make(mesh, &call, tables),
-            (refusal, _) => {
+        match (refused_by(mesh.as_ref(), rest, &call, tables), mesh) {
+            (Refused { number: 0, .. }, Some(mesh)) => self.make(mesh, &call, tables),
+            (refused, _) => {
                 self.refused = Some(call);
-                return Err(refusal);
+                return Err(refused);
             }
         }
         Ok(length)
@@ -69,12 +76,12 @@ impl Played {
 }
 
 /// The tables are looked at by calls that pass packets alone.
-fn refusal_of(mesh: Option<&Mesh>, rest: usize, call: &KeptCall, tables: &LentTables) -> u32 {
+fn refused_by(mesh: Option<&Mesh>, rest: usize, call: &KeptCall, tables: &LentTables) -> Refused {
     match call.kind {
         kind::INJECTION => refusals::inject(mesh, rest, call.chip, packet_of(call), tables),
         kind::ROUND => refusals::round(mesh, rest, tables),
-        kind::LINK_CHANGE => refusals::link(mesh, call.chip, call.link),
-        _ => refusals::read_registers(mesh, call.chip),
+        kind::LINK_CHANGE => refusals::link(mesh, call.chip, call.link).into(),
+        _ => refusals::read_registers(mesh, call.chip).into(),
     }
 }
 

@@ -16,9 +16,8 @@ pub struct ReplayCase {
     trace: usize,
     room: usize,
     holds_mesh: bool,
-    /// What the tables are refused by, or 0, and whether their fixed routes alone are why.
+    /// What the tables are refused by, or 0.
     tables: u32,
-    fixed_alone: bool,
     answer: Replayed,
     calls: Vec<KeptCall>,
     /// The kind of the call that was refused, or 0 where a record was.
@@ -33,9 +32,8 @@ pub struct ReplayCase {
 impl ReplayCase {
     pub fn begun(mesh: Option<&Mesh>, room: usize, trace: &[u8], tables: &LentTables) -> ReplayCase {
         let holds_mesh = mesh.is_some();
-        let fixed_alone = mesh.is_some_and(|mesh| refusals::of_fixed_alone(mesh, tables));
-        let tables = mesh.map_or(0, |mesh| refusals::of_tables(mesh, tables));
-        ReplayCase { trace: trace.len(), room, holds_mesh, tables, fixed_alone, ..ReplayCase::default() }
+        let tables = mesh.map_or(0, |mesh| refusals::of_tables(mesh, tables).number);
+        ReplayCase { trace: trace.len(), room, holds_mesh, tables, ..ReplayCase::default() }
     }
 
     pub fn over(self, played: &Played, phase_steps: bool) -> ReplayCase {
@@ -64,11 +62,6 @@ impl ReplayCase {
         self.answer.refusal == number && !self.calls.is_empty()
     }
 
-    /// Stopped by 5 at a call of this kind, behind others, for fixed routes alone.
-    fn by_fixed(&self, kind: u32) -> bool {
-        self.later(refusal::ROWS) && self.refused == kind && self.fixed_alone
-    }
-
     /// Stopped by this number though the buffer holds no mesh.
     fn before_mesh(&self, number: u32) -> bool {
         self.answer.refusal == number && !self.holds_mesh
@@ -87,7 +80,7 @@ const REPLAY: Events<ReplayCase> = &[
     ("of all four kinds", |case| case.whole() && (1..=4).all(|kind| case.made(kind))),
     ("with a parity error passed", |case| case.whole() && case.parity),
     ("with fixed-route packets passed in a round", |case| case.whole() && case.fixed_in_round),
-    ("of calls that pass nothing, with bad fixed routes", |case| case.whole() && case.fixed_alone),
+    ("of calls that pass nothing, with bad fixed routes", |case| case.whole() && case.tables == refusal::FIXED_ROUTE),
     ("with a drop emptied from registers", |case| case.whole() && case.drop_emptied),
     ("over a step of the phase", |case| case.whole() && case.phase_steps),
     ("that fills the log", |case| case.whole() && case.answer.added > 0 && case.room == 6 * case.answer.added),
@@ -104,14 +97,19 @@ const STOPPED: Events<ReplayCase> = &[
     ("later, by 9 at an injection", |case| case.later(NOT_THERE) && case.refused == kind::INJECTION),
     ("later, by 9 at a link change", |case| case.later(NOT_THERE) && case.refused == kind::LINK_CHANGE),
     ("later, by 9 at a read", |case| case.later(NOT_THERE) && case.refused == kind::REGISTERS),
-    ("later, by 5 at an injection", |case| case.later(refusal::ROWS) && case.refused == kind::INJECTION),
-    ("later, by 5 at a round", |case| case.later(refusal::ROWS) && case.refused == kind::ROUND),
+    ("later, by 15 at an injection", |case| case.later(refusal::STARTS) && case.refused == kind::INJECTION),
+    ("later, by 15 at a round", |case| case.later(refusal::STARTS) && case.refused == kind::ROUND),
+    ("later, by 16 at an injection", |case| case.later(refusal::MANY_ROWS) && case.refused == kind::INJECTION),
+    ("later, by 16 at a round", |case| case.later(refusal::MANY_ROWS) && case.refused == kind::ROUND),
+    ("later, by 17 at an injection", |case| case.later(refusal::ROUTE) && case.refused == kind::INJECTION),
+    ("later, by 17 at a round", |case| case.later(refusal::ROUTE) && case.refused == kind::ROUND),
+    ("later, by 18 at an injection", |case| case.later(refusal::FIXED_ROUTE) && case.refused == kind::INJECTION),
+    ("later, by 18 at a round", |case| case.later(refusal::FIXED_ROUTE) && case.refused == kind::ROUND),
+    ("later, with a place", |case| case.answer.place > 0 && !case.calls.is_empty()),
     ("later, by 11 at an injection", |case| case.later(refusal::CODES) && case.refused == kind::INJECTION),
     ("later, by 11 at a round", |case| case.later(refusal::CODES) && case.refused == kind::ROUND),
     ("later, by 10 at an injection", |case| case.later(LOG) && case.refused == kind::INJECTION),
     ("later, by 10 at a round", |case| case.later(LOG) && case.refused == kind::ROUND),
-    ("later, by 5 at an injection, for a fixed route", |case| case.by_fixed(kind::INJECTION)),
-    ("later, by 5 at a round, for a fixed route", |case| case.by_fixed(kind::ROUND)),
     ("later, by 4", |case| case.later(refusal::DIRECT)),
     ("by 12, without a mesh", |case| case.before_mesh(of_record::CUT_SHORT)),
     ("by 13, without a mesh", |case| case.before_mesh(of_record::VERSION)),

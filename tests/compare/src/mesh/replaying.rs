@@ -2,6 +2,7 @@
 //! record came after has to stand, word for word, as if the trace had ended there.
 
 use super::account;
+use super::bad_tables::Refused;
 use super::pair::Pair;
 use super::replay::{replay, Played};
 use super::replay_tally::ReplayCase;
@@ -28,12 +29,14 @@ impl Pair {
         }
         if answer.refusal != 0 {
             let until = trace_calls::replay(&mut words[..self.lent], &mut log[..room], &trace[..answer.at], tables);
-            self.same("answer of the trace up to there", &Replayed { refusal: 0, ..answer }, &until);
+            self.same("answer of the trace up to there", &Replayed { refusal: 0, place: 0, ..answer }, &until);
             self.same_words("buffer beside that of the trace up to there", &words, &self.words);
             self.same_words("log beside that of the trace up to there", &log, &self.log);
         }
         self.settle_account(in_flight, &played.done);
         tally.refusal(Call::Replay, answer.refusal);
+        let refused = Refused { number: answer.refusal, place: answer.place };
+        tally.places.replay.tables(self.mesh.as_ref(), tables, refused);
         tally.moved(&played.done, self.mesh.as_ref());
         let phase_steps = phase != self.mesh.as_ref().map(|mesh| mesh.phase);
         tally.replays.count(&begun.over(&played, phase_steps));

@@ -98,7 +98,7 @@ fn random_codes(random: &mut Random, count: usize) -> Vec<u8> {
 
 pub type TableDamage = fn(&mut Tables, &mut Random);
 
-/// Each gives tables that were accepted a reason to be refused. The first ten are refusal 5, the others 11.
+/// Each gives tables that were accepted a reason to be refused. The first ten are refusals 15 to 18, the others 11.
 pub const TABLE_DAMAGES: [TableDamage; 12] = [
     |tables, random| tables.rows.extend(std::iter::repeat(0).take(1 + random.below(2) as usize)),
     |tables, random| {

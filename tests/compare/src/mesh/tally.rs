@@ -3,9 +3,9 @@
 use super::layout::MOST_HELD;
 use super::model::{Done, Mesh};
 use super::passing::MOST_UNITS;
-use super::refusals;
+use super::place_tally::PlaceTallies;
 use super::replay_tally::ReplayTally;
-use crate::interface::{LentTables, Packet, Registers};
+use crate::interface::{Packet, Registers};
 use crate::model::{kind, kind_of, LOCAL};
 use crate::tally::{print_line, PassTally};
 
@@ -28,17 +28,17 @@ pub enum Call {
 const CALLS: [(&str, &[u32]); 11] = [
     ("size", &[0, 7]),
     ("open", &[0, 7, 6, 8]),
-    ("inject", &[0, 8, 9, 5, 11, 10, 2, 4]),
-    ("round", &[0, 8, 5, 11, 10]),
+    ("inject", &[0, 8, 9, 15, 16, 17, 18, 11, 10, 2, 4]),
+    ("round", &[0, 8, 15, 16, 17, 18, 11, 10]),
     ("set link", &[0, 8, 9]),
     ("read registers", &[0, 8, 9]),
     ("read counter", &[0, 8, 9]),
     ("look at the mesh", &[0, 8]),
     ("look at link", &[0, 8, 9]),
     ("flight", &[0, 8, 9]),
-    ("replay", &[0, 12, 13, 14, 8, 9, 5, 11, 10, 4]),
+    ("replay", &[0, 12, 13, 14, 8, 9, 15, 16, 17, 18, 11, 10, 4]),
 ];
-const NUMBERS: usize = 15;
+const NUMBERS: usize = 19;
 
 #[derive(Default)]
 pub struct MeshTally {
@@ -76,9 +76,7 @@ pub struct MeshTally {
     flights_of_fixed: u64,
     changed_to_fixed: u64,
     most_fixed_in_flight: u64,
-    fixed_bits: u64,
-    fixed_too_few: u64,
-    fixed_too_many: u64,
+    pub places: PlaceTallies,
     pub replays: ReplayTally,
 }
 
@@ -138,15 +136,6 @@ impl MeshTally {
         self.flights_of_fixed += u64::from(kind_of(packet.control) == kind::FIXED);
     }
 
-    /// An injection or a round was refused, if it was, with these tables.
-    pub fn tables(&mut self, mesh: Option<&Mesh>, tables: &LentTables, refusal: u32) {
-        let Some(mesh) = mesh.filter(|mesh| refusal == 5 && refusals::of_fixed_alone(mesh, tables)) else { return };
-        let (routes, chips) = (tables.fixed.len(), mesh.chips.len());
-        self.fixed_bits += u64::from(routes == chips);
-        self.fixed_too_few += u64::from(routes < chips);
-        self.fixed_too_many += u64::from(routes > chips);
-    }
-
     /// A word of a buffer was changed; with so many packets of type 11 in flight before.
     pub fn changed_word(&mut self, mesh: Option<&Mesh>, fixed_before: usize) {
         self.changed_holds += u64::from(mesh.is_some());
@@ -169,13 +158,13 @@ impl MeshTally {
         for (name, count) in self.events() {
             all &= print_line(&format!("mesh, {name}"), count);
         }
-        all &= self.replays.print();
+        all &= self.places.print() & self.replays.print();
         println!("{:>12}  mesh, most packets in flight", self.most_in_flight);
         println!("{:>12}  mesh, calls", self.refusals.iter().flatten().sum::<u64>());
         all
     }
 
-    fn events(&self) -> [(&'static str, u64); 34] {
+    fn events(&self) -> [(&'static str, u64); 31] {
         [
             ("sequences", self.sequences),
             ("sequences on one chip", self.one_chip),
@@ -208,9 +197,6 @@ impl MeshTally {
             ("flight of a fixed-route packet", self.flights_of_fixed),
             ("changed word, one more of type 11 in flight", self.changed_to_fixed),
             ("most fixed-route packets in flight when a round begins", self.most_fixed_in_flight),
-            ("injection or round refused by 5, bad bit of a fixed route alone", self.fixed_bits),
-            ("injection or round refused by 5, too few fixed routes alone", self.fixed_too_few),
-            ("injection or round refused by 5, too many fixed routes alone", self.fixed_too_many),
         ]
     }
 }

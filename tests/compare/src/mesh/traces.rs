@@ -89,7 +89,7 @@ impl Pair {
 fn as_direct(tally: &mut MeshTally, random: &mut Random, kept: &Kept, twin: &mut Pair) {
     let room = kept.room + random.pick(&[0, 0, 1, 6, 13]) as usize;
     let played = twin.replay(tally, room, &kept.trace, &kept.tables.lent());
-    let expected = Replayed { refusal: 0, at: kept.trace.len(), added: kept.log.len() / 6 };
+    let expected = Replayed { refusal: 0, at: kept.trace.len(), added: kept.log.len() / 6, place: 0 };
     twin.same("answer beside the direct calls'", &expected, &played.answer);
     twin.same_words("log beside the direct calls'", &kept.log, &twin.log[..kept.log.len()]);
     same_looks(random, kept, twin);
