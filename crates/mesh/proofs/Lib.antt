@@ -1,4 +1,5 @@
 pub mod Accepts
+pub mod PlacesTold
 pub mod SoundAfter
 pub mod SoundArrivals
 pub mod SoundChanges

@@ -1,6 +1,7 @@
 pub mod Asked
 pub mod Calls
 pub mod Mesh
+pub mod Places
 pub mod Sound
 pub mod Steps
 pub mod Weights
