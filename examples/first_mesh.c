@@ -1,4 +1,5 @@
-/* A mesh of three by three chips: one packet branches to three of them, and the log shows who gets it, and when. */
+/* A mesh of three by three chips: one packet branches to three of them, and the log shows who gets it, and when. Then a row is
+ * made wrong, and the refusal tells which. */
 #include <inttypes.h>
 #include <stdio.h>
 #include <stdlib.h>
@@ -25,7 +26,7 @@ static void show(int round, yb_added answer)
 int main(void)
 {
     const uint8_t packet[] = {0x01, 0x00, 0x00, 0x12, 0x35}; /* mark 00, stamp 00, parity right; key 0x1235 */
-    const uint32_t rows[] = {                                /* key, mask, route: the rows of chips 0, 1, 2 and 3 */
+    uint32_t rows[] = {                                      /* key, mask, route: the rows of chips 0, 1, 2 and 3 */
         0x1200, 0xffffff00, YB_TO_LINK(YB_EAST) | YB_TO_LINK(YB_NORTH),   /* to chips 1 and 3 */
         0x1200, 0xffffff00, YB_TO_LINK(YB_EAST) | YB_TO_PROCESSOR(1),     /* to chip 2, and processor 1 */
         0x1200, 0xffffff00, YB_TO_PROCESSOR(2),
@@ -52,6 +53,11 @@ int main(void)
     show(0, yb_inject(mesh, words, records, YB_LOG_WORDS * RECORDS, 0, packet, sizeof packet, &tables));
     for (int round = 1; round <= 9 && yagbolshen_mesh(mesh, words).in_flight > 0; round++)
         show(round, yb_round(mesh, words, records, YB_LOG_WORDS * RECORDS, &tables));
+
+    rows[3 * 2 + 2] |= YB_TO_PROCESSOR(20); /* there is none */
+    const yb_added refused = yb_round(mesh, words, records, YB_LOG_WORDS * RECORDS, &tables);
+    if (refused.refusal == YB_ROUTE)
+        printf("refusal %" PRIu32 ": the route of row %" PRIu32 "\n", refused.refusal, refused.place);
     free(mesh);
     return 0;
 }

@@ -54,7 +54,7 @@ static uint32_t make(run *r, yb_call call)
 {
     uint32_t *rest = r->log + 6 * r->added;
     const size_t left = 6 * (RECORDS - r->added);
-    yb_added answer = {0, 0};
+    yb_added answer = {0};
     if (call.kind == INJECTION)
         answer = yagbolshen_inject(r->mesh, r->words, rest, left, call.chip, call.bytes, call.length, rows, 12, starts,
                                    CHIPS + 1, codes, sizeof codes, fixed, CHIPS);
