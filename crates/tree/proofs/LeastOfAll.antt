@@ -1,0 +1,166 @@
+-- "Least over all ways round the mesh": the way that is taken leads there, and no pair of signed numbers that leads there is better. Those with small counts are computed, and every other way has
+-- more links.
+use Prim.Native.Nat.{ℕ, zero, suc, _+_, _-_, _≤_, _<_, min}
+use mathlib.Core.Path.{_≡_, refl, sym, ap, subst, _∙_}
+use mathlib.Core.Logic.{⊎-elim}
+use mathlib.Core.Bool.{Bool, true, false, cond, not, _&&_, _||_, and-eq-true-iff}
+use mathlib.Core.List.{List, [], _∷_}
+use native.Mathlib.Omega.{arith}
+use borrow.Author.Tests.{leb-true, le-ltb, ne-eqb, eqb-true, not-true}
+use lib.Dec.{eqb, ltb, leb}
+use lib.IntN.{ℤ, pos, negsuc, natAbs}
+use lib.Signed.{ltZ}
+use Rattle.lists.proofs.Firsts.{lt-or-ge}
+use Rattle.packet.proofs.Small.{every, at}
+use Rattle.tables.specs.Sizes.{sizeFine}
+use Rattle.tables.proofs.Sizes as sizes
+use Rattle.tree.specs.declared.Way.{Way}
+use Rattle.tree.specs.Way.{sharedBy, linksIn, eqZ, better, turned, leads, counts, countsTo, wayTo}
+use Rattle.tree.specs.Walking.{bestOfFour}
+use Rattle.tree.proofs.ComputedWays.{sameWay, noneNorth, noneBetter, right, allRight, computed}
+
+pub record Right (width height east north : ℕ) : Type 0 where
+  pub four : bestOfFour width height east north ≡ wayTo width height east north
+  pub there : leads width height east north (wayTo width height east north) ≡ true
+  pub short : linksIn (wayTo width height east north) ≤ 11
+  pub none : noneBetter (wayTo width height east north) (countsTo width east counts) (countsTo height north counts) ≡ true
+
+eqZ-true : (a b : ℤ) → eqZ a b ≡ true → a ≡ b
+eqZ-true (pos a) (pos b) e = ap pos (eqb-true a b e)
+eqZ-true (negsuc a) (negsuc b) e = ap negsuc (eqb-true a b e)
+eqZ-true (pos a) (negsuc b) e = absurd (subst lib.Dec.T (sym e) tt)
+eqZ-true (negsuc a) (pos b) e = absurd (subst lib.Dec.T (sym e) tt)
+
+both : (a b : Bool) → (a && b) ≡ true → (a ≡ true) × (b ≡ true)
+both a b e = and-eq-true-iff a b .0 e
+
+same-way : (v w : Way) → sameWay v w ≡ true → v ≡ w
+unfolding sameWay
+same-way v w e =
+    let h = both (eqZ (v .east) (w .east)) (eqZ (v .north) (w .north)) e in
+    λ i. record { east = eqZ-true (v .east) (w .east) (h .0) i; north = eqZ-true (v .north) (w .north) (h .1) i }
+
+-- ---- what was computed, at every size and place
+
+taken-apart : (width height east north : ℕ) → right width height east north (bestOfFour width height east north) (wayTo width height east north) ≡ true → Right width height east north
+unfolding right
+taken-apart width height east north e =
+    let four = bestOfFour width height east north in
+    let way = wayTo width height east north in
+    let a = both (sameWay four way) _ e in
+    let b = both (leads width height east north way) _ (a .1) in
+    let c = both (leb (linksIn way) 11) _ (b .1) in
+    record { four = same-way four way (a .0); there = b .0; short = leb-true (linksIn way) 11 (c .0); none = c .1 }
+
+at-sizes : (w h x y : ℕ) → w < 12 → h < 12 → x < suc w → y < suc h → right (suc w) (suc h) x y (bestOfFour (suc w) (suc h) x y) (wayTo (suc w) (suc h) x y) ≡ true
+unfolding allRight
+at-sizes w h x y hw hh hx hy =
+    at (suc h) (λ y. right (suc w) (suc h) x y (bestOfFour (suc w) (suc h) x y) (wayTo (suc w) (suc h) x y))
+    (at (suc w) (λ x. every (suc h) (λ y. right (suc w) (suc h) x y (bestOfFour (suc w) (suc h) x y) (wayTo (suc w) (suc h) x y)))
+    (at 12 (λ h. every (suc w) (λ x. every (suc h) (λ y. right (suc w) (suc h) x y (bestOfFour (suc w) (suc h) x y) (wayTo (suc w) (suc h) x y))))
+    (at 12 (λ w. every 12 (λ h. every (suc w) (λ x. every (suc h) (λ y. right (suc w) (suc h) x y (bestOfFour (suc w) (suc h) x y) (wayTo (suc w) (suc h) x y))))) computed w hw)
+    h
+    hh)
+    x
+    hx)
+    y
+    hy
+
+at-any : (width height east north : ℕ) → 1 ≤ width → width ≤ 12 → 1 ≤ height → height ≤ 12 → east < width → north < height → Right width height east north
+at-any zero height east north a b c d x y = absurd (omega arith)
+at-any (suc w) zero east north a b c d x y = absurd (omega arith)
+at-any (suc w) (suc h) east north a b c d x y = taken-apart (suc w) (suc h) east north (at-sizes w h east north (omega arith) (omega arith) x y)
+
+pub right-way : (width height east north : ℕ) → sizeFine width height ≡ true → east < width → north < height → Right width height east north
+right-way width height east north fine x y =
+    let s = sizes.size width height fine in
+    at-any width height east north (s .width-low) (s .width-high) (s .height-low) (s .height-high) x y
+
+-- ---- all signed numbers
+
+isInZ : ℤ → List ℤ → Bool
+isInZ z [] = false
+isInZ z (y ∷ ys) = eqZ z y || isInZ z ys
+
+small-forwards : every 12 (λ n. isInZ (pos n) counts) ≡ true
+unfolding every isInZ
+small-forwards = refl
+
+small-backwards : every 11 (λ n. isInZ (negsuc n) counts) ≡ true
+unfolding every isInZ
+small-backwards = refl
+
+in-counts : (z : ℤ) → natAbs z ≤ 11 → isInZ z counts ≡ true
+in-counts (pos n) h = at 12 (λ n. isInZ (pos n) counts) small-forwards n (omega arith)
+in-counts (negsuc n) h = at 11 (λ n. isInZ (negsuc n) counts) small-backwards n (omega arith)
+
+or-right : (a b : Bool) → b ≡ true → (a || b) ≡ true
+or-right true b e = refl
+or-right false b e = e
+
+in-countsTo : (size far : ℕ) (z : ℤ) (zs : List ℤ) → isInZ z zs ≡ true → eqb (turned size z) far ≡ true → isInZ z (countsTo size far zs) ≡ true
+unfolding isInZ
+in-countsTo size far z [] e t = e
+in-countsTo size far z (y ∷ ys) e t = go (λ m. in-countsTo size far z ys m t) (eqZ z y) refl e (eqb (turned size y) far) refl
+  where
+    go : (isInZ z ys ≡ true → isInZ z (countsTo size far ys) ≡ true) → (b : Bool) → eqZ z y ≡ b → (b || isInZ z ys) ≡ true → (d : Bool) → eqb (turned size y) far ≡ d
+        → isInZ z (cond d (y ∷ countsTo size far ys) (countsTo size far ys)) ≡ true
+    go later true q m true p = ap (λ (b : Bool). b || isInZ z (countsTo size far ys)) q
+    go later true q m false p = absurd (subst lib.Dec.T (sym t ∙ ap (λ (v : ℤ). eqb (turned size v) far) (eqZ-true z y q) ∙ p) tt)
+    go later false q m true p = or-right (eqZ z y) (isInZ z (countsTo size far ys)) (later m)
+    go later false q m false p = later m
+
+none-north : (w : Way) (e n : ℤ) (ns : List ℤ) → noneNorth w e ns ≡ true → isInZ n ns ≡ true → better (record { east = e; north = n }) w ≡ false
+unfolding noneNorth isInZ
+none-north w e n [] t m = absurd (subst lib.Dec.T (sym m) tt)
+none-north w e n (y ∷ ys) t m = go (λ r. none-north w e n ys (both (not (better (record { east = e; north = y }) w)) (noneNorth w e ys) t .1) r) (eqZ n y) refl m
+  where
+    h : (not (better (record { east = e; north = y }) w) ≡ true) × (noneNorth w e ys ≡ true)
+    h = both (not (better (record { east = e; north = y }) w)) (noneNorth w e ys) t
+
+    go : (isInZ n ys ≡ true → better (record { east = e; north = n }) w ≡ false) → (b : Bool) → eqZ n y ≡ b → (b || isInZ n ys) ≡ true → better (record { east = e; north = n }) w ≡ false
+    go later true q r = ap (λ (v : ℤ). better (record { east = e; north = v }) w) (eqZ-true n y q) ∙ not-true _ (h .0)
+    go later false q r = later r
+
+none-there : (w : Way) (e n : ℤ) (es ns : List ℤ) → noneBetter w es ns ≡ true → isInZ e es ≡ true → isInZ n ns ≡ true → better (record { east = e; north = n }) w ≡ false
+unfolding noneBetter isInZ
+none-there w e n [] ns t me mn = absurd (subst lib.Dec.T (sym me) tt)
+none-there w e n (y ∷ ys) ns t me mn = go (λ r. none-there w e n ys ns (both (noneNorth w y ns) (noneBetter w ys ns) t .1) r mn) (eqZ e y) refl me
+  where
+    h : (noneNorth w y ns ≡ true) × (noneBetter w ys ns ≡ true)
+    h = both (noneNorth w y ns) (noneBetter w ys ns) t
+
+    go : (isInZ e ys ≡ true → better (record { east = e; north = n }) w ≡ false) → (b : Bool) → eqZ e y ≡ b → (b || isInZ e ys) ≡ true → better (record { east = e; north = n }) w ≡ false
+    go later true q r = ap (λ (v : ℤ). better (record { east = v; north = n }) w) (eqZ-true e y q) ∙ none-north w y n ns (h .0) mn
+    go later false q r = later r
+
+-- a way has at least as many links as steps east or west, and as steps north or south
+pub at-least : (e n : ℤ) → (natAbs e ≤ natAbs e + natAbs n - sharedBy e n) × (natAbs n ≤ natAbs e + natAbs n - sharedBy e n)
+at-least (pos a) (pos b) = (omega arith, omega arith)
+at-least (negsuc a) (negsuc b) = (omega arith, omega arith)
+at-least (pos a) (negsuc b) = (omega arith, omega arith)
+at-least (negsuc a) (pos b) = (omega arith, omega arith)
+
+longer : (v w : Way) → linksIn w < linksIn v → better v w ≡ false
+longer v w h = simp (le-ltb (linksIn v) (linksIn w) (omega arith), ne-eqb (linksIn v) (linksIn w) (λ e. omega arith))
+
+module _ (width height east north : ℕ) (fine : sizeFine width height ≡ true) (x : east < width) (y : north < height) where
+  pub taken-leads : leads width height east north (wayTo width height east north) ≡ true
+  taken-leads = right-way width height east north fine x y .there
+
+  -- of all pairs of signed numbers, however large
+  pub least-of-all : (v : Way) → leads width height east north v ≡ true → better v (wayTo width height east north) ≡ false
+  least-of-all v l =
+      let r = right-way width height east north fine x y in
+      let t = both (eqb (turned width (v .east)) east) (eqb (turned height (v .north)) north) l in
+      let far = at-least (v .east) (v .north) in
+      ⊎-elim
+      (λ (big : 11 < natAbs (v .east)). longer v (wayTo width height east north) (omega (arith, r .short, far)))
+      (λ (e : natAbs (v .east) ≤ 11).
+      ⊎-elim (λ (big : 11 < natAbs (v .north)). longer v (wayTo width height east north) (omega (arith, r .short, far)))
+      (λ (n : natAbs (v .north) ≤ 11).
+      none-there (wayTo width height east north) (v .east) (v .north) (countsTo width east counts) (countsTo height north counts) (r .none)
+      (in-countsTo width east (v .east) counts (in-counts (v .east) e) (t .0))
+      (in-countsTo height north (v .north) counts (in-counts (v .north) n) (t .1)))
+      (lt-or-ge 11 (natAbs (v .north))))
+      (lt-or-ge 11 (natAbs (v .east)))

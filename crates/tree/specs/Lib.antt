@@ -1,0 +1,5 @@
+pub mod Call
+pub mod Growing
+pub mod Rows
+pub mod Walking
+pub mod Way

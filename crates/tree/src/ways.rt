@@ -1,0 +1,98 @@
+// The way that is taken to a chip: signed steps east and north, least over all ways round the mesh.
+use super::Way;
+use super::walking::legs_of;
+ghost use mathlib.Core.Path.{_≡_};
+ghost use mathlib.Core.Bool.{true};
+ghost use lib.IntN.{pos, negℤ};
+ghost use Prim.Native.Nat.{_+_, _*_, _-_, _%_, _≤_, _<_, max};
+ghost use Rattle.tables.specs.Sizes.{sizeFine};
+ghost use Rattle.tree.specs.Way.{offset, wayTo, wayBetween};
+ghost use Rattle.tree.specs.Walking.{Small, nearer};
+
+pub fn way_between(width: u32, height: u32, from: u32, to: u32) -> Way
+    requires { ⌜ (sizeFine width height ≡ true) × ((from < height * width) × (to < height * width)) ⌝ }
+    ensures { λ r. ⌜ (r ≡ wayBetween width height from to) × Small r ⌝ }
+{
+    let east = forward(width, from % width, to % width);
+    let north = forward(height, from / width, to / width);
+    way_to(width, height, east, north)
+}
+
+// The steps forwards on a ring from a place to another.
+fn forward(size: u32, from: u32, to: u32) -> u32
+    requires { ⌜ (from < size) × ((to < size) × (size ≤ 12)) ⌝ }
+    ensures { λ r. ⌜ (r ≡ offset size from to) × (r < size) ⌝ }
+{
+    (to + (size - from)) % size
+}
+
+// The least way of each pair of directions, and the least of the four. Forwards in both, steps beyond the smaller number cost nothing up to the larger, and are taken.
+fn way_to(width: u32, height: u32, east: u32, north: u32) -> Way
+    requires { ⌜ (sizeFine width height ≡ true) × ((east < width) × (north < height)) ⌝ }
+    ensures { λ r. ⌜ (r ≡ wayTo width height east north) × Small r ⌝ }
+{
+    let far = larger(east, north);
+    let most_east = signed(far - (far - east) % width);
+    let most_north = signed(far - (far - north) % height);
+    let west = negative((width - east) % width);
+    let south = negative((height - north) % height);
+    let least_east = signed(east);
+    let least_north = signed(north);
+    let forwards = Way {
+        east: most_east,
+        north: most_north,
+    };
+    let first = fewer_links(
+        forwards,
+        Way {
+            east: least_east,
+            north: south,
+        },
+    );
+    let second = fewer_links(
+        first,
+        Way {
+            east: west,
+            north: least_north,
+        },
+    );
+    fewer_links(
+        second,
+        Way {
+            east: west,
+            north: south,
+        },
+    )
+}
+
+// The first of two ways unless the other has fewer links.
+fn fewer_links(first: Way, other: Way) -> Way
+    requires { ⌜ Small first × Small other ⌝ }
+    ensures { λ r. ⌜ (r ≡ nearer first other) × Small r ⌝ }
+{
+    if legs_of(other).end < legs_of(first).end {
+        other
+    } else {
+        first
+    }
+}
+
+fn larger(a: u32, b: u32) -> u32
+    ensures { λ r. ⌜ r ≡ max a b ⌝ }
+{
+    if a < b { b } else { a }
+}
+
+fn signed(count: u32) -> i32
+    requires { ⌜ count ≤ 11 ⌝ }
+    ensures { λ r. ⌜ r ≡ pos count ⌝ }
+{
+    count as i32
+}
+
+fn negative(count: u32) -> i32
+    requires { ⌜ count ≤ 11 ⌝ }
+    ensures { λ r. ⌜ r ≡ negℤ (pos count) ⌝ }
+{
+    -(count as i32)
+}
