@@ -1,12 +1,13 @@
 -- "Least over all ways round the mesh": the way that is taken leads there, and no pair of signed numbers that leads there is better. Those with small counts are computed, and every other way has
 -- more links.
-use Prim.Native.Nat.{ℕ, zero, suc, _+_, _-_, _≤_, _<_, min}
+use Prim.Native.Nat.{ℕ, zero, suc, _+_, _-_, _/_, _%_, _≤_, _<_, min}
 use mathlib.Core.Path.{_≡_, refl, sym, ap, subst, _∙_}
 use mathlib.Core.Logic.{⊎-elim}
 use mathlib.Core.Bool.{Bool, true, false, cond, not, _&&_, _||_, and-eq-true-iff}
 use mathlib.Core.List.{List, [], _∷_}
 use native.Mathlib.Omega.{arith}
-use borrow.Author.Tests.{leb-true, le-ltb, ne-eqb, eqb-true, not-true}
+use native.Mathlib.Nat.{mod-lt}
+use borrow.Author.Tests.{leb-true, le-ltb, ltb-false, eq-eqb, ne-eqb, eqb-true, not-true}
 use lib.Dec.{eqb, ltb, leb}
 use lib.IntN.{ℤ, pos, negsuc, natAbs}
 use lib.Signed.{ltZ}
@@ -15,7 +16,8 @@ use Rattle.packet.proofs.Small.{every, at}
 use Rattle.tables.specs.Sizes.{sizeFine}
 use Rattle.tables.proofs.Sizes as sizes
 use Rattle.tree.specs.declared.Way.{Way}
-use Rattle.tree.specs.Way.{sharedBy, linksIn, eqZ, better, turned, leads, counts, countsTo, wayTo}
+use Rattle.tree.specs.Way.{sharedBy, linksIn, eqZ, better, turned, offset, leads, counts, countsTo, wayTo, wayBetween}
+use Rattle.tree.specs.Promises.{LeastOfAll}
 use Rattle.tree.specs.Walking.{bestOfFour}
 use Rattle.tree.proofs.ComputedWays.{sameWay, noneNorth, noneBetter, right, allRight, computed}
 
@@ -144,6 +146,41 @@ at-least (negsuc a) (pos b) = (omega arith, omega arith)
 longer : (v w : Way) → linksIn w < linksIn v → better v w ≡ false
 longer v w h = simp (le-ltb (linksIn v) (linksIn w) (omega arith), ne-eqb (linksIn v) (linksIn w) (λ e. omega arith))
 
+-- no other is as good
+order : (a b : ℤ) → ltZ a b ≡ false → ltZ b a ≡ false → a ≡ b
+order (pos a) (pos b) l m = let x = ltb-false a b l in let y = ltb-false b a m in ap pos (omega arith)
+order (negsuc a) (negsuc b) l m = let x = ltb-false b a l in let y = ltb-false a b m in ap negsuc (omega arith)
+order (pos a) (negsuc b) l m = absurd (subst lib.Dec.T m tt)
+order (negsuc a) (pos b) l m = absurd (subst lib.Dec.T l tt)
+
+same-eqZ : (a b : ℤ) → a ≡ b → eqZ a b ≡ true
+same-eqZ a b e = ap (eqZ a) (sym e) ∙ self a
+  where
+    self : (z : ℤ) → eqZ z z ≡ true
+    self (pos n) = eq-eqb n n refl
+    self (negsuc n) = eq-eqb n n refl
+
+neither : (a b : Bool) → (a || b) ≡ false → (a ≡ false) × (b ≡ false)
+neither true b e = absurd (subst lib.Dec.T e tt)
+neither false b e = (refl, e)
+
+-- a test that fails with another that holds
+fails : (a b : Bool) → a ≡ true → (a && b) ≡ false → b ≡ false
+fails true b h e = e
+fails false b h e = absurd (subst lib.Dec.T (sym h) tt)
+
+as-good : (v w : Way) → better v w ≡ false → better w v ≡ false → v ≡ w
+as-good v w f g =
+    let a = neither (ltb (linksIn v) (linksIn w)) _ f in
+    let b = neither (ltb (linksIn w) (linksIn v)) _ g in
+    let many : linksIn v ≡ linksIn w = omega (arith, ltb-false (linksIn v) (linksIn w) (a .0), ltb-false (linksIn w) (linksIn v) (b .0)) in
+    let c = neither (ltZ (w .east) (v .east)) _ (fails (eqb (linksIn v) (linksIn w)) _ (eq-eqb _ _ many) (a .1)) in
+    let d = neither (ltZ (v .east) (w .east)) _ (fails (eqb (linksIn w) (linksIn v)) _ (eq-eqb _ _ (sym many)) (b .1)) in
+    let east : v .east ≡ w .east = order (v .east) (w .east) (d .0) (c .0) in
+    let north : v .north ≡ w .north =
+    order (v .north) (w .north) (fails (eqZ (v .east) (w .east)) _ (same-eqZ _ _ east) (d .1)) (fails (eqZ (w .east) (v .east)) _ (same-eqZ _ _ (sym east)) (c .1)) in
+    λ i. record { east = east i; north = north i }
+
 module _ (width height east north : ℕ) (fine : sizeFine width height ≡ true) (x : east < width) (y : north < height) where
   pub taken-leads : leads width height east north (wayTo width height east north) ≡ true
   taken-leads = right-way width height east north fine x y .there
@@ -164,3 +201,15 @@ module _ (width height east north : ℕ) (fine : sizeFine width height ≡ true)
       (in-countsTo height north (v .north) counts (in-counts (v .north) n) (t .1)))
       (lt-or-ge 11 (natAbs (v .north))))
       (lt-or-ge 11 (natAbs (v .east)))
+
+pub least : LeastOfAll
+least width height from to fine f t =
+    let s = sizes.size width height fine in
+    let x = mod-lt (to % width + (width - from % width)) (s .width-low) in
+    let y = mod-lt (to / width + (height - from / width)) (s .height-low) in
+    let none = least-of-all width height (offset width (from % width) (to % width)) (offset height (from / width) (to / width)) fine x y in
+    record {
+      there = taken-leads width height (offset width (from % width) (to % width)) (offset height (from / width) (to / width)) fine x y;
+      none-better = none;
+      none-as-good = λ v l e. as-good v (wayBetween width height from to) (none v l) e;
+    }

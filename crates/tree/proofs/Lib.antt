@@ -1,7 +1,9 @@
+pub mod Acceptable
 pub mod Answers
 pub mod ComputedWays
 pub mod LeastOfAll
 pub mod LinkByLink
+pub mod LowRoutes
 pub mod RowByRow
 pub mod Signs
 pub mod TargetByTarget

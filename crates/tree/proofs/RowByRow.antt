@@ -89,7 +89,7 @@ module _ (t : Grown) where
         (λ i. front i ++ (row ++ (back ∙ far) i)) ∙ sym (append-assoc xs row (drop (length (xs ++ row)) l))
         ∙ sym (ap (λ (r : List ℕ). r ++ drop (length r) l) (below-more k))
 
-  starts-long : (k : ℕ) → length (startsBelow t k) ≡ k
+  pub starts-long : (k : ℕ) → length (startsBelow t k) ≡ k
   unfolding upTo
   starts-long zero = refl
   starts-long (suc k) = length-append (startsBelow t k) (startOf t k ∷ []) ∙ omega (arith, starts-long k)

@@ -1,5 +1,6 @@
 pub mod Call
 pub mod Growing
+pub mod Promises
 pub mod Rows
 pub mod Walking
 pub mod Way
