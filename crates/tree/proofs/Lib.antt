@@ -1,9 +1,12 @@
 pub mod Acceptable
 pub mod Answers
 pub mod ComputedWays
+pub mod Displaced
+pub mod FewestLinks
 pub mod LeastOfAll
 pub mod LinkByLink
 pub mod LowRoutes
+pub mod Rings
 pub mod RowByRow
 pub mod Signs
 pub mod TargetByTarget

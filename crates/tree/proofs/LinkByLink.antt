@@ -26,7 +26,7 @@ pub record InOrder (legs : Legs) : Type 0 where
   pub turn-late : legs .shared ≤ legs .turn
   pub end-late : legs .turn ≤ legs .end
 
-few-shared : (e n : ℤ) → (sharedBy e n ≤ natAbs e) × (sharedBy e n ≤ natAbs n)
+pub few-shared : (e n : ℤ) → (sharedBy e n ≤ natAbs e) × (sharedBy e n ≤ natAbs n)
 few-shared (pos a) (pos b) = (omega arith, omega arith)
 few-shared (negsuc a) (negsuc b) = (omega arith, omega arith)
 few-shared (pos a) (negsuc b) = (omega arith, omega arith)
@@ -118,6 +118,9 @@ legs-low legs w j e = rw e (link-low w j)
 
 pub legs-links : (legs : Legs) (w : Way) → legs ≡ legsOf w → linksBy legs ≡ linksOf w
 legs-links legs w e = ap linksBy e ∙ links-by w
+
+pub links-long : (w : Way) → length (linksOf w) ≡ linksIn w
+links-long w = ap length (sym (links-by w)) ∙ all-long (legsOf w) (in-order w)
 
 -- ---- along a way
 
