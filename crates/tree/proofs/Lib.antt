@@ -1,12 +1,17 @@
+pub mod ATree
 pub mod Acceptable
+pub mod AcrossBack
 pub mod Answers
 pub mod ComputedWays
 pub mod Displaced
 pub mod FewestLinks
+pub mod FreshWay
 pub mod LeastOfAll
 pub mod LinkByLink
 pub mod LowRoutes
 pub mod Rings
+pub mod RouteBits
 pub mod RowByRow
 pub mod Signs
+pub mod StaysATree
 pub mod TargetByTarget
