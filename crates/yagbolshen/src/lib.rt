@@ -18,6 +18,7 @@ use trace::Call;
 use trace::Record;
 use trace::Replayed;
 use trace::Written;
+use tree::Tree;
 ghost use mathlib.Core.Path.{_≡_};
 ghost use lib.ListN.{length};
 ghost use Rattle.packet.specs.Fields.{readOf};
@@ -32,6 +33,7 @@ ghost use Rattle.buffer.specs.Holding.{holdsMesh};
 ghost use Rattle.mesh.specs.Steps.{tablesOf};
 ghost use Rattle.mesh.specs.Calls.{registersRead, countRead, meshRead, linkRead, flightRead};
 ghost use Rattle.buffer.specs.Leaving.{Leaves, Moves, injectLeft, roundLeft, linkLeft, registersLeft};
+ghost use Rattle.tree.specs.Call.{treeOf, rowsAfter, startsAfter};
 ghost use Rattle.fewer.specs.Call.{fewerOf, leftAfter, goneAfter};
 ghost use Rattle.trace.specs.Records.{recordRead, writtenOf, writtenOn};
 ghost use Rattle.trace.specs.Replay.{replayOf, Replays};
@@ -243,4 +245,23 @@ pub extern "C" fn yagbolshen_fewer(rows: &[u32], left: &mut [u32], gone: &mut [u
     ensures { λ _. ⌜ now (gone .exit) ≡ goneAfter (now (rows .entry)) (now (left .entry)) (now (gone .entry)) ⌝ }
 {
     fewer::call::fewer(rows, left, gone)
+}
+
+// The rows that lead a packet from a source chip to the processors of a list of chips.
+#[no_mangle]
+pub extern "C" fn yagbolshen_tree(
+    width: u32,
+    height: u32,
+    source: u32,
+    key: u32,
+    mask: u32,
+    targets: &[u32],
+    rows: &mut [u32],
+    starts: &mut [u32],
+) -> Tree
+    ensures { λ r. ⌜ r ≡ treeOf width height source key mask (now (targets .entry)) (now (rows .entry)) (now (starts .entry)) ⌝ }
+    ensures { λ _. ⌜ now (rows .exit) ≡ rowsAfter width height source key mask (now (targets .entry)) (now (rows .entry)) (now (starts .entry)) ⌝ }
+    ensures { λ _. ⌜ now (starts .exit) ≡ startsAfter width height source key mask (now (targets .entry)) (now (rows .entry)) (now (starts .entry)) ⌝ }
+{
+    tree::call::tree(width, height, source, key, mask, targets, rows, starts)
 }
