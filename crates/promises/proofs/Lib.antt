@@ -37,6 +37,7 @@ pub mod Runs
 pub mod Sequences
 pub mod Told
 pub mod Towards
+pub mod TreeWays
 pub mod Twins
 pub mod Weighs
 pub mod WholeRuns

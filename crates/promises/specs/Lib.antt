@@ -1,7 +1,7 @@
 pub mod Demand3
+pub mod Determined
 pub mod Detoured
 pub mod DetouredExamples
-pub mod Determined
 pub mod FirstRow
 pub mod FixedRoute
 pub mod FloodedWay
@@ -11,4 +11,5 @@ pub mod NoStaleBlock
 pub mod OnePass
 pub mod Sequence
 pub mod Told
+pub mod TreeWays
 pub mod UnusedRows
