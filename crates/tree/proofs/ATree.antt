@@ -1,32 +1,34 @@
 -- What an accepted call grows is a tree: the source alone is one, and it stays one target by target, since each way is a shortest one, cut at its last chip within.
-use Prim.Native.Nat.{ℕ, zero, suc, _+_, _*_, _/_, _^_, _≤_, _<_}
-use mathlib.Core.Path.{_≡_, refl, sym, ap, subst, _∙_}
-use mathlib.Core.Bool.{Bool, true, false, cond, _&&_, and-eq-true-iff}
+use Prim.Native.Nat.{ℕ, zero, suc, _*_, _/_, _≤_, _<_}
+use mathlib.Core.Path.{_≡_, sym, ap, subst, _∙_}
+use mathlib.Core.Bool.{Bool, true, false, cond, and-eq-true-iff}
 use mathlib.Core.List.{List, [], _∷_}
 use native.Mathlib.Omega.{arith}
 use native.Mathlib.Decide.{ℕ-discrete}
 use borrow.Author.Tests.{eq-eqb, ne-eqb, ltb-true}
 use lib.Bits.{bitOr}
 use lib.Dec.{eqb, ltb}
-use lib.ListN.{length, getD, set, replicate, length-set, getD-replicate}
+use lib.ListN.{length-set}
 use lib.Seq.{getD-set-same, getD-set-other}
 use Rattle.lists.specs.Lists.{All}
 use Rattle.steps.specs.Links.{has}
 use Rattle.tables.specs.Sizes.{sizeFine}
 use Rattle.tables.proofs.Sizes as sizes
-use Rattle.links.specs.Across.{across}
+use Rattle.links.specs.Across.{across, opposite}
 use Rattle.tree.specs.Way.{linksOf, wayBetween}
-use Rattle.tree.specs.Growing.{Target, targetsOf, Grown, Part, sourceAlone, oneMore, added, newPart, withPart, withProcessors, withTarget, grownBy}
+use Rattle.tree.specs.Growing.{Target, targetsOf, Grown, sourceAlone, oneMore, added, newPart, withPart, withProcessors, withTarget, grownBy}
 use Rattle.tree.specs.Rows.{enteredAt, routeAt}
-use Rattle.tree.specs.Call.{allThere}
+use Rattle.tree.specs.Call.{allThere, namedAgain}
 use Rattle.tree.specs.Promises.{chipAfter}
-use Rattle.tree.specs.Rooted.{isLink, Rooted, processorsOn, Grows, ATree}
-use Rattle.tree.proofs.RouteBits.{none-in, links-kept, processors-more}
+use Rattle.tree.specs.Rooted.{isLink, Rooted, Grows, ATree}
+use Rattle.tree.proofs.RouteBits.{links-kept, processors-more}
 use Rattle.tree.proofs.LowRoutes.{LinkLow, links-low}
-use Rattle.tree.proofs.FreshWay.{Out, Short, NewPart, never-back, short-after, out-still, out-first, whole-new}
+use Rattle.tree.proofs.FreshWay.{Out, Short, never-back, short-after, out-still, out-first, whole-new}
 use Rattle.tree.proofs.FewestLinks.{fewest-links}
-use Rattle.tree.proofs.AcrossBack.{across-there}
+use Rattle.tree.proofs.AcrossBack.{across-there, across-back}
+use Rattle.tree.proofs.NamedOnce.{processorsOn, not-named, each-named}
 use Rattle.tree.proofs.StaysATree.{Good, one-good, next-within, still-within}
+use Rattle.tree.proofs.SourceAlone.{alone, at-source}
 use Rattle.tree.proofs.Answers as answers
 
 abbrev Within : Grown → ℕ → Type 0
@@ -41,46 +43,6 @@ module _ (w h source : ℕ) (fine : sizeFine (suc w) (suc h) ≡ true) where
 
   abbrev Fine : Grown → (ℕ → ℕ) → Type 0
   Fine t named = Good w h source small t named
-
-  -- ---- the source alone
-
-  module _ (there : source < all) where
-    no-route : (d : ℕ) → d < all → routeAt (sourceAlone source) d ≡ 0
-    no-route d l = getD-replicate 144 d 0 0 (omega (arith, small))
-
-    at-source : enteredAt (sourceAlone source) source ≡ 6
-    at-source = getD-set-same (replicate 144 7) source 6 0 (omega (arith, small))
-
-    elsewhere : (d : ℕ) → d < all → (d ≡ source → ⊥) → enteredAt (sourceAlone source) d ≡ 7
-    elsewhere d l n = getD-set-other (replicate 144 7) source d 6 0 n ∙ getD-replicate 144 d 7 0 (omega (arith, small))
-
-    none : (d j : ℕ) → d < all → j < 6 → isLink (suc w) (suc h) source (sourceAlone source) d j ≡ true → ⊥
-    none d j hd hj l = none-in j hj (ap (λ (k : ℕ). has k j) (sym (no-route d hd)) ∙ l)
-
-    by-source : (P : ℕ → Type 0) → (d : ℕ) → (d ≡ source → P d) → ((d ≡ source → ⊥) → P d) → P d
-    by-source P d f g = go (ℕ-discrete d source)
-      where
-        go : Dec (d ≡ source) → P d
-        go (yes e) = f e
-        go (no n) = g n
-
-    alone : Fine (sourceAlone source) (λ d. 0)
-    alone = record {
-      rooted = record {
-        root = at-source;
-        only-root = λ d l e. by-source (λ d. d ≡ source) d (λ s. s) (λ n. absurd (omega (arith, elsewhere d l n)));
-        kinds = λ d l. by-source (λ d. enteredAt (sourceAlone source) d ≤ 7) d (λ s. omega (arith, ap (enteredAt (sourceAlone source)) s, at-source)) (λ n. omega (arith, elsewhere d l n));
-        outside = λ d l e. no-route d l;
-        entered-once = λ d j hd hj l. absurd (none d j hd hj l);
-        entered-from = λ d l e.
-            absurd (by-source (λ d. ⊥) d (λ s. omega (arith, ap (enteredAt (sourceAlone source)) s, at-source)) (λ n. omega (arith, elsewhere d l n)));
-        depth = λ d. 0;
-        top = refl;
-        deeper = λ d j hd hj l. absurd (none d j hd hj l);
-      };
-      marks = record { entered-long = simp length-set; routes-long = refl };
-      processors = λ d l. let none : 0 / 64 ≡ 0 = refl in ap (λ (k : ℕ). k / 64) (no-route d l) ∙ none;
-    }
 
   -- ---- processors added
 
@@ -184,18 +146,40 @@ module _ (w h source : ℕ) (fine : sizeFine (suc w) (suc h) ≡ true) where
         let more = all-targets ts (withTarget (suc w) (suc h) source t target) _ (one .good) (one .still source begun) (both .1) in
         record { good = more .good; within = (more .still (target .chip) (one .ended), more .within); still = λ d n. more .still d (one .still d n) }
 
-    pub grows : (ts : List Target) → allThere all ts ≡ true → Grows (suc w) (suc h) source ts (grownBy (suc w) (suc h) source (sourceAlone source) ts)
-    grows ts e =
-        let whole = all-targets ts (sourceAlone source) (λ d. 0) (alone there) (λ s. omega (arith, at-source there)) e in
-        record { rooted = whole .good .rooted; targets-within = whole .within; processors = whole .good .processors }
+    on-route : (t : Grown) (named : ℕ → ℕ) → ((d : ℕ) → d < all → routeAt t d / 64 ≡ named d) → (ts : List Target) → allThere all ts ≡ true
+        → All (λ target. named (target .chip) ≡ target .processors) ts → All (λ target. routeAt t (target .chip) / 64 ≡ target .processors) ts
+    unfolding allThere All
+    on-route t named p [] e a = tt
+    on-route t named p (u ∷ us) e a =
+        let both = and-eq-true-iff (ltb (u .chip) all) (allThere all us) .0 e in
+        (p (u .chip) (ltb-true (u .chip) all (both .0)) ∙ a .0, on-route t named p us (both .1) (a .1))
+
+    -- a link into a chip has the number that the chip was entered by, and so comes from the chip that lies behind
+    one-in : (t : Grown) → Rooted (suc w) (suc h) source t → (c d i j : ℕ) → c < all → d < all → i < 6 → j < 6 → isLink (suc w) (suc h) source t c i ≡ true
+        → isLink (suc w) (suc h) source t d j ≡ true → across (suc w) (suc h) c i ≡ across (suc w) (suc h) d j → (c ≡ d) × (i ≡ j)
+    one-in t r c d i j hc hd hi hj l m e =
+        let same : i ≡ j = sym (r .entered-once c i hc hi l) ∙ ap (enteredAt t) e ∙ r .entered-once d j hd hj m in
+        (sym (across-back w h c i hc hi) ∙ (λ k. across (suc w) (suc h) (e k) (opposite (same k))) ∙ across-back w h d j hd hj, same)
+
+    pub grows : (ts : List Target) → allThere all ts ≡ true → namedAgain [] ts ≡ false → Grows (suc w) (suc h) source ts (grownBy (suc w) (suc h) source (sourceAlone source) ts)
+    grows ts e once =
+        let t = grownBy (suc w) (suc h) source (sourceAlone source) ts in
+        let whole = all-targets ts (sourceAlone source) (λ d. 0) (alone w h source small there) (λ s. omega (arith, at-source w h source small there)) e in
+        record {
+          rooted = whole .good .rooted;
+          one-way-in = one-in t (whole .good .rooted);
+          targets-within = whole .within;
+          named = on-route t (λ d. processorsOn d 0 ts) (whole .good .processors) ts e (each-named [] ts once);
+          no-others = λ d l n. whole .good .processors d l ∙ not-named d 0 ts n;
+        }
 
 pub a-tree : ATree
 a-tree width height source key mask words rows starts none =
     let fine = answers.accepted width height source key mask words rows starts none in
-    go width height (fine .size) (fine .source-there) (fine .targets-there)
+    go width height (fine .size) (fine .source-there) (fine .targets-there) (fine .once)
   where
-    go : (width height : ℕ) → sizeFine width height ≡ true → source < height * width → allThere (height * width) (targetsOf words) ≡ true
+    go : (width height : ℕ) → sizeFine width height ≡ true → source < height * width → allThere (height * width) (targetsOf words) ≡ true → namedAgain [] (targetsOf words) ≡ false
         → Grows width height source (targetsOf words) (grownBy width height source (sourceAlone source) (targetsOf words))
-    go zero height f s e = absurd (omega (arith, sizes.size 0 height f))
-    go (suc w) zero f s e = absurd (omega (arith, sizes.size (suc w) 0 f))
-    go (suc w) (suc h) f s e = grows w h source f s (targetsOf words) e
+    go zero height f s e once = absurd (omega (arith, sizes.size 0 height f))
+    go (suc w) zero f s e once = absurd (omega (arith, sizes.size (suc w) 0 f))
+    go (suc w) (suc h) f s e once = grows w h source f s (targetsOf words) e once

@@ -1,18 +1,18 @@
 -- The rows and starts of a tree are acceptable to injection and round: routes of 26 bits, starts that never fall, at most one row a chip.
+use native.Mathlib.Decide.{decLt}
 use Prim.Native.Nat.{ℕ, zero, suc, _+_, _-_, _*_, _/_, _%_, _≤_, _<_}
 use mathlib.Core.Path.{_≡_, refl, sym, ap, subst, _∙_}
 use mathlib.Core.Bool.{Bool, true, false, cond, _&&_}
 use mathlib.Core.List.{List, [], _∷_, _++_}
 use native.Mathlib.Omega.{arith}
-use native.Mathlib.Numerals.{add-one}
 use borrow.Author.Tests.{lt-ltb, le-leb, eq-eqb}
-use lib.Dec.{eqb, ltb, leb}
-use lib.ListN.{length, getD, take, drop, length-append, List·getD-append}
+use lib.Dec.{eqb}
+use lib.ListN.{length, getD, take, drop, List·getD-append}
 use lib.Seq.{take-at, getD-at}
 use Rattle.lists.specs.Lists.{All, upTo}
 use Rattle.lists.proofs.Alls.{all-or}
 use Rattle.tables.specs.Rows.{rowsOf}
-use Rattle.tables.specs.Accept.{routeFine, allRoutes, routesFine, fewRows, neverFalling, rowsFew, startsRight, startsFine}
+use Rattle.tables.specs.Accept.{routeFine, allRoutes, routesFine, neverFalling, rowsFew, startsFine}
 use Rattle.tree.specs.Growing.{Grown, targetsOf}
 use Rattle.tree.specs.Rows.{hasRow, routeAt, startOf, rowOf, rowsBelow, startsBelow}
 use Rattle.tree.specs.Call.{grownTree, refusalOf, treeOf, rowsAfter, startsAfter}
@@ -85,7 +85,7 @@ module _ (t : Grown) where
   start-at : (n k : ℕ) → k < n → getD (startsBelow t n) k 0 ≡ startOf t k
   unfolding upTo
   start-at zero k h = absurd (omega arith)
-  start-at (suc n) k h = go (native.Mathlib.Decide.decLt k n) (start-at n k)
+  start-at (suc n) k h = go (decLt k n) (start-at n k)
     where
       go : Dec (k < n) → (k < n → getD (startsBelow t n) k 0 ≡ startOf t k) → getD (startsBelow t n ++ startOf t n ∷ []) k 0 ≡ startOf t k
       go (yes l) before = List·getD-append (startsBelow t n) (startOf t n ∷ []) 0 k (omega (arith, starts-long t n)) ∙ before l

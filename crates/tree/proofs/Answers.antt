@@ -1,8 +1,9 @@
 -- What the call answers and writes, refused and accepted; and what an accepted call may rely on.
+use native.Mathlib.Nat.{le-of-eq, not-suc-le-zero}
 use Prim.Native.Nat.{ℕ, _+_, _*_, _≤_, _<_}
 use mathlib.Core.Path.{_≡_, refl, sym, ap, _∙_}
-use mathlib.Core.Bool.{Bool, true, false, cond, not, _&&_, _||_, and-eq-true-iff}
-use mathlib.Core.List.{List, _++_}
+use mathlib.Core.Bool.{Bool, true, false, not, _||_, and-eq-true-iff}
+use mathlib.Core.List.{List, [], _++_}
 use borrow.Author.Tests.{eq-eqb, ne-eqb, eqb-true, ltb-true, ltb-false, not-false}
 use lib.Dec.{eqb, ltb}
 use lib.ListN.{length, drop}
@@ -14,7 +15,7 @@ use Rattle.tree.specs.Rows.{startOf, rowsBelow, startsBelow}
 use Rattle.tree.specs.Call.{allThere, namedAgain, setsFine, treeRefusals, grownTree, refusalOf, treeOf, rowsAfter, startsAfter}
 
 neither : (a b : Bool) → (a || b) ≡ false → (a ≡ false) × (b ≡ false)
-neither true b e = absurd (let z : _≡_ {A = ℕ} 0 1 = cc in native.Mathlib.Nat.not-suc-le-zero (native.Mathlib.Nat.le-of-eq (sym z)))
+neither true b e = absurd (let z : _≡_ {A = ℕ} 0 1 = cc in not-suc-le-zero (le-of-eq (sym z)))
 neither false b e = (refl, e)
 
 module _ (width height source key mask : ℕ) (words rows starts : List ℕ) where
@@ -25,6 +26,7 @@ module _ (width height source key mask : ℕ) (words rows starts : List ℕ) whe
     pub size : sizeFine width height ≡ true
     pub source-there : source < height * width
     pub targets-there : allThere (height * width) (targetsOf words) ≡ true
+    pub once : namedAgain [] (targetsOf words) ≡ false
     pub sets : setsFine (targetsOf words) ≡ true
     pub rows-room : 3 * (height * width) ≤ length rows
     pub starts-room : length starts ≡ height * width + 1
@@ -33,12 +35,13 @@ module _ (width height source key mask : ℕ) (words rows starts : List ℕ) whe
   accepted e =
       let off = not-refused (treeRefusals width height source key mask words (length rows) (length starts)) refl e in
       let there = and-eq-true-iff (ltb source (height * width)) (allThere (height * width) (targetsOf words)) .0 (not-false _ (off 19)) in
-      let fine = neither (namedAgain _ (targetsOf words)) (not (setsFine (targetsOf words))) (off 20) in
+      let fine = neither (namedAgain [] (targetsOf words)) (not (setsFine (targetsOf words))) (off 20) in
       let room = neither (ltb (length rows) (3 * (height * width))) (not (eqb (length starts) (height * width + 1))) (off 26) in
       record {
         size = not-false _ (off 7);
         source-there = ltb-true source (height * width) (there .0);
         targets-there = there .1;
+        once = fine .0;
         sets = not-false _ (fine .1);
         rows-room = ltb-false (length rows) (3 * (height * width)) (room .0);
         starts-room = eqb-true (length starts) (height * width + 1) (not-false _ (room .1));

@@ -1,16 +1,15 @@
 -- What links lead to: signed steps east and north, the chip that is so far round the mesh, and at least as many links as a way with these steps has.
-use Prim.Native.Nat.{ℕ, zero, suc, _+_, _-_, _*_, _/_, _%_, _≤_, _<_, min, max}
-use mathlib.Core.Path.{_≡_, refl, sym, ap, _∙_}
+use Prim.Native.Nat.{ℕ, zero, suc, _+_, _-_, _/_, _%_, _≤_, _<_, max}
+use mathlib.Core.Path.{_≡_, sym, ap, _∙_}
 use mathlib.Core.Bool.{Bool, true, false, cond}
-use mathlib.Core.List.{List, [], _∷_, _++_}
+use mathlib.Core.List.{List, [], _∷_}
 use native.Mathlib.Omega.{arith}
-use native.Mathlib.Nat.{mod-lt, mod-eq-of-lt, mod-mod, mod-add-mod, add-mod-mod, add-assoc, div-eq-of-lt, mul-add-div-right, mul-add-mod-self-right}
+use native.Mathlib.Nat.{mod-lt, mod-eq-of-lt, mod-mod, mod-add-mod, add-mod-mod, div-eq-of-lt, mul-add-div-right, mul-add-mod-self-right}
 use lib.Dec.{eqb, leb}
-use lib.IntN.{ℤ, pos, negsuc, negℤ, natAbs, sucℤ, predℤ}
-use lib.ListN.{length, replicate}
+use lib.IntN.{ℤ, pos, negsuc, natAbs, sucℤ, predℤ}
+use lib.ListN.{length}
 use Rattle.lists.specs.Lists.{All}
 use Rattle.links.specs.Across.{across, stepEast, stepNorth}
-use Rattle.tree.specs.declared.Way.{Way}
 use Rattle.tree.specs.Way.{sharedBy, linksIn, turned}
 use Rattle.tree.specs.Promises.{chipAfter}
 use Rattle.tree.proofs.Rings as rings

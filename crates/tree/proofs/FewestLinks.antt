@@ -1,23 +1,23 @@
 -- The links of the way that is taken lead from the one chip to the other, and none that do so are fewer: any links make signed steps that lead there, and no such steps are better.
 use Prim.Native.Nat.{ℕ, zero, suc, _+_, _-_, _*_, _/_, _%_, _≤_, _<_, min}
 use mathlib.Core.Path.{_≡_, refl, sym, ap, _∙_}
-use mathlib.Core.Bool.{Bool, true, false, _&&_, _||_, and-eq-true-iff}
+use mathlib.Core.Bool.{Bool, true, false, _||_, and-eq-true-iff}
 use mathlib.Core.List.{List, [], _∷_, _++_}
 use native.Mathlib.Omega.{arith}
 use native.Mathlib.Nat.{mod-lt, div-lt-iff-lt-mul, div-add-mod'}
 use borrow.Author.Tests.{eqb-true, eq-eqb, ltb-false}
 use lib.Dec.{eqb, ltb}
-use lib.IntN.{ℤ, pos, negsuc, negℤ, natAbs, sucℤ, predℤ}
+use lib.IntN.{ℤ, pos, negsuc, negℤ, sucℤ, predℤ}
 use lib.ListN.{length, replicate}
 use Rattle.lists.specs.Lists.{All}
 use Rattle.tables.specs.Sizes.{sizeFine}
 use Rattle.tables.proofs.Sizes as sizes
 use Rattle.tree.specs.declared.Way.{Way}
-use Rattle.tree.specs.Way.{shared, linksIn, diagonalLink, sidewaysLink, uprightLink, linksOf, better, turned, offset, leads, wayBetween}
-use Rattle.tree.specs.Promises.{chipAfter, Shortest, FewestLinks}
+use Rattle.tree.specs.Way.{linksIn, linksOf, turned, offset, wayBetween}
+use Rattle.tree.specs.Promises.{chipAfter, FewestLinks}
 use Rattle.tree.proofs.Rings as rings
 use Rattle.tree.proofs.Displaced.{stepsBy, moveEast, moveNorth, eastBy, northBy, ends-east, ends-north, at-least}
-use Rattle.tree.proofs.LinkByLink.{few-shared, links-long}
+use Rattle.tree.proofs.LinkByLink.{links-long}
 use Rattle.tree.proofs.LeastOfAll.{least}
 
 -- ---- links of one number, one after the other

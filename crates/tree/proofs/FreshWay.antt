@@ -1,15 +1,14 @@
 -- The part of a way that is added: it begins within the tree, every chip after that is outside, and none comes twice, since a way that came back would not be shortest.
-use Prim.Native.Nat.{ℕ, zero, suc, _+_, _*_, _≤_, _<_}
+use Prim.Native.Nat.{ℕ, _*_, _≤_, _<_}
 use mathlib.Core.Path.{_≡_, refl, sym, ap, _∙_}
-use mathlib.Core.Bool.{Bool, true, false, cond, not}
-use mathlib.Core.List.{List, [], _∷_, _++_}
+use mathlib.Core.Bool.{Bool, true, false, cond}
+use mathlib.Core.List.{List, [], _∷_}
 use native.Mathlib.Omega.{arith}
 use borrow.Author.Tests.{eqb-true, eqb-false, not-true, not-false}
-use lib.Dec.{eqb}
 use lib.ListN.{length, getD, set}
 use lib.Seq.{getD-set-other}
 use Rattle.lists.specs.Lists.{All}
-use Rattle.links.specs.Across.{across, opposite}
+use Rattle.links.specs.Across.{across}
 use Rattle.tree.specs.Growing.{Part, within, lastShared}
 use Rattle.tree.specs.Promises.{chipAfter}
 use Rattle.tree.proofs.LowRoutes.{LinkLow}

@@ -1,14 +1,14 @@
 -- "Least over all ways round the mesh": the way that is taken leads there, and no pair of signed numbers that leads there is better. Those with small counts are computed, and every other way has
 -- more links.
-use Prim.Native.Nat.{ℕ, zero, suc, _+_, _-_, _/_, _%_, _≤_, _<_, min}
+use Prim.Native.Nat.{ℕ, _+_, _-_, _/_, _%_, _≤_, _<_}
 use mathlib.Core.Path.{_≡_, refl, sym, ap, subst, _∙_}
 use mathlib.Core.Logic.{⊎-elim}
-use mathlib.Core.Bool.{Bool, true, false, cond, not, _&&_, _||_, and-eq-true-iff}
+use mathlib.Core.Bool.{Bool, true, false, cond, not, _&&_, _||_}
 use mathlib.Core.List.{List, [], _∷_}
 use native.Mathlib.Omega.{arith}
 use native.Mathlib.Nat.{mod-lt}
-use borrow.Author.Tests.{leb-true, le-ltb, ltb-false, eq-eqb, ne-eqb, eqb-true, not-true}
-use lib.Dec.{eqb, ltb, leb}
+use borrow.Author.Tests.{le-ltb, ltb-false, eq-eqb, ne-eqb, not-true}
+use lib.Dec.{eqb, ltb, T}
 use lib.IntN.{ℤ, pos, negsuc, natAbs}
 use lib.Signed.{ltZ}
 use Rattle.lists.proofs.Firsts.{lt-or-ge}
@@ -18,65 +18,7 @@ use Rattle.tables.proofs.Sizes as sizes
 use Rattle.tree.specs.declared.Way.{Way}
 use Rattle.tree.specs.Way.{sharedBy, linksIn, eqZ, better, turned, offset, leads, counts, countsTo, wayTo, wayBetween}
 use Rattle.tree.specs.Promises.{LeastOfAll}
-use Rattle.tree.specs.Walking.{bestOfFour}
-use Rattle.tree.proofs.ComputedWays.{sameWay, noneNorth, noneBetter, right, allRight, computed}
-
-pub record Right (width height east north : ℕ) : Type 0 where
-  pub four : bestOfFour width height east north ≡ wayTo width height east north
-  pub there : leads width height east north (wayTo width height east north) ≡ true
-  pub short : linksIn (wayTo width height east north) ≤ 11
-  pub none : noneBetter (wayTo width height east north) (countsTo width east counts) (countsTo height north counts) ≡ true
-
-eqZ-true : (a b : ℤ) → eqZ a b ≡ true → a ≡ b
-eqZ-true (pos a) (pos b) e = ap pos (eqb-true a b e)
-eqZ-true (negsuc a) (negsuc b) e = ap negsuc (eqb-true a b e)
-eqZ-true (pos a) (negsuc b) e = absurd (subst lib.Dec.T (sym e) tt)
-eqZ-true (negsuc a) (pos b) e = absurd (subst lib.Dec.T (sym e) tt)
-
-both : (a b : Bool) → (a && b) ≡ true → (a ≡ true) × (b ≡ true)
-both a b e = and-eq-true-iff a b .0 e
-
-same-way : (v w : Way) → sameWay v w ≡ true → v ≡ w
-unfolding sameWay
-same-way v w e =
-    let h = both (eqZ (v .east) (w .east)) (eqZ (v .north) (w .north)) e in
-    λ i. record { east = eqZ-true (v .east) (w .east) (h .0) i; north = eqZ-true (v .north) (w .north) (h .1) i }
-
--- ---- what was computed, at every size and place
-
-taken-apart : (width height east north : ℕ) → right width height east north (bestOfFour width height east north) (wayTo width height east north) ≡ true → Right width height east north
-unfolding right
-taken-apart width height east north e =
-    let four = bestOfFour width height east north in
-    let way = wayTo width height east north in
-    let a = both (sameWay four way) _ e in
-    let b = both (leads width height east north way) _ (a .1) in
-    let c = both (leb (linksIn way) 11) _ (b .1) in
-    record { four = same-way four way (a .0); there = b .0; short = leb-true (linksIn way) 11 (c .0); none = c .1 }
-
-at-sizes : (w h x y : ℕ) → w < 12 → h < 12 → x < suc w → y < suc h → right (suc w) (suc h) x y (bestOfFour (suc w) (suc h) x y) (wayTo (suc w) (suc h) x y) ≡ true
-unfolding allRight
-at-sizes w h x y hw hh hx hy =
-    at (suc h) (λ y. right (suc w) (suc h) x y (bestOfFour (suc w) (suc h) x y) (wayTo (suc w) (suc h) x y))
-    (at (suc w) (λ x. every (suc h) (λ y. right (suc w) (suc h) x y (bestOfFour (suc w) (suc h) x y) (wayTo (suc w) (suc h) x y)))
-    (at 12 (λ h. every (suc w) (λ x. every (suc h) (λ y. right (suc w) (suc h) x y (bestOfFour (suc w) (suc h) x y) (wayTo (suc w) (suc h) x y))))
-    (at 12 (λ w. every 12 (λ h. every (suc w) (λ x. every (suc h) (λ y. right (suc w) (suc h) x y (bestOfFour (suc w) (suc h) x y) (wayTo (suc w) (suc h) x y))))) computed w hw)
-    h
-    hh)
-    x
-    hx)
-    y
-    hy
-
-at-any : (width height east north : ℕ) → 1 ≤ width → width ≤ 12 → 1 ≤ height → height ≤ 12 → east < width → north < height → Right width height east north
-at-any zero height east north a b c d x y = absurd (omega arith)
-at-any (suc w) zero east north a b c d x y = absurd (omega arith)
-at-any (suc w) (suc h) east north a b c d x y = taken-apart (suc w) (suc h) east north (at-sizes w h east north (omega arith) (omega arith) x y)
-
-pub right-way : (width height east north : ℕ) → sizeFine width height ≡ true → east < width → north < height → Right width height east north
-right-way width height east north fine x y =
-    let s = sizes.size width height fine in
-    at-any width height east north (s .width-low) (s .width-high) (s .height-low) (s .height-high) x y
+use Rattle.tree.proofs.ComputedWays.{noneNorth, noneBetter, eqZ-true, both, right-way}
 
 -- ---- all signed numbers
 
@@ -108,13 +50,13 @@ in-countsTo size far z (y ∷ ys) e t = go (λ m. in-countsTo size far z ys m t)
     go : (isInZ z ys ≡ true → isInZ z (countsTo size far ys) ≡ true) → (b : Bool) → eqZ z y ≡ b → (b || isInZ z ys) ≡ true → (d : Bool) → eqb (turned size y) far ≡ d
         → isInZ z (cond d (y ∷ countsTo size far ys) (countsTo size far ys)) ≡ true
     go later true q m true p = ap (λ (b : Bool). b || isInZ z (countsTo size far ys)) q
-    go later true q m false p = absurd (subst lib.Dec.T (sym t ∙ ap (λ (v : ℤ). eqb (turned size v) far) (eqZ-true z y q) ∙ p) tt)
+    go later true q m false p = absurd (subst T (sym t ∙ ap (λ (v : ℤ). eqb (turned size v) far) (eqZ-true z y q) ∙ p) tt)
     go later false q m true p = or-right (eqZ z y) (isInZ z (countsTo size far ys)) (later m)
     go later false q m false p = later m
 
 none-north : (w : Way) (e n : ℤ) (ns : List ℤ) → noneNorth w e ns ≡ true → isInZ n ns ≡ true → better (record { east = e; north = n }) w ≡ false
 unfolding noneNorth isInZ
-none-north w e n [] t m = absurd (subst lib.Dec.T (sym m) tt)
+none-north w e n [] t m = absurd (subst T (sym m) tt)
 none-north w e n (y ∷ ys) t m = go (λ r. none-north w e n ys (both (not (better (record { east = e; north = y }) w)) (noneNorth w e ys) t .1) r) (eqZ n y) refl m
   where
     h : (not (better (record { east = e; north = y }) w) ≡ true) × (noneNorth w e ys ≡ true)
@@ -126,7 +68,7 @@ none-north w e n (y ∷ ys) t m = go (λ r. none-north w e n ys (both (not (bett
 
 none-there : (w : Way) (e n : ℤ) (es ns : List ℤ) → noneBetter w es ns ≡ true → isInZ e es ≡ true → isInZ n ns ≡ true → better (record { east = e; north = n }) w ≡ false
 unfolding noneBetter isInZ
-none-there w e n [] ns t me mn = absurd (subst lib.Dec.T (sym me) tt)
+none-there w e n [] ns t me mn = absurd (subst T (sym me) tt)
 none-there w e n (y ∷ ys) ns t me mn = go (λ r. none-there w e n ys ns (both (noneNorth w y ns) (noneBetter w ys ns) t .1) r mn) (eqZ e y) refl me
   where
     h : (noneNorth w y ns ≡ true) × (noneBetter w ys ns ≡ true)
@@ -150,8 +92,8 @@ longer v w h = simp (le-ltb (linksIn v) (linksIn w) (omega arith), ne-eqb (links
 order : (a b : ℤ) → ltZ a b ≡ false → ltZ b a ≡ false → a ≡ b
 order (pos a) (pos b) l m = let x = ltb-false a b l in let y = ltb-false b a m in ap pos (omega arith)
 order (negsuc a) (negsuc b) l m = let x = ltb-false b a l in let y = ltb-false a b m in ap negsuc (omega arith)
-order (pos a) (negsuc b) l m = absurd (subst lib.Dec.T m tt)
-order (negsuc a) (pos b) l m = absurd (subst lib.Dec.T l tt)
+order (pos a) (negsuc b) l m = absurd (subst T m tt)
+order (negsuc a) (pos b) l m = absurd (subst T l tt)
 
 same-eqZ : (a b : ℤ) → a ≡ b → eqZ a b ≡ true
 same-eqZ a b e = ap (eqZ a) (sym e) ∙ self a
@@ -161,13 +103,13 @@ same-eqZ a b e = ap (eqZ a) (sym e) ∙ self a
     self (negsuc n) = eq-eqb n n refl
 
 neither : (a b : Bool) → (a || b) ≡ false → (a ≡ false) × (b ≡ false)
-neither true b e = absurd (subst lib.Dec.T e tt)
+neither true b e = absurd (subst T e tt)
 neither false b e = (refl, e)
 
 -- a test that fails with another that holds
 fails : (a b : Bool) → a ≡ true → (a && b) ≡ false → b ≡ false
 fails true b h e = e
-fails false b h e = absurd (subst lib.Dec.T (sym h) tt)
+fails false b h e = absurd (subst T (sym h) tt)
 
 as-good : (v w : Way) → better v w ≡ false → better w v ≡ false → v ≡ w
 as-good v w f g =

@@ -9,9 +9,11 @@ pub mod FreshWay
 pub mod LeastOfAll
 pub mod LinkByLink
 pub mod LowRoutes
+pub mod NamedOnce
 pub mod Rings
 pub mod RouteBits
 pub mod RowByRow
 pub mod Signs
+pub mod SourceAlone
 pub mod StaysATree
 pub mod TargetByTarget

@@ -1,6 +1,7 @@
 -- A way's links by their places: which stands where, how many there are; a step along the way, and a link added.
-use Prim.Native.Nat.{ℕ, zero, suc, _+_, _-_, _≤_, _<_, _^_, min}
-use mathlib.Core.Path.{_≡_, refl, sym, ap, _∙_}
+use lib.Signed.{nonNeg}
+use Prim.Native.Nat.{ℕ, _+_, _-_, _≤_, _<_, _^_}
+use mathlib.Core.Path.{_≡_, sym, ap, _∙_}
 use mathlib.Core.Logic.{⊎-elim}
 use mathlib.Core.Bool.{Bool, true, false, cond}
 use mathlib.Core.List.{List, [], _∷_, _++_}
@@ -17,8 +18,8 @@ use Rattle.links.specs.Across.{across}
 use Rattle.tree.specs.declared.Way.{Way}
 use Rattle.tree.specs.declared.Legs.{Legs}
 use Rattle.tree.specs.Way.{sharedBy, shared, linksIn, diagonalLink, sidewaysLink, uprightLink, linksOf}
-use Rattle.tree.specs.Growing.{Grown, Part, within, lastShared, oneMore, added}
-use Rattle.tree.specs.Walking.{legsOf, linkAt, linksBy, wholeWay}
+use Rattle.tree.specs.Growing.{Grown, Part, within, lastShared, added}
+use Rattle.tree.specs.Walking.{legsOf, linkAt, linksBy}
 
 -- ---- the legs of a way
 
@@ -43,7 +44,7 @@ links-by w =
     ap (λ (k : ℕ). replicate (shared w) (diagonalLink w) ++ replicate (natAbs (w .east) - shared w) (sidewaysLink w) ++ replicate k (uprightLink w)) e
 
 link-low : (w : Way) (j : ℕ) → linkAt (legsOf w) j < 6
-link-low w j = go (ltb j (shared w)) (ltb j (natAbs (w .east))) (lib.Signed.nonNeg (w .east)) (lib.Signed.nonNeg (w .north))
+link-low w j = go (ltb j (shared w)) (ltb j (natAbs (w .east))) (nonNeg (w .east)) (nonNeg (w .north))
   where
     go : (a b e n : Bool) → cond {A = ℕ} a (cond e 1 4) (cond b (cond e 0 3) (cond n 2 5)) < 6
     go true b true n = omega arith

@@ -1,22 +1,22 @@
 -- Every route of a tree has bits 0 to 25 alone: links 0 to 5 of its ways, and the processors 0 to 19 of its targets.
-use Prim.Native.Nat.{ℕ, zero, suc, _+_, _-_, _*_, _^_, _≤_, _<_}
-use mathlib.Core.Path.{_≡_, refl, sym, _∙_}
-use mathlib.Core.Bool.{Bool, true, false, cond, _&&_, and-eq-true-iff}
-use mathlib.Core.List.{List, [], _∷_, _++_}
+use Prim.Native.Nat.{ℕ, _-_, _*_, _^_, _<_}
+use mathlib.Core.Path.{_≡_}
+use mathlib.Core.Bool.{Bool, true, false, cond, and-eq-true-iff}
+use mathlib.Core.List.{List, [], _∷_}
 use native.Mathlib.Omega.{arith}
 use borrow.Author.Tests.{ltb-true}
-use lib.Bits.{bitOr, or-lt}
+use lib.Bits.{or-lt}
 use lib.Dec.{ltb}
 use lib.IntN.{natAbs}
 use lib.Signed.{nonNeg}
 use lib.Pow.{pow-lt}
-use lib.ListN.{getD, set, replicate}
+use lib.ListN.{getD}
 use Rattle.lists.specs.Lists.{All}
-use Rattle.lists.proofs.Alls.{all-nil, all-append, all-or, all-set, all-replicate}
+use Rattle.lists.proofs.Alls.{all-append, all-or, all-set, all-replicate}
 use Rattle.links.specs.Across.{across}
 use Rattle.tree.specs.declared.Way.{Way}
 use Rattle.tree.specs.Way.{shared, diagonalLink, sidewaysLink, uprightLink, linksOf, wayBetween}
-use Rattle.tree.specs.Growing.{Target, Grown, Part, within, sourceAlone, lastShared, oneMore, added, newPart, withPart, withProcessors, withTarget, grownBy, treeTo}
+use Rattle.tree.specs.Growing.{Target, Grown, Part, within, sourceAlone, lastShared, oneMore, added, newPart, withPart, withTarget, grownBy, treeTo}
 use Rattle.tree.specs.Call.{setFine, setsFine}
 
 abbrev pub LinkLow : ℕ → Type 0

@@ -1,9 +1,9 @@
 -- Steps round a ring: one step more is one place further, and the steps from a place to another are what is left of any that lead there.
 use Prim.Native.Nat.{ℕ, zero, suc, _+_, _-_, _%_, _≤_, _<_}
-use mathlib.Core.Path.{_≡_, refl, sym, ap, _∙_}
+use mathlib.Core.Path.{_≡_, sym, ap, _∙_}
 use mathlib.Core.Logic.{⊎-elim}
 use native.Mathlib.Omega.{arith}
-use native.Mathlib.Nat.{mod-lt, mod-eq-of-lt, mod-self, mod-mod, mod-add-mod, add-mod-mod, add-mod-right, mod-eq-sub-mod}
+use native.Mathlib.Nat.{mod-lt, mod-eq-of-lt, mod-self, mod-add-mod, add-mod-mod, add-mod-right, mod-eq-sub-mod}
 use lib.IntN.{ℤ, pos, negsuc, sucℤ, predℤ}
 use Rattle.lists.proofs.Firsts.{lt-or-ge}
 use Rattle.tree.specs.Way.{turned, offset}

@@ -1,5 +1,5 @@
 -- A route's links and processors: what a link or a processor set adds to it, and what it leaves.
-use Prim.Native.Nat.{ℕ, zero, suc, _+_, _*_, _/_, _%_, _^_, _<_}
+use Prim.Native.Nat.{ℕ, zero, suc, _*_, _/_, _%_, _^_, _<_}
 use mathlib.Core.Path.{_≡_, refl, sym, ap, subst, _∙_}
 use mathlib.Core.Logic.{_⊎_, inl, inr}
 use mathlib.Core.Bool.{Bool, true, false, _||_}
@@ -7,7 +7,7 @@ use native.Mathlib.Omega.{arith}
 use native.Mathlib.Nat.{mod-lt, div-eq-of-lt}
 use borrow.Author.Tests.{eqb-true, eq-eqb}
 use lib.Bits.{bitOr, or-shr, or-mod, or-zero-r}
-use lib.Dec.{eqb, lit<}
+use lib.Dec.{eqb, lit<, T}
 use lib.Pow.{pow-lt}
 use Rattle.packet.proofs.Small.{every₂, every, at₂}
 use Rattle.steps.specs.Links.{has}
@@ -65,12 +65,12 @@ bit-of a i j hi hj e = go (has a j) refl (sym (has-or a (2 ^ i) j ∙ ap (λ (x 
 
 -- no link is in a route that is empty
 pub none-in : (j : ℕ) → j < 6 → has 0 j ≡ true → ⊥
-none-in zero h e = subst lib.Dec.T (sym e) tt
-none-in (suc zero) h e = subst lib.Dec.T (sym e) tt
-none-in (suc (suc zero)) h e = subst lib.Dec.T (sym e) tt
-none-in (suc (suc (suc zero))) h e = subst lib.Dec.T (sym e) tt
-none-in (suc (suc (suc (suc zero)))) h e = subst lib.Dec.T (sym e) tt
-none-in (suc (suc (suc (suc (suc zero))))) h e = subst lib.Dec.T (sym e) tt
+none-in zero h e = subst T (sym e) tt
+none-in (suc zero) h e = subst T (sym e) tt
+none-in (suc (suc zero)) h e = subst T (sym e) tt
+none-in (suc (suc (suc zero))) h e = subst T (sym e) tt
+none-in (suc (suc (suc (suc zero)))) h e = subst T (sym e) tt
+none-in (suc (suc (suc (suc (suc zero))))) h e = subst T (sym e) tt
 none-in (suc (suc (suc (suc (suc (suc j)))))) h e = omega arith
 
 -- ---- processors

@@ -10,7 +10,7 @@ use lib.Seq.{sets-eq, take-at, drop-at, drop-drop, drop-cons, set-at}
 use Rattle.lists.specs.Lists.{upTo}
 use Rattle.tree.specs.Growing.{Grown}
 use Rattle.tree.specs.Rows.{needsRow, enteredAt, routeAt, hasRow, startOf, rowOf, rowsBelow, startsBelow}
-use Rattle.tree.specs.Walking.{rowWords, withRow}
+use Rattle.tree.specs.Walking.{withRow}
 
 module _ (key mask entered route count : ℕ) (rows : List ℕ) where
   pub no-row : needsRow entered route ≡ false → (count ≡ count + cond (needsRow entered route) 1 0) × (rows ≡ withRow key mask entered route count rows)

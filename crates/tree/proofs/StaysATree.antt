@@ -1,23 +1,22 @@
 -- A tree stays a tree when a link is added that leads from within to a chip outside, and when processors are added within.
-use Prim.Native.Nat.{ℕ, zero, suc, _+_, _*_, _/_, _^_, _≤_, _<_}
+use Prim.Native.Nat.{ℕ, suc, _*_, _/_, _^_, _≤_, _<_}
 use mathlib.Core.Path.{_≡_, refl, sym, ap, subst, _∙_}
 use mathlib.Core.Logic.{_⊎_, inl, inr, ⊎-elim}
-use mathlib.Core.Bool.{Bool, true, false, cond}
-use mathlib.Core.List.{List, [], _∷_}
+use mathlib.Core.Bool.{Bool, true, cond}
 use native.Mathlib.Omega.{arith}
 use native.Mathlib.Decide.{ℕ-discrete}
 use borrow.Author.Tests.{eq-eqb, ne-eqb}
 use lib.Bits.{bitOr}
 use lib.Dec.{eqb}
-use lib.ListN.{length, getD, set, length-set}
+use lib.ListN.{length-set}
 use lib.Seq.{getD-set-same, getD-set-other}
 use Rattle.steps.specs.Links.{has}
 use Rattle.links.specs.Across.{across, opposite}
-use Rattle.tree.specs.Growing.{Grown, oneMore, withProcessors}
+use Rattle.tree.specs.Growing.{Grown, oneMore}
 use Rattle.tree.specs.Rows.{enteredAt, routeAt}
 use Rattle.tree.specs.Rooted.{isLink, Rooted}
 use Rattle.tree.specs.Walking.{Marks}
-use Rattle.tree.proofs.RouteBits.{bit-kept, bit-set, bit-of, none-in, links-kept, processors-kept, processors-more}
+use Rattle.tree.proofs.RouteBits.{bit-kept, bit-set, bit-of, none-in, processors-kept}
 use Rattle.tree.proofs.AcrossBack.{across-there, across-back}
 
 module _ (w h source : ℕ) (small : suc h * suc w ≤ 144) where

@@ -1,15 +1,14 @@
 -- The targets of a list of words, one after the other, and the chips named before one.
 use Prim.Native.Nat.{ℕ, zero, suc, _+_, _*_, _≤_, _<_}
-use mathlib.Core.Path.{_≡_, refl, sym, ap, subst, _∙_}
-use mathlib.Core.Logic.{⊎-elim}
+use mathlib.Core.Path.{_≡_, refl, sym, ap, _∙_}
 use mathlib.Core.Bool.{Bool, true, false, cond, _&&_, _||_, and-eq-true-iff}
 use mathlib.Core.List.{List, [], _∷_}
 use native.Mathlib.Omega.{arith}
 use native.Mathlib.Decide.{ℕ-discrete}
 use native.Mathlib.Numerals.{add-one}
 use borrow.Author.Tests.{lt-ltb, le-ltb, ltb-true, eq-eqb, ne-eqb}
-use lib.Dec.{T, ltb}
-use lib.ListN.{length, getD, set, drop, drop-of-length-le}
+use lib.Dec.{ltb, eqb}
+use lib.ListN.{length, getD, set, drop, drop-of-length-le, length-drop}
 use lib.Seq.{drop-drop, getD-drop, getD-set-same, getD-set-other}
 use Rattle.tree.specs.Growing.{Target, targetsOf, Grown, grownBy, withTarget}
 use Rattle.tree.specs.Call.{allThere, isIn, namedAgain, setFine, setsFine}
@@ -42,7 +41,7 @@ module _ (ws : List ℕ) (k : ℕ) where
 
   pub next-target : k * 2 < length ws → left ≡ targetOf chipHere setHere ∷ after
   next-target h =
-      let some : 0 < length (drop (k * 2) ws) = simp lib.ListN.length-drop (omega arith) in
+      let some : 0 < length (drop (k * 2) ws) = simp length-drop (omega arith) in
       let start : k * 2 + 0 ≡ k * 2 = omega arith in
       let behind : k * 2 + 2 ≡ (k + 1) * 2 = omega arith in
       let here : getD (drop (k * 2) ws) 0 0 ≡ getD ws (k * 2) 0 = getD-drop (k * 2) ws 0 0 ∙ ap (λ (n : ℕ). getD ws n 0) start in
@@ -133,7 +132,7 @@ module _ (ws : List ℕ) (k : ℕ) where
   unfolding isIn
   named-more named long small marks c h = go (ℕ-discrete c chipHere)
     where
-      told : cond {A = ℕ} (isIn c (chipsBefore ws (k + 1))) 1 0 ≡ cond (lib.Dec.eqb c chipHere || isIn c before) 1 0
+      told : cond {A = ℕ} (isIn c (chipsBefore ws (k + 1))) 1 0 ≡ cond (eqb c chipHere || isIn c before) 1 0
       told = ap (λ (l : List ℕ). cond {A = ℕ} (isIn c l) 1 0) one-before
 
       go : Dec (c ≡ chipHere) → getD (set named chipHere 1) c 0 ≡ cond (isIn c (chipsBefore ws (k + 1))) 1 0

@@ -8,7 +8,7 @@ use Rattle.lists.specs.Lists.{upTo}
 use Rattle.tree.specs.Growing.{Grown}
 
 -- "A chip passed straight through, with no processor and no branch, gets no row; the source always gets one." "Straight through is out by the link of the same number as the one it was
--- sent by."
+-- sent by." A chip outside the tree, entered by 7, has none.
 abbrev pub needsRow : ℕ → ℕ → Bool
 needsRow entered route = cond (ltb entered 6) (not (eqb route (2 ^ entered))) (eqb entered 6)
 

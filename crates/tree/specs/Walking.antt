@@ -1,7 +1,7 @@
 -- No rule of the model, but what the steps of growing a tree promise each other: the least of four ways, a way's links by their places, and the part of a way that is left.
-use Prim.Native.Nat.{ℕ, _+_, _-_, _*_, _%_, _<_, _≤_, max}
+use Prim.Native.Nat.{ℕ, _+_, _-_, _*_, _%_, _≤_, max}
 use mathlib.Core.Path.{_≡_}
-use mathlib.Core.Bool.{Bool, cond}
+use mathlib.Core.Bool.{cond}
 use mathlib.Core.List.{List, [], _∷_, _++_}
 use lib.Dec.{ltb}
 use lib.IntN.{pos, negℤ, natAbs}
@@ -23,7 +23,7 @@ pub record Small (w : Way) : Type 0 where
 abbrev pub nearer : Way → Way → Way
 nearer v w = cond (ltb (linksIn w) (linksIn v)) w v
 
--- The best of the ways with steps east and north, west and south, ... : the smallest numbers of steps, but as many as cost nothing where both are forwards.
+-- The best way of each pair of directions: the fewest steps, but forwards in both as many as cost nothing, up to the larger of the two numbers.
 abbrev pub forwards : ℕ → ℕ → ℕ → ℕ → Way
 forwards width height east north =
     record { east = pos (max east north - (max east north - east) % width); north = pos (max east north - (max east north - north) % height) }

@@ -39,13 +39,14 @@ linksOf w =
     ++ replicate (natAbs (w .east) - shared w) (sidewaysLink w)
     ++ replicate (natAbs (w .north) - shared w) (uprightLink w)
 
--- "Of equal ways the one with the larger signed count east, then north, is taken."
+-- Whether two signed numbers are the same.
 abbrev pub eqZ : ℤ → ℤ → Bool
 eqZ (pos a) (pos b) = eqb a b
 eqZ (negsuc a) (negsuc b) = eqb a b
 eqZ (pos a) (negsuc b) = false
 eqZ (negsuc a) (pos b) = false
 
+-- "Least over all ways round the mesh .. of equal ways the one with the larger signed count east, then north, is taken."
 abbrev pub better : Way → Way → Bool
 better v w = ltb (linksIn v) (linksIn w) || eqb (linksIn v) (linksIn w) && (ltZ (w .east) (v .east) || eqZ (w .east) (v .east) && ltZ (w .north) (v .north))
 
@@ -62,7 +63,7 @@ offset size from to = (to + (size - from)) % size
 abbrev pub leads : ℕ → ℕ → ℕ → ℕ → Way → Bool
 leads width height east north w = eqb (turned width (w .east)) east && eqb (turned height (w .north)) north
 
--- A way of fewest links has at most 11 steps either way: that without a step back has at most 11 links, and a way has at least as many links as steps either way.
+-- The counts to choose from, each way. No others can be best: the way with no step back has at most 11 links, and a way has at least as many links as it has steps either way.
 abbrev pub counts : List ℤ
 counts =
     pos 11 ∷ pos 10 ∷ pos 9 ∷ pos 8 ∷ pos 7 ∷ pos 6 ∷ pos 5 ∷ pos 4 ∷ pos 3 ∷ pos 2 ∷ pos 1 ∷ pos 0

@@ -10,7 +10,6 @@ use super::targets::sets_fine;
 use tables::size::chips;
 use tables::size::size_fine;
 ghost use mathlib.Core.Path.{_≡_};
-ghost use lib.ListN.{length};
 ghost use Rattle.packet.specs.Refusal.{firstOf};
 ghost use Rattle.tree.specs.Call.{treeRefusals, treeOf, rowsAfter, startsAfter};
 

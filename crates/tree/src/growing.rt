@@ -10,7 +10,6 @@ use links::across::across_link;
 use steps::wants::bit;
 ghost use mathlib.Core.Path.{_≡_};
 ghost use mathlib.Core.Bool.{true};
-ghost use lib.ListN.{length};
 ghost use Prim.Native.Nat.{_*_, _<_};
 ghost use Rattle.tables.specs.Sizes.{sizeFine};
 ghost use Rattle.links.specs.Across.{across};

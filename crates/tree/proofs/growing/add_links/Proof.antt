@@ -1,8 +1,8 @@
 -- `growing::add_links` meets its contract. The loop's invariant: the tree with the whole part is this one with what is left of it. The measure is what is left of the way.
-use Prim.Native.Nat.{ℕ, _+_, _*_, _-_, _<_}
-use mathlib.Core.Path.{_≡_, refl, sym, ap, _∙_}
+use Prim.Native.Nat.{_*_, _-_, _<_}
+use mathlib.Core.Path.{_≡_, refl, sym, _∙_}
 use native.Mathlib.Omega.{arith}
-use lib.ListN.{length, drop, length-set}
+use lib.ListN.{drop, length-set}
 use Rattle.tables.proofs.Sizes.{chips-small}
 use Rattle.tree.specs.Growing.{added}
 use Rattle.tree.specs.Walking.{Marks, grownOf, linksBy}

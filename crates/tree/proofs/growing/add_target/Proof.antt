@@ -1,13 +1,13 @@
 -- `growing::add_target` meets its contract.
 use Prim.Native.Nat.{ℕ, _*_, _%_}
-use mathlib.Core.Path.{_≡_, sym, ap, _∙_}
+use mathlib.Core.Path.{_≡_, ap, _∙_}
 use native.Mathlib.Omega.{arith}
 use native.Mathlib.Nat.{mod-eq-of-lt}
 use lib.Bits.{bitOr}
 use lib.ListN.{getD, set, length-set}
 use Rattle.tables.proofs.Sizes.{chips-small}
 use Rattle.tree.specs.declared.Way.{Way}
-use Rattle.tree.specs.Way.{linksOf, wayBetween}
+use Rattle.tree.specs.Way.{linksOf}
 use Rattle.tree.specs.Growing.{Grown, Part, lastShared, withPart, withProcessors}
 use Rattle.tree.specs.Walking.{grownOf, wholeWay}
 use borrow.Author.Needs.{needs}

@@ -1,13 +1,13 @@
 -- `growing::grow` meets its contract. The loop's invariant: the tree with all targets is this one with those from target k on, which are fine. The measure is what is left of the targets.
-use Prim.Native.Nat.{ℕ, _+_, _*_, _-_, _<_}
+use Prim.Native.Nat.{ℕ, _*_, _-_, _<_}
 use mathlib.Core.Path.{_≡_, refl, sym, ap, _∙_}
 use mathlib.Core.Bool.{true}
 use native.Mathlib.Omega.{arith}
 use lib.ListN.{length}
-use Rattle.tree.specs.Growing.{targetsOf, grownBy, withTarget}
+use Rattle.tree.specs.Growing.{targetsOf, grownBy, withTarget, Grown}
 use Rattle.tree.specs.Call.{allThere, setsFine}
 use Rattle.tree.specs.Walking.{Marks, grownOf, targetOf}
-use Rattle.tree.proofs.TargetByTarget.{left, after, chipHere, setHere, there-chip, there-after, set-small, sets-after, grown-on, grown-end}
+use Rattle.tree.proofs.TargetByTarget.{left, after, chipHere, there-chip, there-after, set-small, sets-after, grown-on, grown-end}
 use Rattle.tree.proofs.growing.grow.Statement.{statement}
 use Rattle.tree.proofs.growing.grow.Tie as tie
 
@@ -61,7 +61,7 @@ loop-again c =
     let ws = s .args .targets .now in
     let here : at .k * 2 < length ws = omega (arith, c .before .before .before .before .before .before .before .count-of .ensures) in
     let done = c .add-target .ensures .0 ∙ ap (λ (p : ℕ). withTarget (s .args .width) (s .args .height) (s .args .source) (grownOf (at .entered) (at .routes)) (targetOf (chipHere ws (at .k)) p)) (c .before .before .before .set-at .ensures) in
-    (c .add-target .ensures .1, (there-after ws (at .k) (s .args .height * s .args .width) here (at .inv .1 .0), (sets-after ws (at .k) here (at .inv .1 .1 .0), at .inv .1 .1 .1 ∙ grown-on ws (at .k) (s .args .width) (s .args .height) (s .args .source) (grownOf (at .entered) (at .routes)) here ∙ ap (λ (t : Rattle.tree.specs.Growing.Grown). grownBy (s .args .width) (s .args .height) (s .args .source) t (after ws (at .k))) (sym done))))
+    (c .add-target .ensures .1, (there-after ws (at .k) (s .args .height * s .args .width) here (at .inv .1 .0), (sets-after ws (at .k) here (at .inv .1 .1 .0), at .inv .1 .1 .1 ∙ grown-on ws (at .k) (s .args .width) (s .args .height) (s .args .source) (grownOf (at .entered) (at .routes)) here ∙ ap (λ (t : Grown). grownBy (s .args .width) (s .args .height) (s .args .source) t (after ws (at .k))) (sym done))))
 
 returns : tie.Need-returns Inv-loop μ-loop
 returns c =

@@ -1,12 +1,11 @@
 -- `growing::last_shared` meets its contract. The loop's invariant: the part that is found from the source on is the one that is found from here on, with the part so far. The measure is what is left of the way.
-use Prim.Native.Nat.{ℕ, _+_, _*_, _-_, _<_}
+use mathlib.Core.Bool.{not}
+use Prim.Native.Nat.{_*_, _-_, _<_}
 use mathlib.Core.Path.{_≡_, refl, sym, ap, _∙_}
-use mathlib.Core.List.{List}
 use native.Mathlib.Omega.{arith}
 use borrow.Author.Tests.{eq-eqb, ne-eqb}
 use lib.ListN.{drop, getD}
 use Rattle.tables.proofs.Sizes.{chips-small}
-use Rattle.tree.specs.Way.{linksOf}
 use Rattle.tree.specs.Growing.{lastShared}
 use Rattle.tree.specs.Walking.{linksBy, wholeWay, partFrom}
 use Rattle.tree.proofs.LinkByLink.{legs-in-order, legs-links, met, not-met, all-met}
@@ -49,7 +48,7 @@ loop-again c =
     let at = c .before .before .before .before .before .loop in
     let go = c .before .before .next-chip .ensures in
     let legs = c .before .before .before .before .before .before .legs-of .result in
-    let in-tree = ap mathlib.Core.Bool.not (ne-eqb (getD (s .args .entered .now) (c .before .before .next-chip .result) 0) 7 (c .if1 .taken)) in
+    let in-tree = ap not (ne-eqb (getD (s .args .entered .now) (c .before .before .next-chip .result) 0) 7 (c .if1 .taken)) in
     (at .inv .0 ∙ met (s .args .width) (s .args .height) legs (legs-in-order legs (s .args .way) (c .before .before .before .before .before .before .legs-of .ensures)) (at .chip) _ (at .j) _ (c .before .before .before .before .loop-test .taken) (c .before .before .before .link-at .ensures) (go .0) (s .args .entered .now) _ in-tree, (go .1, go .1))
 
 loop-less-2 : tie.Need-loop-less-2 Inv-loop μ-loop
@@ -61,7 +60,7 @@ loop-again-2 c =
     let at = c .before .before .before .before .before .loop in
     let go = c .before .before .next-chip .ensures in
     let legs = c .before .before .before .before .before .before .legs-of .result in
-    let outside = ap mathlib.Core.Bool.not (eq-eqb (getD (s .args .entered .now) (c .before .before .next-chip .result) 0) 7 (c .if1 .left)) in
+    let outside = ap not (eq-eqb (getD (s .args .entered .now) (c .before .before .next-chip .result) 0) 7 (c .if1 .left)) in
     (at .inv .0 ∙ not-met (s .args .width) (s .args .height) legs (legs-in-order legs (s .args .way) (c .before .before .before .before .before .before .legs-of .ensures)) (at .chip) _ (at .j) _ (c .before .before .before .before .loop-test .taken) (c .before .before .before .link-at .ensures) (go .0) (s .args .entered .now) _ outside, (go .1, at .inv .1 .1))
 
 returns : tie.Need-returns Inv-loop μ-loop

@@ -1,5 +1,5 @@
 -- `growing::next_chip` meets its contract.
-use mathlib.Core.Path.{refl, _∙_}
+use mathlib.Core.Path.{refl}
 use native.Mathlib.Nat.{mod-lt, div-lt-iff-lt-mul}
 use lib.Arith.{digits-lt}
 use Rattle.tables.proofs.Sizes as sizes

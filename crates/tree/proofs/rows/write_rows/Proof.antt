@@ -1,5 +1,5 @@
 -- `rows::write_rows` meets its contract. The loop's invariant: the rows and starts of the chips before this one are written, and what follows is as it was. The measure is what is left of the chips.
-use Prim.Native.Nat.{ℕ, _+_, _*_, _-_, _≤_, _<_}
+use Prim.Native.Nat.{ℕ, _+_, _-_, _≤_}
 use mathlib.Core.Path.{_≡_, refl, sym, ap, _∙_}
 use mathlib.Core.List.{List, _++_}
 use native.Mathlib.Omega.{arith}

@@ -1,8 +1,7 @@
 -- `targets::all_there` meets its contract. The loop's invariant: whether all chips are there is whether those from target k on are. The measure is what is left of the targets.
-use Prim.Native.Nat.{_*_, _-_, _≤_, _<_}
+use Prim.Native.Nat.{_-_}
 use mathlib.Core.Path.{_≡_, refl, sym, _∙_}
 use native.Mathlib.Omega.{arith}
-use lib.ListN.{length}
 use Rattle.tree.specs.Growing.{targetsOf}
 use Rattle.tree.specs.Call.{allThere}
 use Rattle.tree.proofs.TargetByTarget.{left, there-on, there-not, there-end}

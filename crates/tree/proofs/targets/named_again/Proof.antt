@@ -1,11 +1,11 @@
 -- `targets::named_again` meets its contract. The loop's invariant: a chip has its mark exactly if it was named, and whether one is named again is whether one from target k on is. The measure is what is
 -- left of the targets.
-use Prim.Native.Nat.{ℕ, _*_, _-_, _≤_, _<_}
+use Prim.Native.Nat.{_*_, _-_, _<_}
 use mathlib.Core.Path.{_≡_, refl, sym, _∙_}
 use mathlib.Core.Bool.{true}
 use mathlib.Core.List.{[]}
 use native.Mathlib.Omega.{arith}
-use lib.ListN.{length, getD, replicate, length-set, getD-replicate}
+use lib.ListN.{length, length-set, getD-replicate}
 use Rattle.tree.specs.Growing.{targetsOf}
 use Rattle.tree.specs.Call.{allThere, isIn, namedAgain}
 use Rattle.tree.proofs.TargetByTarget.{chipsBefore, left, Named, there-chip, there-after, again-yes, again-on, again-end, named-more, one-is, one-is-not}

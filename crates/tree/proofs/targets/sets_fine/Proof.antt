@@ -1,9 +1,8 @@
 -- `targets::sets_fine` meets its contract. The loop's invariant: whether all sets are fine is whether those from target k on are. The measure is what is left of the targets.
-use Prim.Native.Nat.{_*_, _-_, _≤_, _<_}
+use Prim.Native.Nat.{_-_}
 use mathlib.Core.Path.{_≡_, refl, sym, ap, _∙_}
 use native.Mathlib.Omega.{arith}
 use borrow.Author.Tests.{not-true, not-false}
-use lib.ListN.{length}
 use Rattle.tree.specs.Growing.{targetsOf}
 use Rattle.tree.specs.Call.{setFine, setsFine}
 use Rattle.tree.proofs.TargetByTarget.{left, sets-on, sets-not, sets-end}

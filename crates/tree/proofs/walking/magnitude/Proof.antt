@@ -1,7 +1,7 @@
 -- `walking::magnitude` meets its contract: what is below 0 is negated.
 use mathlib.Core.Path.{sym, ap, subst, _∙_}
 use lib.Dec.{T}
-use lib.IntN.{ℤ, natAbs}
+use lib.IntN.{ℤ, natAbs, pos}
 use lib.Signed.{nonNeg, ltZ}
 use mir.Syntax.{w32, w64}
 use mir.Val.{Fits}
@@ -20,7 +20,7 @@ cast-result c =
     let z = s .args .count in
     let same = toZ-ofZ w32 z (s .fits .count) in
     let back = negation-read z _ (s .pre) same in
-    let below = sym (below-zero z) ∙ sym (ap (λ (v : ℤ). ltZ v (lib.IntN.pos 0)) same) ∙ c .if1 .taken in
+    let below = sym (below-zero z) ∙ sym (ap (λ (v : ℤ). ltZ v (pos 0)) same) ∙ c .if1 .taken in
     (subst (λ (v : ℤ). T (nonNeg v)) (sym back) (negated-up z below), subst (λ (v : ℤ). Fits w64 (natAbs v)) (sym back) (rw neg-size (size-fits z (s .pre))))
 
 returns : tie.Need-returns
@@ -34,7 +34,7 @@ cast-result-2 c =
     let s = c .before in
     let z = s .args .count in
     let same = toZ-ofZ w32 z (s .fits .count) in
-    let above = sym (below-zero z) ∙ sym (ap (λ (v : ℤ). ltZ v (lib.IntN.pos 0)) same) ∙ c .if1 .left in
+    let above = sym (below-zero z) ∙ sym (ap (λ (v : ℤ). ltZ v (pos 0)) same) ∙ c .if1 .left in
     (subst (λ (v : ℤ). T (nonNeg v)) (sym same) (not-below z above), subst (λ (v : ℤ). Fits w64 (natAbs v)) (sym same) (size-fits z (s .pre)))
 
 returns-2 : tie.Need-returns-2

@@ -1,11 +1,8 @@
 -- `ways::way_between` meets its contract.
-use Prim.Native.Nat.{_<_, _≤_}
 use mathlib.Core.Path.{_∙_}
-use native.Mathlib.Omega.{arith}
 use native.Mathlib.Nat.{mod-lt, div-lt-iff-lt-mul}
 use Rattle.tables.proofs.Sizes as sizes
 use Rattle.tree.specs.Way.{wayTo}
-use borrow.Author.Needs.{needs}
 use Rattle.tree.proofs.ways.way_between.Statement.{statement}
 use Rattle.tree.proofs.ways.way_between.Tie as tie
 

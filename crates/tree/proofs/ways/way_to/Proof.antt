@@ -1,16 +1,16 @@
 -- `ways::way_to` meets its contract: the least of the four ways is the one that is taken, as computed of every size and place.
-use Prim.Native.Nat.{ℕ, _-_, _%_, _≤_, max}
-use mathlib.Core.Path.{_≡_, refl, sym, ap, subst, _∙_}
+use Prim.Native.Nat.{ℕ, _-_, _%_}
+use mathlib.Core.Path.{_≡_, ap, _∙_}
 use native.Mathlib.Omega.{arith}
 use native.Mathlib.Nat.{mod-lt, mod-le}
-use lib.IntN.{ℤ, pos, negℤ}
+use lib.IntN.{pos}
 use mir.Syntax.{w32}
 use mir.Val.{toZ, ofZ}
 use Rattle.tables.proofs.Sizes as sizes
 use Rattle.tree.specs.declared.Way.{Way}
 use Rattle.tree.specs.Walking.{Small, nearer, forwards, eastSouth, westNorth, backwards, bestOfFour}
 use Rattle.tree.proofs.Signs.{neg-few, small-way, way-made}
-use Rattle.tree.proofs.LeastOfAll.{right-way}
+use Rattle.tree.proofs.ComputedWays.{right-way}
 use borrow.Author.Needs.{needs}
 use Rattle.tree.proofs.ways.way_to.Statement.{statement}
 use Rattle.tree.proofs.ways.way_to.Tie as tie
