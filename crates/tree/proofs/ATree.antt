@@ -20,13 +20,13 @@ use Rattle.tree.specs.Growing.{Target, targetsOf, Grown, sourceAlone, on
 use Rattle.tree.specs.Rows.{enteredAt, routeAt}
 use Rattle.tree.specs.Call.{allThere, namedAgain}
 use Rattle.tree.specs.Promises.{chipAfter}
-use Rattle.tree.specs.Rooted.{isLink, Rooted, Grows, ATree}
+use Rattle.tree.specs.Rooted.{isLink, Rooted, processorsOn, Grows, ATree}
 use Rattle.tree.proofs.RouteBits.{links-kept, processors-more}
 use Rattle.tree.proofs.LowRoutes.{LinkLow, links-low}
 use Rattle.tree.proofs.FreshWay.{Out, Short, never-back, short-after, out-still, out-first, whole-new}
 use Rattle.tree.proofs.FewestLinks.{fewest-links}
 use Rattle.tree.proofs.AcrossBack.{across-there, across-back}
-use Rattle.tree.proofs.NamedOnce.{processorsOn, not-named, each-named}
+use Rattle.tree.proofs.NamedOnce.{not-named, each-named}
 use Rattle.tree.proofs.StaysATree.{Good, one-good, next-within, still-within}
 use Rattle.tree.proofs.SourceAlone.{alone, at-source}
 use Rattle.tree.proofs.Answers as answers
@@ -169,6 +169,7 @@ module _ (w h source : ℕ) (fine : sizeFine (suc w) (suc h) ≡ true) where
           rooted = whole .good .rooted;
           one-way-in = one-in t (whole .good .rooted);
           targets-within = whole .within;
+          processors = whole .good .processors;
           named = on-route t (λ d. processorsOn d 0 ts) (whole .good .processors) ts e (each-named [] ts once);
           no-others = λ d l n. whole .good .processors d l ∙ not-named d 0 ts n;
         }

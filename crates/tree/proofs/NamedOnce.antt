@@ -7,13 +7,9 @@ use borrow.Author.Tests.{eq-eqb, ne-eqb}
 use lib.Bits.{bitOr, or-zero-l}
 use lib.Dec.{T, eqb}
 use Rattle.lists.specs.Lists.{All}
+use Rattle.tree.specs.Rooted.{processorsOn}
 use Rattle.tree.specs.Growing.{Target}
 use Rattle.tree.specs.Call.{isIn, namedAgain}
-
--- with others that were there before
-unfoldable pub processorsOn : ℕ → ℕ → List Target → ℕ
-processorsOn chip others [] = others
-processorsOn chip others (t ∷ ts) = processorsOn chip (cond (eqb chip (t .chip)) (bitOr others (t .processors)) others) ts
 
 passed : (chip others : ℕ) (t : Target) (ts : List Target) → (t .chip ≡ chip → ⊥) → processorsOn chip others (t ∷ ts) ≡ processorsOn chip others ts
 unfolding processorsOn

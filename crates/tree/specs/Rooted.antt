@@ -1,8 +1,10 @@
 -- The tree is a tree: its links lead from the source to every chip of it, one to each, and its processors are those of its targets.
 use Prim.Native.Nat.{ℕ, suc, _*_, _/_, _≤_, _<_}
 use mathlib.Core.Path.{_≡_}
-use mathlib.Core.Bool.{Bool, true}
-use mathlib.Core.List.{List}
+use mathlib.Core.Bool.{Bool, true, cond}
+use mathlib.Core.List.{List, [], _∷_}
+use lib.Bits.{bitOr}
+use lib.Dec.{eqb}
 use Rattle.lists.specs.Lists.{All}
 use Rattle.steps.specs.Links.{has}
 use Rattle.links.specs.Across.{across, opposite}
@@ -31,6 +33,11 @@ module _ (width height source : ℕ) (t : Grown) where
     pub top : depth source ≡ 0
     pub deeper : (chip i : ℕ) → chip < height * width → i < 6 → isLink chip i ≡ true → depth (across width height chip i) ≡ suc (depth chip)
 
+-- The processors that a list of targets names on a chip, with others.
+unfoldable pub processorsOn : ℕ → ℕ → List Target → ℕ
+processorsOn chip others [] = others
+processorsOn chip others (t ∷ ts) = processorsOn chip (cond (eqb chip (t .chip)) (bitOr others (t .processors)) others) ts
+
 -- What an accepted call grows: a tree, with every target's chip in it, the processors that are named there, and no others.
 pub record Grows (width height source : ℕ) (targets : List Target) (t : Grown) : Type 0 where
   pub rooted : Rooted width height source t
@@ -38,6 +45,7 @@ pub record Grows (width height source : ℕ) (targets : List Target) (t : Grown)
   pub one-way-in : (c d i j : ℕ) → c < height * width → d < height * width → i < 6 → j < 6 → isLink width height source t c i ≡ true → isLink width height source t d j ≡ true
       → across width height c i ≡ across width height d j → (c ≡ d) × (i ≡ j)
   pub targets-within : All (λ target. enteredAt t (target .chip) ≡ 7 → ⊥) targets
+  pub processors : (chip : ℕ) → chip < height * width → routeAt t chip / 64 ≡ processorsOn chip 0 targets
   pub named : All (λ target. routeAt t (target .chip) / 64 ≡ target .processors) targets
   pub no-others : (chip : ℕ) → chip < height * width → All (λ target. target .chip ≡ chip → ⊥) targets → routeAt t chip / 64 ≡ 0
 
