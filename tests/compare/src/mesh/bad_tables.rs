@@ -1,5 +1,5 @@
-//! What is wrong with lent tables, and the first place where it is: written from the rules, without sight of the Rattle
-//! sources. "15 bad starts, 16 too many rows, 17 route bits, .. in that order; a bad fixed route .. 18, after 17"; then 11.
+//! What is wrong with lent tables, and the first place where it is: written after the sentences of the rules.
+//! "15 bad starts, 16 too many rows, 17 route bits, .. in that order; a bad fixed route .. 18, after 17"; then 11.
 
 use crate::interface::LentTables;
 use crate::model::{refusal, MOST_ROWS};
