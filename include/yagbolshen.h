@@ -21,6 +21,10 @@
  * 16  over 1,024 rows for a chip, or over 16,384 that are to be made fewer
  * 17  a row with route bit 26 to 31 set, or not whole rows
  * 18  a fixed route with bit 26 to 31 set, or another number of them than chips
+ * 19  the source or another chip of a tree off the mesh
+ * 20  a chip of a tree named twice, or a processor set that is empty or has a bit above 19
+ * 21  a key bit outside the mask
+ * 26  room for fewer rows than one a chip, or starts that are not one more than chips
  * 27  room shorter than the record to be written
  * 28  room for fewer rows, or for fewer numbers of rows, than there are
  *
@@ -44,8 +48,9 @@
 
 /* Raised with each change that a caller can see; 2 brings kept traces, 3 has a row match by its key itself,
  * 4 brings fixed-route packets, 5 has registers say where, when and how many, 6 brings P2P codes by flooding,
- * 7 makes tables fewer rows, 8 says of bad tables which start, chip, row or fixed route it is: 15 to 18, with a place. */
-#define YAGBOLSHEN_VERSION 8
+ * 7 makes tables fewer rows, 8 says of bad tables which start, chip, row or fixed route it is: 15 to 18, with a place,
+ * 9 grows multicast trees. */
+#define YAGBOLSHEN_VERSION 9
 
 /* The refusals by name. */
 #define YB_ACCEPTED 0
@@ -65,6 +70,10 @@
 #define YB_MANY_ROWS 16     /* over 1,024 for a chip; over 16,384, to be made fewer */
 #define YB_ROUTE 17         /* a row's route, or not whole rows */
 #define YB_FIXED_ROUTE 18   /* a fixed route, or how many there are */
+#define YB_OFF_MESH 19      /* a tree's source, or another chip of it */
+#define YB_TARGET 20        /* a chip named twice, or its processor set */
+#define YB_KEY 21           /* a key bit outside the mask */
+#define YB_TREE_ROOM 26     /* for rows, or how many starts there are */
 #define YB_NO_ROOM 27
 #define YB_FEWER_ROOM 28
 
@@ -247,6 +256,11 @@ typedef struct {
     uint32_t refusal, rows, gone, place;
 } yb_fewer;
 
+/* rows: how many were written, over all chips */
+typedef struct {
+    uint32_t refusal, rows;
+} yb_tree;
+
 /* Reads the bytes of a packet into fields. Refuses 2. */
 yb_read yagbolshen_read(const uint8_t *packet, size_t packet_len);
 
@@ -361,6 +375,24 @@ uint32_t yagbolshen_flood(const uint32_t *mesh, size_t mesh_len, uint8_t *codes,
  * the square of the rows; the stack that it takes is a little over 256 KiB, whatever is lent. */
 yb_fewer yagbolshen_fewer(const uint32_t *rows, size_t rows_len, uint32_t *left, size_t left_len, uint32_t *gone,
                           size_t gone_len);
+
+/* Grows the tree by which a multicast packet goes from a source chip to the processors of a list of chips, and writes its
+ * rows, all with one key and mask. `targets` has two words for each chip of the list, its number and its processor set (bit
+ * k for processor k); `targets_len` counts words. A list of none is accepted, and the source may be in the list. A way goes
+ * by signed steps east and north, with the fewest links over all ways round the mesh: by its diagonal links first, then east
+ * or west, then north or south; of equal ways the one with the larger signed count east, then north, is taken. Chips go in
+ * list order, and only the part of a way after its last chip that the tree so far has is added. The source always gets a
+ * row; a chip with no processors, left by the link of the same number as the one it was sent by and no other, gets none.
+ * `rows` and `starts` are written as injection, round and replay take them, where `rows_len` is three times the number of
+ * rows that is answered; words of `rows` past those stay as they were. With only these rows, all links up, nothing else in
+ * flight and the tree at most `rounds_per_phase` links deep, one matching packet, injected at the source without error,
+ * reaches each named processor exactly once and no other, and nothing is dropped. The room for rows is at least three words
+ * a chip, and `starts_len` one more than chips. Refuses 7, 19, 20, 21, 26, the first that applies: a 19 at the end of the
+ * list comes before a 20 at its start. A word past the last pair is a chip with no processors: 19 where it is off the mesh,
+ * else 20. */
+yb_tree yagbolshen_tree(uint32_t width, uint32_t height, uint32_t source, uint32_t key, uint32_t mask,
+                        const uint32_t *targets, size_t targets_len, uint32_t *rows, size_t rows_len, uint32_t *starts,
+                        size_t starts_len);
 
 /* All that is lent with the tables, as one struct, and the calls that take it. A further table is one more field at the end. */
 #ifndef YAGBOLSHEN_WITHOUT_INLINE

@@ -221,6 +221,25 @@ pub struct Fewer {
     pub place: u32,
 }
 
+/// `rows` were written, over all chips.
+#[repr(C)]
+#[derive(Clone, Copy, Debug, Default, PartialEq, Eq)]
+pub struct Tree {
+    pub refusal: u32,
+    pub rows: u32,
+}
+
+/// What a tree is grown from: `targets` has two words for each chip, its number and its processor set.
+#[derive(Clone, Debug, Default)]
+pub struct TreeCall {
+    pub width: u32,
+    pub height: u32,
+    pub source: u32,
+    pub key: u32,
+    pub mask: u32,
+    pub targets: Vec<u32>,
+}
+
 /// The tables that are lent to an injection, a round or a replay.
 #[derive(Clone, Copy, Debug)]
 pub struct LentTables<'a> {

@@ -18,6 +18,8 @@ mod records;
 mod systematic;
 mod tally;
 mod trace_calls;
+mod tree;
+mod tree_calls;
 
 use fewer::FewerTally;
 use finding::FindTally;
@@ -27,6 +29,7 @@ use pass_case::{PassCase, DAMAGES};
 use random::Random;
 use records::RecordTally;
 use tally::Tally;
+use tree::TreeTally;
 
 const PASSES: f64 = 8e6;
 const READS: f64 = 2e6;
@@ -37,6 +40,7 @@ const SEQUENCES: f64 = 3e5;
 const TRACES: f64 = 1e5;
 const FLOODS: f64 = 1e4;
 const FEWERS: f64 = 1e6;
+const TREES: f64 = 1e5;
 
 fn main() {
     let arguments: Vec<String> = std::env::args().collect();
@@ -48,6 +52,7 @@ fn main() {
     let mut mesh_tally = MeshTally::default();
     let mut flood_tally = FloodTally::default();
     let mut fewer_tally = FewerTally::default();
+    let mut tree_tally = TreeTally::default();
 
     if let Some(number) = only {
         mesh::run(&mut mesh_tally, seed, number, true);
@@ -73,13 +78,16 @@ fn main() {
     mesh::flooding::random(&mut flood_tally, &mut random, (FLOODS * scale) as u64);
     fewer::systematic(&mut fewer_tally, &mut random);
     fewer::random(&mut fewer_tally, &mut random, (FEWERS * scale) as u64);
+    tree::systematic(&mut tree_tally, &mut random);
+    tree::random(&mut tree_tally, &mut random, (TREES * scale) as u64);
 
     if !(tally.print()
         & find_tally.print()
         & record_tally.print()
         & mesh_tally.print()
         & flood_tally.print()
-        & fewer_tally.print())
+        & fewer_tally.print()
+        & tree_tally.print())
     {
         std::process::exit(1);
     }
