@@ -22,6 +22,7 @@ mod packet_times;
 mod pass_times;
 mod plain_fewer;
 mod plain_mesh;
+mod plain_tree;
 #[path = "../../tests/compare/src/random.rs"]
 mod random;
 mod replay_times;
@@ -29,6 +30,9 @@ mod stack;
 mod timing;
 #[path = "../../tests/compare/src/trace_calls.rs"]
 mod trace_calls;
+#[path = "../../tests/compare/src/tree_calls.rs"]
+mod tree_calls;
+mod tree_times;
 
 fn main() {
     let rounds: usize = std::env::args().nth(1).map_or(300, |text| text.parse().expect("the rounds are a number"));
@@ -38,6 +42,7 @@ fn main() {
     mesh_times::all(rounds);
     replay_times::all(rounds);
     flood_times::all(rounds);
+    tree_times::all(rounds);
     growth::all(rounds);
     fewer_times::all(rounds);
     stack::print_use();

@@ -2,8 +2,8 @@
 //! The figure includes what the function that makes the call needs itself.
 
 use crate::busy_mesh::{bytes, BusyMesh};
-use crate::interface::{Fields, KeptCall, Row};
-use crate::{fewer_calls, lib_calls, mesh_calls, pass_times, trace_calls};
+use crate::interface::{Fields, KeptCall, Row, TreeCall};
+use crate::{fewer_calls, lib_calls, mesh_calls, pass_times, trace_calls, tree_calls, tree_times};
 use std::arch::asm;
 use std::cell::RefCell;
 use std::hint::black_box;
@@ -17,11 +17,13 @@ const MOST_WITH_ROWS: usize = 260 << 10;
 const EACH_KIND: [u8; 29] = [0, 9, 1, 1, 0, 0, 0, 0, 0, 0, 2, 0, 2, 1, 2, 0, 6, 1, 3, 0, 1, 5, 1, 0, 4, 1, 4, 0, 1];
 
 thread_local! {
+    /// The tree that is grown.
+    static TREE: TreeCall = tree_times::call(12, 144);
     /// The mesh that calls on a mesh are measured with, with detours and deliveries.
     static MESH: RefCell<BusyMesh> = RefCell::new(BusyMesh::mixed(12, 12, 4));
 }
 
-const CALLS: [(&str, extern "C" fn()); 19] = [
+const CALLS: [(&str, extern "C" fn()); 20] = [
     ("read", read),
     ("pack", pack),
     ("pass", pass),
@@ -40,6 +42,7 @@ const CALLS: [(&str, extern "C" fn()); 19] = [
     ("replay", replay),
     ("open", open),
     ("flood", flood),
+    ("tree", tree),
     (FEWER, fewer),
 ];
 
@@ -47,6 +50,7 @@ const FEWER: &str = "fewer";
 
 pub fn print_use() {
     MESH.with(|_| ());
+    TREE.with(|_| ());
     for (name, caller) in CALLS {
         let used = stack_use(caller);
         let most = if name == FEWER { MOST_WITH_ROWS } else { MOST };
@@ -73,6 +77,10 @@ extern "C" fn find() {
 
 extern "C" fn fewer() {
     black_box(fewer_calls::fewer(black_box(&[0; 3 * 64]), &mut [0; 3 * 64], &mut [0; 64]));
+}
+
+extern "C" fn tree() {
+    TREE.with(|call| black_box(tree_calls::tree(black_box(call), &mut [0; 3 * 144], &mut [0; 145])));
 }
 
 extern "C" fn size() {
