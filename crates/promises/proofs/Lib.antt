@@ -37,6 +37,13 @@ pub mod Runs
 pub mod Sequences
 pub mod Told
 pub mod Towards
+pub mod TreeArrivals
+pub mod TreeMidway
+pub mod TreePass
+pub mod TreeRound
+pub mod TreeRows
+pub mod TreeShape
+pub mod TreeStep
 pub mod TreeWays
 pub mod Twins
 pub mod Weighs

@@ -5,6 +5,7 @@ pub mod DetouredExamples
 pub mod FirstRow
 pub mod FixedRoute
 pub mod FloodedWay
+pub mod GrownTree
 pub mod History
 pub mod KnownPasses
 pub mod NoStaleBlock
