@@ -25,7 +25,7 @@ use Rattle.promises.proofs.InFlight.{pass-gains}
 
 -- ---- sums that are 0
 
-all-zero : {X : Type 0} (w : X → ℕ) (l : List X) → total w l ≡ 0 → All (λ x. w x ≡ 0) l
+pub all-zero : {X : Type 0} (w : X → ℕ) (l : List X) → total w l ≡ 0 → All (λ x. w x ≡ 0) l
 unfolding total All
 all-zero w [] e = tt
 all-zero w (x ∷ l) e = (omega arith, all-zero w l (omega arith))

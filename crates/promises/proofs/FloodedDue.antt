@@ -27,7 +27,7 @@ unfolding All
 all-both P Q [] p q = tt
 all-both P Q (x ∷ xs) p q = ((p .0, q .0), all-both P Q xs (p .1) (q .1))
 
-sound-flights : {A : Type 0} {m : Mesh A} → SoundMesh m → EachFlight (λ x. SoundPacket (x .packet)) m
+pub sound-flights : {A : Type 0} {m : Mesh A} → SoundMesh m → EachFlight (λ x. SoundPacket (x .packet)) m
 sound-flights {m = m} sound = all-weaken SoundChip _ (λ c s. all-weaken SoundLine _ (λ l k. k .fine) (c .lines) (s .lines)) (m .chips) (sound .chips)
 
 module _ (w : Trip) (f r : ℕ) (some : 0 < f) (j : ℕ) (few : j ≤ f) where

@@ -23,6 +23,7 @@ pub mod FloodedSince
 pub mod FloodedStage
 pub mod FloodedWay
 pub mod Forgets
+pub mod GrownTree
 pub mod Histories
 pub mod InFlight
 pub mod Lefts
@@ -43,6 +44,7 @@ pub mod TreePass
 pub mod TreeRound
 pub mod TreeRows
 pub mod TreeShape
+pub mod TreeSince
 pub mod TreeStep
 pub mod TreeWays
 pub mod Twins

@@ -34,6 +34,15 @@ module _ {A : Type 0} where
   pub to-any : (Q : Flight A → Type 0) (m : Mesh A) → EachFlight Q m → EachTo (λ chip. Q) m
   to-any Q m each chip i near = all-or (λ (l : Line A). All Q (l .held)) (chipOf m chip .lines) i idle (each-here Q m chip each) (all-nil Q)
 
+  -- what the links hold where nothing passes
+  pub linked-held : (m : Mesh A) (chip link : ℕ) (up : Bool) (c i : ℕ) → lineOf (withLink m chip link up) c i .held ≡ lineOf m c i .held
+  linked-held m chip link up c i =
+      set-keeps (λ (x : Chip A). getD (x .lines) i idle .held) (m .chips) chip c _ fresh
+      (set-keeps (λ (l : Line A). l .held) (chipOf m chip .lines) link i (withUp up (lineOf m chip link)) idle refl)
+
+  pub emptied-held : (m : Mesh A) (chip c i : ℕ) → lineOf (withEmpty m chip) c i .held ≡ lineOf m c i .held
+  emptied-held m chip c i = set-keeps (λ (x : Chip A). getD (x .lines) i idle .held) (m .chips) chip c _ fresh refl
+
 module _ {A : Type 0} (P : ℕ → Flight A → Type 0) where
   pub to-weaken : (Q : ℕ → Flight A → Type 0) → ((chip : ℕ) (x : Flight A) → P chip x → Q chip x) → (m : Mesh A) → EachTo P m → EachTo Q m
   to-weaken Q f m each chip i near = all-weaken (P (beyond m chip i)) (Q (beyond m chip i)) (f (beyond m chip i)) _ (each chip i near)
@@ -41,18 +50,10 @@ module _ {A : Type 0} (P : ℕ → Flight A → Type 0) where
   -- ---- the calls that pass nothing
 
   pub to-linked : (m : Mesh A) (chip link : ℕ) (up : Bool) → EachTo P m → EachTo P (withLink m chip link up)
-  to-linked m chip link up each c i near = subst (All (P (beyond m c i))) (sym held) (each c i near)
-    where
-      held : lineOf (withLink m chip link up) c i .held ≡ lineOf m c i .held
-      held =
-          set-keeps (λ (x : Chip A). getD (x .lines) i idle .held) (m .chips) chip c _ fresh
-          (set-keeps (λ (l : Line A). l .held) (chipOf m chip .lines) link i (withUp up (lineOf m chip link)) idle refl)
+  to-linked m chip link up each c i near = subst (All (P (beyond m c i))) (sym (linked-held m chip link up c i)) (each c i near)
 
   pub to-emptied : (m : Mesh A) (chip : ℕ) → EachTo P m → EachTo P (withEmpty m chip)
-  to-emptied m chip each c i near = subst (All (P (beyond m c i))) (sym held) (each c i near)
-    where
-      held : lineOf (withEmpty m chip) c i .held ≡ lineOf m c i .held
-      held = set-keeps (λ (x : Chip A). getD (x .lines) i idle .held) (m .chips) chip c _ fresh refl
+  to-emptied m chip each c i near = subst (All (P (beyond m c i))) (sym (emptied-held m chip c i)) (each c i near)
 
   -- ---- a pass
 

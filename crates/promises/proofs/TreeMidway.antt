@@ -30,6 +30,22 @@ module _ (w : Trip) where
   abbrev pub handedDown : ℕ → ℕ → ℕ → ℕ
   handedDown j c k = cond (leb (depth w c) j && has (route w c / 64) k) 1 0
 
+  -- where no chip of the tree is at a depth
+  pub none-leaves : (l c i : ℕ) → (depth w c ≡ l → route w c ≡ 0) → leaves w l c i ≡ false
+  none-leaves l c i no-route =
+      shape.not-both _ (λ e.
+      let both = and-eq-true-iff (leads w c i) (eqb (depth w c) l) .0 e in
+      apart (sym (both .0) ∙ ap (λ (r : ℕ). has r i) (no-route (eqb-true _ _ (both .1))) ∙ has-none i))
+
+  pub nobody : (l c q : ℕ) → route w c ≡ 0 → handedDown l c q ≡ 0
+  nobody l c q e =
+      ap (λ (r : ℕ). cond (leb (depth w c) l && has (r / 64) q) 1 0) e ∙ ap (λ (b : Bool). cond (leb (depth w c) l && b) 1 0) (has-none q)
+      ∙ ap (λ (b : Bool). cond b 1 0) (and-false (leb (depth w c) l))
+
+  -- a link that leaves a chip of the tree is one of its links
+  pub all-leave : (l c i : ℕ) → depth w c ≡ l → leaves w l c i ≡ leads w c i
+  all-leave l c i level = ap (λ (b : Bool). leads w c i && b) (eq-eqb _ _ level) ∙ and-true (leads w c i)
+
   -- the chips below k have the copies of depth j + 1
   pub record Midway (j k : ℕ) (m : Mesh Tag) (es : List Event) : Type 0 where
     pub done : (c i : ℕ) → c < k → i < 6 → Holds w (leaves w (suc j) c i) (lineOf m c i .held)
@@ -50,25 +66,14 @@ module _ (w : Trip) where
           go (no in-tree) =
               absurd (⊎-elim (λ (s : k ≡ w .asked .source). omega (arith, ap (depth w) s, shape.rooted (w .asked) (w .none) .top)) (λ (h : entered w k < 6). idle (h, e)) (shape.within-tree (w .asked) (w .none) k there in-tree))
 
-      none-leaves : (i : ℕ) → leaves w (suc j) k i ≡ false
-      none-leaves i =
-          shape.not-both _ (λ e.
-          let both = and-eq-true-iff (leads w k i) (eqb (depth w k) (suc j)) .0 e in
-          apart (sym (both .0) ∙ ap (λ (r : ℕ). has r i) (no-route (eqb-true _ _ (both .1))) ∙ has-none i))
-
       same-handed : (q : ℕ) → handedDown j k q ≡ handedDown (suc j) k q
       same-handed q = go (ℕ-discrete (depth w k) (suc j)) (decLt j (depth w k))
         where
-          nobody : (l : ℕ) → route w k ≡ 0 → handedDown l k q ≡ 0
-          nobody l e =
-              ap (λ (r : ℕ). cond (leb (depth w k) l && has (r / 64) q) 1 0) e ∙ ap (λ (b : Bool). cond (leb (depth w k) l && b) 1 0) (has-none q)
-              ∙ ap (λ (b : Bool). cond b 1 0) (and-false (leb (depth w k) l))
-
           by : leb (depth w k) j ≡ leb (depth w k) (suc j) → handedDown j k q ≡ handedDown (suc j) k q
           by e = ap (λ (b : Bool). cond (b && has (route w k / 64) q) 1 0) e
 
           go : Dec (depth w k ≡ suc j) → Dec (j < depth w k) → handedDown j k q ≡ handedDown (suc j) k q
-          go (yes e) d = nobody j (no-route e) ∙ sym (nobody (suc j) (no-route e))
+          go (yes e) d = nobody j k q (no-route e) ∙ sym (nobody (suc j) k q (no-route e))
           go (no other) (yes h) = by (lt-leb (depth w k) j h ∙ sym (lt-leb (depth w k) (suc j) (omega arith)))
           go (no other) (no h) = by (le-leb (depth w k) j (omega arith) ∙ sym (le-leb (depth w k) (suc j) (omega arith)))
 
@@ -85,7 +90,7 @@ module _ (w : Trip) where
           done-by : (c i : ℕ) → i < 6 → c < suc k → Dec (c ≡ k) → Holds w (leaves w (suc j) c i) (lineOf m c i .held)
           done-by c i near low (yes e) =
               subst (λ (c : ℕ). Holds w (leaves w (suc j) c i) (lineOf m c i .held)) (sym e)
-              (subst (λ (b : Bool). Holds w b (lineOf m k i .held)) (sym (none-leaves i)) (mid .todo k i (omega arith) there near))
+              (subst (λ (b : Bool). Holds w b (lineOf m k i .held)) (sym (none-leaves (suc j) k i no-route)) (mid .todo k i (omega arith) there near))
           done-by c i near low (no other) = mid .done c i (omega arith) near
 
           told-by : (c q : ℕ) → c < suc k → Dec (c ≡ k) → sumOf (handed (w .number) c q) es ≡ handedDown (suc j) c q
@@ -123,7 +128,7 @@ module _ (w : Trip) where
           done-by : (c i : ℕ) → i < 6 → c < suc k → Dec (c ≡ k) → Holds w (leaves w (suc j) c i) (lineOf next c i .held)
           done-by c i near low (yes e) =
               subst (λ (c : ℕ). Holds w (leaves w (suc j) c i) (lineOf next c i .held)) (sym e)
-              (subst (λ (b : Bool). Holds w b (lineOf next k i .held)) (sym (ap (λ (b : Bool). leads w k i && b) (eq-eqb _ _ level) ∙ and-true (leads w k i))) (passes .here i near))
+              (subst (λ (b : Bool). Holds w b (lineOf next k i .held)) (sym (all-leave (suc j) k i level)) (passes .here i near))
           done-by c i near low (no other) = subst (Holds w (leaves w (suc j) c i)) (sym (passes .elsewhere c i other)) (mid .done c i (omega arith) near)
 
           told-by : (c q : ℕ) → c < suc k → Dec (c ≡ k) → sumOf (handed (w .number) c q) (es ++ passed p ∷ []) ≡ handedDown (suc j) c q

@@ -1,0 +1,160 @@
+-- A packet that goes by a grown tree, over the mesh's calls: its injection is its pass at the source, in a mesh with nothing in flight, and then each round brings it one deeper.
+use Prim.Native.Nat.{ℕ, zero, suc, _+_, _-_, _*_, _/_, _≤_, _<_}
+use mathlib.Core.Path.{_≡_, refl, sym, ap, _∙_, subst}
+use mathlib.Core.Bool.{Bool, true, cond, _&&_}
+use mathlib.Core.List.{List, [], _∷_, _++_, foldl}
+use mathlib.Core.Logic.{inl, inr, ⊎-elim}
+use native.Mathlib.Decide.{ℕ-discrete}
+use native.Mathlib.Nat.{le-refl}
+use native.Mathlib.Omega.{arith}
+use lib.Dec.{eqb, leb}
+use lib.ListN.{length, getD}
+use borrow.Author.Tests.{eq-eqb, ne-eqb, le-leb, lt-leb}
+use Rattle.packet.specs.Bytes.{packetAt}
+use Rattle.steps.specs.Links.{has, processorsOf}
+use Rattle.lists.specs.Lists.{All, total}
+use Rattle.lists.proofs.Alls.{all-or}
+use Rattle.links.specs.Line.{Flight, Line, idle}
+use Rattle.mesh.specs.Mesh.{Chip, Mesh, fresh}
+use Rattle.mesh.specs.Steps.{Tables, setOut, injected}
+use Rattle.mesh.specs.Calls.{many, chipOf, lineOf}
+use Rattle.mesh.specs.Weights.{onLine, onChip, inFlight}
+use Rattle.mesh.specs.Asked.{Call}
+use Rattle.mesh.specs.Sound.{SoundMesh}
+use Rattle.mesh.proofs.SoundSteps.{sound-injected}
+use Rattle.promises.specs.History.{Tag, Passage, Event, passed, emptied, State, Opens, turned, passages, after}
+use Rattle.promises.specs.Sequence.{Step, sequence}
+use Rattle.promises.specs.Told.{EachPass, sumOf}
+use Rattle.promises.specs.GrownTree.{Asked, Only, Matching, handed, injecting, GrownTree}
+use Rattle.promises.proofs.Told.{sum-append, each-append, each-pass-weaken}
+use Rattle.promises.proofs.Accepts as accepts
+use Rattle.promises.proofs.Sequences.{after-accepted}
+use Rattle.promises.proofs.Histories.{sound-always}
+use Rattle.promises.proofs.Ages.{ageing-kept, ages-always}
+use Rattle.promises.proofs.Belongs.{belonging}
+use Rattle.promises.proofs.Runs.{passage}
+use Rattle.promises.proofs.LinkStates.{alike-itself, alike-pass}
+use Rattle.promises.proofs.Copies.{OfOthers, all-zero}
+use Rattle.promises.proofs.TreeShape as shape
+use Rattle.promises.proofs.TreeStep.{Trip, Holds, handedAt, Passes, passes-by-tree}
+use Rattle.promises.proofs.TreeArrivals.{all, depth, entered, route, leads, leaves, Full}
+use Rattle.promises.proofs.TreeMidway.{OwnFaultless, handedDown, none-leaves, nobody, all-leave}
+use Rattle.promises.proofs.TreeSince.{Since, after-calls, delivers}
+
+-- ---- nothing in flight, and no pass yet
+
+none-held : (l : List (Flight Tag)) → total (λ x. 1) l ≡ 0 → l ≡ []
+unfolding total
+none-held [] e = refl
+none-held (x ∷ l) e = absurd (omega arith)
+
+quiet-line : (m : Mesh Tag) → inFlight m ≡ 0 → (c i : ℕ) → lineOf m c i .held ≡ []
+unfolding total
+quiet-line m quiet c i =
+    let chip : onChip (λ x. 1) (chipOf m c) ≡ 0 = all-or (λ (x : Chip Tag). onChip (λ x. 1) x ≡ 0) (m .chips) c fresh (all-zero (onChip (λ x. 1)) (m .chips) quiet) refl in
+    none-held _ (all-or (λ (l : Line Tag). onLine (λ x. 1) l ≡ 0) (chipOf m c .lines) i idle (all-zero (onLine (λ x. 1)) (chipOf m c .lines) chip) refl)
+
+none-handed : (n c q : ℕ) (es : List Event) → EachPass (λ p. OfOthers n (p .arrival .flight)) es → sumOf (handed n c q) es ≡ 0
+unfolding EachPass sumOf
+none-handed n c q [] h = refl
+none-handed n c q (passed p ∷ es) h =
+    let here : handed n c q p ≡ 0 = ap (λ (b : Bool). cond (b && eqb (p .arrival .chip) c && has (processorsOf (p .outcome .wanted)) q) 1 0) (ne-eqb _ _ (h .0)) in
+    omega (arith, here, none-handed n c q es (h .1))
+none-handed n c q (emptied k ∷ es) h = none-handed n c q es h
+
+-- ---- the pass at the source
+
+module _ (w h f monitor : ℕ) (o : Opens w h f monitor) (xs : List Step) where
+  abbrev s : State
+  s = sequence w h f monitor xs
+
+  abbrev m : Mesh Tag
+  m = s .mesh
+
+  sound : SoundMesh m
+  sound = sound-always w h f monitor o xs
+
+  module _ (trip : Trip) (found : trip .mesh ≡ m) (number : trip .number ≡ length (s .given)) (before : trip .before ≡ s .rounds) (quiet : inFlight m ≡ 0) (bytes : List ℕ) (t : Tables) (only : Only (trip .asked) t)
+      (matching : Matching (trip .asked) (m .phase) (packetAt bytes)) (fine : accepts.Injects m (trip .asked .source) bytes t) where
+    abbrev source : ℕ
+    source = trip .asked .source
+
+    abbrev next : State
+    next = accepts.afterInjection s source bytes t
+
+    passes : Passes trip source m (next .mesh) (passage t (s .rounds) m (accepts.arrivalNow s source bytes))
+    passes =
+        passes-by-tree trip t only (s .rounds) (setOut m) (accepts.arrivalNow s source bytes) sound (fine .codes) (record { there = fine .there; from = inr refl; passable = fine .passable }) (shape.source-there (trip .asked) (trip .none))
+        (inl (refl, shape.rooted (trip .asked) (trip .none) .root))
+        (record { own = sym number; begun = sym before; fits = record { multicast = matching .multicast; unmarked = matching .unmarked; matching = matching .matching } }) (matching .errors)
+        (λ i near. subst (λ (k : Mesh Tag). source < many k → lineOf k source i .up ≡ true) found (λ there. trip .up source i there near) (fine .there)) (λ i near. quiet-line m quiet source i)
+
+    -- only the source is at depth 0
+    off-source : (c : ℕ) → c < all trip → (c ≡ source → ⊥) → depth trip c ≡ 0 → route trip c ≡ 0
+    off-source c there other e = go (ℕ-discrete (entered trip c) 7)
+      where
+        go : Dec (entered trip c ≡ 7) → route trip c ≡ 0
+        go (yes out) = shape.rooted (trip .asked) (trip .none) .outside c there out
+        go (no in-tree) =
+            absurd (⊎-elim (λ (at : c ≡ trip .asked .source). other at) (λ (low : entered trip c < 6). omega (arith, shape.hangs (trip .asked) (trip .none) c there low .deeper)) (shape.within-tree (trip .asked) (trip .none) c there in-tree))
+
+    top : depth trip source ≡ 0
+    top = shape.rooted (trip .asked) (trip .none) .top
+
+    full-first : Full trip 0 (next .mesh)
+    full-first c i there near = go (ℕ-discrete c source)
+      where
+        go : Dec (c ≡ source) → Holds trip (leaves trip 0 c i) (lineOf (next .mesh) c i .held)
+        go (yes e) =
+            subst (λ (c : ℕ). Holds trip (leaves trip 0 c i) (lineOf (next .mesh) c i .held)) (sym e)
+            (subst (λ (b : Bool). Holds trip b (lineOf (next .mesh) source i .held)) (sym (all-leave trip 0 source i top)) (passes .here i near))
+        go (no other) =
+            subst (λ (b : Bool). Holds trip b (lineOf (next .mesh) c i .held)) (sym (none-leaves trip 0 c i (off-source c there other))) (passes .elsewhere c i other ∙ quiet-line m quiet c i)
+
+    no-passes : EachPass (λ p. OfOthers (trip .number) (p .arrival .flight)) (s .events)
+    no-passes = each-pass-weaken _ (λ p. OfOthers (trip .number) (p .arrival .flight)) (λ p b e. omega (arith, b .0, number)) (s .events) (belonging w h f monitor o xs .1)
+
+    told-first : (c q : ℕ) → c < all trip → sumOf (handed (trip .number) c q) (next .events) ≡ handedDown trip 0 c q
+    unfolding sumOf passages
+    told-first c q there = go (ℕ-discrete c source)
+      where
+        p : Passage
+        p = passage t (s .rounds) m (accepts.arrivalNow s source bytes)
+
+        sum : (c : ℕ) → sumOf (handed (trip .number) c q) (s .events ++ passed (passage t (s .rounds) m (accepts.arrivalNow s source bytes)) ∷ []) ≡ handed (trip .number) c q (passage t (s .rounds) m (accepts.arrivalNow s source bytes))
+        sum c = sum-append (handed (trip .number) c q) (s .events) (passed (passage t (s .rounds) m (accepts.arrivalNow s source bytes)) ∷ []) ∙ omega (arith, none-handed (trip .number) c q (s .events) no-passes)
+
+        off : (c : ℕ) → c < all trip → (c ≡ source → ⊥) → Dec (depth trip c ≡ 0) → handedDown trip 0 c q ≡ 0
+        off c there other (yes e) = nobody trip 0 c q (off-source c there other e)
+        off c there other (no e) = ap (λ (b : Bool). cond (b && has (route trip c / 64) q) 1 0) (lt-leb (depth trip c) 0 (omega arith))
+
+        go : Dec (c ≡ source) → sumOf (handed (trip .number) c q) (next .events) ≡ handedDown trip 0 c q
+        go (yes e) =
+            subst (λ (c : ℕ). sumOf (handed (trip .number) c q) (next .events) ≡ handedDown trip 0 c q) (sym e)
+            (sum source ∙ passes .hands q ∙ sym (ap (λ (b : Bool). cond (b && has (route trip source / 64) q) 1 0) (le-leb (depth trip source) 0 (omega (arith, top)))))
+        go (no other) = sum c ∙ passes .none-else c q other ∙ sym (off c there other (ℕ-discrete (depth trip c) 0))
+
+    first-pass : Since trip f next
+    unfolding EachPass passages
+    first-pass =
+        let none : 0 ≡ s .rounds - trip .before = omega (arith, before) in
+        record {
+          sound = sound-injected t turned m source (accepts.arrivalNow s source bytes .flight) sound (fine .there) (fine .passable) (fine .codes);
+          ageing = ageing-kept .injects f s source bytes t sound fine (ages-always w h f monitor o xs);
+          alike = alike-pass t turned (setOut m) (accepts.arrivalNow s source bytes) (subst (λ (k : Mesh Tag). Rattle.promises.proofs.LinkStates.Alike k m) (sym found) (alike-itself m sound));
+          begun = omega (arith, before);
+          full = subst (λ (j : ℕ). Full trip j (next .mesh)) none full-first;
+          told = subst (λ (j : ℕ). (c q : ℕ) → c < all trip → sumOf (handed (trip .number) c q) (next .events) ≡ handedDown trip j c q) none told-first;
+          faultless = each-append (OwnFaultless trip) (s .events) _ (each-pass-weaken _ (OwnFaultless trip) (λ p other own. absurd (other own)) (s .events) no-passes) ((λ own. passes .faultless), tt);
+        }
+
+pub grown-tree : GrownTree
+grown-tree w h f monitor o xs a bytes t room cs none wide high quiet up accepted only matching deep keeps enough =
+    let s = sequence w h f monitor xs in
+    let c : Call = injecting a s f bytes t room in
+    let x = accepts.arrivalNow s (a .source) bytes .flight in
+    let trip : Trip = record { asked = a; none = none; mesh = s .mesh; wide = wide; high = high; up = up; number = length (s .given); before = s .rounds } in
+    let fine = accepts.inject-accepts (s .mesh) (a .source) bytes t room (accepts.unless-accepts _ _ (s .mesh) (injected t turned (s .mesh) (a .source) x) accepted) in
+    let first : accepts.afterInjection s (a .source) bytes t ≡ after s c = sym (after-accepted s c (eq-eqb _ 0 accepted) ∙ accepts.inject-leaves s (a .source) bytes t room accepted) in
+    let since : Since trip f (after s c) = subst (Since trip f) first (first-pass w h f monitor o xs trip refl refl refl quiet bytes t only matching fine) in
+    delivers trip f deep (foldl after (after s c) cs) enough (after-calls trip f deep cs (after s c) keeps (since .sound) since)
