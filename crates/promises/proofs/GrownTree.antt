@@ -1,18 +1,17 @@
 -- A packet that goes by a grown tree, over the mesh's calls: its injection is its pass at the source, in a mesh with nothing in flight, and then each round brings it one deeper.
-use Prim.Native.Nat.{ℕ, zero, suc, _+_, _-_, _*_, _/_, _≤_, _<_}
+use Prim.Native.Nat.{ℕ, _+_, _-_, _/_, _<_}
 use mathlib.Core.Path.{_≡_, refl, sym, ap, _∙_, subst}
 use mathlib.Core.Bool.{Bool, true, cond, _&&_}
 use mathlib.Core.List.{List, [], _∷_, _++_, foldl}
-use mathlib.Core.Logic.{inl, inr, ⊎-elim}
+use mathlib.Core.Logic.{inl, inr}
 use native.Mathlib.Decide.{ℕ-discrete}
-use native.Mathlib.Nat.{le-refl}
 use native.Mathlib.Omega.{arith}
-use lib.Dec.{eqb, leb}
-use lib.ListN.{length, getD}
+use lib.Dec.{eqb}
+use lib.ListN.{length}
 use borrow.Author.Tests.{eq-eqb, ne-eqb, le-leb, lt-leb}
 use Rattle.packet.specs.Bytes.{packetAt}
 use Rattle.steps.specs.Links.{has, processorsOf}
-use Rattle.lists.specs.Lists.{All, total}
+use Rattle.lists.specs.Lists.{total}
 use Rattle.lists.proofs.Alls.{all-or}
 use Rattle.links.specs.Line.{Flight, Line, idle}
 use Rattle.mesh.specs.Mesh.{Chip, Mesh, fresh}
@@ -22,10 +21,10 @@ use Rattle.mesh.specs.Weights.{onLine, onChip, inFlight}
 use Rattle.mesh.specs.Asked.{Call}
 use Rattle.mesh.specs.Sound.{SoundMesh}
 use Rattle.mesh.proofs.SoundSteps.{sound-injected}
-use Rattle.promises.specs.History.{Tag, Passage, Event, passed, emptied, State, Opens, turned, passages, after}
+use Rattle.promises.specs.History.{Tag, Event, passed, emptied, State, Opens, turned, passages, after}
 use Rattle.promises.specs.Sequence.{Step, sequence}
 use Rattle.promises.specs.Told.{EachPass, sumOf}
-use Rattle.promises.specs.GrownTree.{Asked, Only, Matching, handed, injecting, GrownTree}
+use Rattle.promises.specs.GrownTree.{Only, Matching, handed, injecting, GrownTree}
 use Rattle.promises.proofs.Told.{sum-append, each-append, each-pass-weaken}
 use Rattle.promises.proofs.Accepts as accepts
 use Rattle.promises.proofs.Sequences.{after-accepted}
@@ -33,11 +32,11 @@ use Rattle.promises.proofs.Histories.{sound-always}
 use Rattle.promises.proofs.Ages.{ageing-kept, ages-always}
 use Rattle.promises.proofs.Belongs.{belonging}
 use Rattle.promises.proofs.Runs.{passage}
-use Rattle.promises.proofs.LinkStates.{alike-itself, alike-pass}
+use Rattle.promises.proofs.LinkStates.{Alike, alike-itself, alike-pass}
 use Rattle.promises.proofs.Copies.{OfOthers, all-zero}
 use Rattle.promises.proofs.TreeShape as shape
-use Rattle.promises.proofs.TreeStep.{Trip, Holds, handedAt, Passes, passes-by-tree}
-use Rattle.promises.proofs.TreeArrivals.{all, depth, entered, route, leads, leaves, Full}
+use Rattle.promises.proofs.TreeStep.{Trip, Holds, Passes, passes-by-tree}
+use Rattle.promises.proofs.TreeArrivals.{all, depth, route, leaves, Full}
 use Rattle.promises.proofs.TreeMidway.{OwnFaultless, handedDown, none-leaves, nobody, all-leave}
 use Rattle.promises.proofs.TreeSince.{Since, after-calls, delivers}
 
@@ -91,12 +90,8 @@ module _ (w h f monitor : ℕ) (o : Opens w h f monitor) (xs : List Step) where
 
     -- only the source is at depth 0
     off-source : (c : ℕ) → c < all trip → (c ≡ source → ⊥) → depth trip c ≡ 0 → route trip c ≡ 0
-    off-source c there other e = go (ℕ-discrete (entered trip c) 7)
-      where
-        go : Dec (entered trip c ≡ 7) → route trip c ≡ 0
-        go (yes out) = shape.rooted (trip .asked) (trip .none) .outside c there out
-        go (no in-tree) =
-            absurd (⊎-elim (λ (at : c ≡ trip .asked .source). other at) (λ (low : entered trip c < 6). omega (arith, shape.hangs (trip .asked) (trip .none) c there low .deeper)) (shape.within-tree (trip .asked) (trip .none) c there in-tree))
+    off-source c there other e =
+        shape.no-route (trip .asked) (trip .none) c there other (λ low. omega (arith, shape.hangs (trip .asked) (trip .none) c there low .deeper))
 
     top : depth trip source ≡ 0
     top = shape.rooted (trip .asked) (trip .none) .top
@@ -118,9 +113,6 @@ module _ (w h f monitor : ℕ) (o : Opens w h f monitor) (xs : List Step) where
     unfolding sumOf passages
     told-first c q there = go (ℕ-discrete c source)
       where
-        p : Passage
-        p = passage t (s .rounds) m (accepts.arrivalNow s source bytes)
-
         sum : (c : ℕ) → sumOf (handed (trip .number) c q) (s .events ++ passed (passage t (s .rounds) m (accepts.arrivalNow s source bytes)) ∷ []) ≡ handed (trip .number) c q (passage t (s .rounds) m (accepts.arrivalNow s source bytes))
         sum c = sum-append (handed (trip .number) c q) (s .events) (passed (passage t (s .rounds) m (accepts.arrivalNow s source bytes)) ∷ []) ∙ omega (arith, none-handed (trip .number) c q (s .events) no-passes)
 
@@ -141,7 +133,7 @@ module _ (w h f monitor : ℕ) (o : Opens w h f monitor) (xs : List Step) where
         record {
           sound = sound-injected t turned m source (accepts.arrivalNow s source bytes .flight) sound (fine .there) (fine .passable) (fine .codes);
           ageing = ageing-kept .injects f s source bytes t sound fine (ages-always w h f monitor o xs);
-          alike = alike-pass t turned (setOut m) (accepts.arrivalNow s source bytes) (subst (λ (k : Mesh Tag). Rattle.promises.proofs.LinkStates.Alike k m) (sym found) (alike-itself m sound));
+          alike = alike-pass t turned (setOut m) (accepts.arrivalNow s source bytes) (subst (λ (k : Mesh Tag). Alike k m) (sym found) (alike-itself m sound));
           begun = omega (arith, before);
           full = subst (λ (j : ℕ). Full trip j (next .mesh)) none full-first;
           told = subst (λ (j : ℕ). (c q : ℕ) → c < all trip → sumOf (handed (trip .number) c q) (next .events) ≡ handedDown trip j c q) none told-first;

@@ -1,6 +1,6 @@
 -- What arrives in a round by a grown tree: where each link of the chips at one depth holds one copy and no other link does, each chip one deeper gets one copy, by the link opposite to the one that it was entered by, and no other
 -- chip gets any. It arrives without error, while the tree is at most F links deep.
-use Prim.Native.Nat.{ℕ, zero, suc, _+_, _-_, _*_, _/_, _<_}
+use Prim.Native.Nat.{ℕ, zero, suc, _+_, _-_, _/_, _<_}
 use mathlib.Core.Path.{_≡_, refl, sym, ap, _∙_, subst}
 use mathlib.Core.Bool.{Bool, true, false, cond, not, _&&_, and-eq-true-iff}
 use mathlib.Core.List.{List, [], _∷_, _++_, map}

@@ -1,16 +1,14 @@
 -- In the midst of a round by a grown tree: the chips below one are done, the others not yet. A chip that gets nothing is done as it is, and one that gets its copy is done by the pass.
-use Prim.Native.Nat.{ℕ, suc, _+_, _*_, _/_, _≤_, _<_}
-use mathlib.Core.Path.{_≡_, refl, sym, ap, _∙_, subst}
-use mathlib.Core.Bool.{Bool, true, false, cond, _&&_, and-true, and-false, and-eq-true-iff}
+use Prim.Native.Nat.{ℕ, suc, _+_, _/_, _≤_, _<_}
+use mathlib.Core.Path.{_≡_, sym, ap, _∙_, subst}
+use mathlib.Core.Bool.{Bool, false, cond, _&&_, and-true, and-false, and-eq-true-iff}
 use mathlib.Core.List.{List, [], _∷_, _++_}
-use mathlib.Core.Logic.{⊎-elim}
 use native.Mathlib.Decide.{ℕ-discrete, decLt}
 use native.Mathlib.Omega.{arith}
 use lib.Dec.{eqb, leb}
 use borrow.Author.Tests.{eq-eqb, eqb-true, le-leb, lt-leb}
 use Rattle.steps.specs.Links.{has}
 use Rattle.steps.proofs.Sets.{has-none}
-use Rattle.links.specs.Line.{Flight}
 use Rattle.mesh.specs.Mesh.{Mesh}
 use Rattle.mesh.specs.Calls.{lineOf}
 use Rattle.flood.proofs.Levels.{apart}
@@ -20,7 +18,7 @@ use Rattle.promises.specs.GrownTree.{handed}
 use Rattle.promises.proofs.Told.{sum-append, each-append}
 use Rattle.promises.proofs.TreeShape as shape
 use Rattle.promises.proofs.TreeStep.{Trip, Holds, handedAt, Faultless, Passes}
-use Rattle.promises.proofs.TreeArrivals.{all, depth, entered, route, leads, leaves, Due}
+use Rattle.promises.proofs.TreeArrivals.{all, depth, route, leads, leaves, Due}
 
 module _ (w : Trip) where
   abbrev pub OwnFaultless : Passage → Type 0
@@ -59,12 +57,8 @@ module _ (w : Trip) where
 
     module _ (idle : Due w j k → ⊥) where
       no-route : depth w k ≡ suc j → route w k ≡ 0
-      no-route e = go (ℕ-discrete (entered w k) 7)
-        where
-          go : Dec (entered w k ≡ 7) → route w k ≡ 0
-          go (yes out) = shape.rooted (w .asked) (w .none) .outside k there out
-          go (no in-tree) =
-              absurd (⊎-elim (λ (s : k ≡ w .asked .source). omega (arith, ap (depth w) s, shape.rooted (w .asked) (w .none) .top)) (λ (h : entered w k < 6). idle (h, e)) (shape.within-tree (w .asked) (w .none) k there in-tree))
+      no-route e =
+          shape.no-route (w .asked) (w .none) k there (λ s. omega (arith, ap (depth w) s, shape.rooted (w .asked) (w .none) .top)) (λ h. idle (h, e))
 
       same-handed : (q : ℕ) → handedDown j k q ≡ handedDown (suc j) k q
       same-handed q = go (ℕ-discrete (depth w k) (suc j)) (decLt j (depth w k))

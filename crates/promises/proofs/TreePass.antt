@@ -1,19 +1,17 @@
 -- One pass by a grown tree: where all six links of a chip are free, a matching packet without error and without a mark is sent by each link of the chip's route and handed to its processors, and nothing else is done with it.
-use Prim.Native.Nat.{ℕ, zero, suc, _+_, _*_, _/_, _%_, _^_, _<_}
+use Prim.Native.Nat.{ℕ, zero, suc, _+_, _/_, _%_, _^_, _<_}
 use mathlib.Core.Path.{_≡_, refl, sym, ap, _∙_, subst}
 use mathlib.Core.Bool.{Bool, true, false, cond, not, _&&_, _||_, and-false}
-use mathlib.Core.List.{List, [], _∷_}
+use mathlib.Core.List.{[], _∷_}
 use mathlib.Core.Logic.{_⊎_, inl, inr}
 use native.Mathlib.Nat.{mod-lt}
 use native.Mathlib.Omega.{arith}
-use lib.Dec.{eqb, ltb, leb, lit<}
-use lib.ListN.{length}
-use borrow.Author.Tests.{eq-eqb, ne-eqb, eqb-true, lt-ltb, not-false}
+use lib.Dec.{eqb, lit<}
+use borrow.Author.Tests.{ne-eqb, eqb-true, lt-ltb, not-false}
 use Rattle.packet.specs.declared.Packet.{Packet}
-use Rattle.packet.specs.Control.{kindOf, markOf, stampOf}
+use Rattle.packet.specs.Control.{markOf}
 use Rattle.packet.specs.Types.{isMc, isMarked}
 use Rattle.packet.proofs.Types.{mc-marked}
-use Rattle.packet.proofs.Rewrite.{FieldSet}
 use Rattle.tables.specs.Rows.{rowsOf, firstMatch, routeFor, matches}
 use Rattle.tables.specs.Tables.{ChipTables}
 use Rattle.steps.specs.declared.Outcome.{Outcome}
@@ -28,6 +26,7 @@ use Rattle.steps.proofs.Sets.{has-none, has-set}
 use Rattle.steps.proofs.Stamping.{outcome-stamped}
 use Rattle.steps.proofs.SentPackets.{sent-marked}
 use Rattle.links.specs.Across.{opposite}
+use Rattle.flood.proofs.Levels.{apart}
 use Rattle.tree.specs.Rows.{needsRow}
 
 -- what a pass does with a packet by a route
@@ -129,7 +128,7 @@ pub record Fits (key mask : ℕ) (p : Packet) : Type 0 where
 straight : (entered route source : ℕ) → ComesBy entered source → needsRow entered route ≡ false → (eqb source 7 ≡ false) × (2 ^ link (source + 3) ≡ route)
 straight entered route source (inl x) e =
     let z : _≡_ {A = Bool} true false = ap (λ (k : ℕ). needsRow k route) (sym (x .1)) ∙ e in
-    absurd (Rattle.flood.proofs.Levels.apart z)
+    absurd (apart z)
 straight entered route source (inr x) e =
     let same : route ≡ 2 ^ entered = eqb-true _ _ (not-false _ (ap (λ (b : Bool). cond b (not (eqb route (2 ^ entered))) (eqb entered 6)) (sym (lt-ltb entered 6 (x .0))) ∙ e)) in
     let back : link (source + 3) ≡ entered = omega (arith, x .0, x .1) in

@@ -1,12 +1,12 @@
 -- A round by a grown tree, chip by chip: from one copy on each link of the chips at one depth to one on each link of the chips one deeper.
 use Prim.Native.Nat.{ℕ, zero, suc, _+_, _*_, _/_, _≤_, _<_}
 use mathlib.Core.Path.{_≡_, refl, sym, ap, _∙_, subst}
-use mathlib.Core.Bool.{Bool, true}
+use mathlib.Core.Bool.{true}
 use mathlib.Core.List.{List, [], _∷_, _++_, foldl, append-nil, append-assoc}
 use mathlib.Core.Logic.{inl, inr}
 use native.Mathlib.Decide.{ℕ-discrete, decLt}
 use native.Mathlib.Omega.{arith}
-use lib.ListN.{List·getD-map}
+use lib.ListN.{getD, List·getD-map}
 use Rattle.links.specs.Line.{Line, idle}
 use Rattle.links.specs.Across.{opposite}
 use Rattle.mesh.specs.Mesh.{Chip, Mesh, fresh}
@@ -24,18 +24,15 @@ use Rattle.promises.proofs.Clock.{code}
 use Rattle.promises.proofs.Aged.{Ages}
 use Rattle.promises.proofs.LinkStates.{Alike, alike-pass}
 use Rattle.promises.proofs.TreeShape as shape
-use Rattle.promises.proofs.TreeStep.{Trip, Copy, Passes, passes-by-tree}
+use Rattle.promises.proofs.TreeStep.{Trip, Passes, passes-by-tree}
 use Rattle.promises.proofs.TreeArrivals.{all, depth, entered, Full, Due, ArrivesOne, no-errors, none-arrives, one-arrives, was-each}
 use Rattle.promises.proofs.TreeMidway.{Midway, nothing-comes, copy-comes}
 
 -- after all is set aside no link holds anything
 pub aside-holds : (m : Mesh Tag) (c i : ℕ) → lineOf (setAside m) c i .held ≡ []
 aside-holds m c i =
-    ap (λ (x : Chip Tag). getD-held x) (List·getD-map emptiedChip (m .chips) c fresh)
+    ap (λ (x : Chip Tag). getD (x .lines) i idle .held) (List·getD-map emptiedChip (m .chips) c fresh)
     ∙ ap (λ (l : Line Tag). l .held) (List·getD-map emptied (chipOf m c .lines) i idle)
-  where
-    getD-held : Chip Tag → List (Rattle.links.specs.Line.Flight Tag)
-    getD-held x = lib.ListN.getD (x .lines) i idle .held
 
 -- a chip of the tree's, in a mesh like the one that the injection found
 module _ (w : Trip) (k : Mesh Tag) (alike : Alike (w .mesh) k) where
@@ -96,9 +93,6 @@ module _ (w : Trip) (f : ℕ) (deep : AtMostDeep (w .asked) f) (t : Tables) (onl
 
       here : k < all w
       here = omega arith
-
-      later : List (Arrival Tag)
-      later = arrivingFrom m (suc k) n
 
       nothing : (Due w j k → ⊥) → More → Ended g es (arrivingAt m k ++ arrivingFrom m (suc k) n)
       nothing idle more =

@@ -1,6 +1,6 @@
 -- The rows that a grown tree's tables lend a chip: its own row where it has one, and no other.
 use Prim.Native.Nat.{ℕ, suc, _+_, _-_, _*_, _<_}
-use mathlib.Core.Path.{_≡_, refl, sym, ap, _∙_}
+use mathlib.Core.Path.{_≡_, ap, _∙_}
 use mathlib.Core.Bool.{Bool, true, false, cond}
 use mathlib.Core.List.{List, [], _∷_, _++_}
 use native.Mathlib.Omega.{arith}
@@ -13,7 +13,7 @@ use Rattle.mesh.specs.Steps.{Tables, rowsAt}
 use Rattle.flood.proofs.ChipAfterChip.{at-each}
 use Rattle.tree.specs.Growing.{Grown}
 use Rattle.tree.specs.Rows.{hasRow, routeAt, startOf, rowOf, rowsBelow, startsBelow}
-use Rattle.tree.specs.Call.{treeOf, rowsAfter, startsAfter}
+use Rattle.tree.specs.Call.{treeOf, rowsAfter}
 use Rattle.tree.proofs.RowByRow.{start-more, rows-long}
 use Rattle.promises.specs.GrownTree.{Asked, refusal, tree, rowsWritten, startsWritten, Only}
 

@@ -1,7 +1,7 @@
 -- The shape of a grown tree: what leads into a chip, where a chip of the tree hangs, that every chip of it is reached by links along it, and so how deep it can be.
-use Prim.Native.Nat.{ℕ, zero, suc, _+_, _*_, _%_, _≤_, _<_}
+use Prim.Native.Nat.{ℕ, zero, suc, _+_, _*_, _≤_, _<_}
 use mathlib.Core.Path.{_≡_, refl, sym, ap, _∙_, subst}
-use mathlib.Core.Bool.{Bool, true, false, _&&_, and-true, and-eq-true-iff}
+use mathlib.Core.Bool.{Bool, true, false, and-true, and-eq-true-iff}
 use mathlib.Core.List.{List, [], _∷_, _++_}
 use mathlib.Core.Logic.{_⊎_, inl, inr, ⊎-elim}
 use native.Mathlib.Decide.{ℕ-discrete, decLt}
@@ -10,12 +10,11 @@ use lib.ListN.{length, length-append}
 use Rattle.steps.specs.Links.{has}
 use Rattle.steps.proofs.Sets.{has-none}
 use Rattle.lists.specs.Lists.{All}
-use Rattle.lists.proofs.Alls.{all-nil, all-append}
+use Rattle.lists.proofs.Alls.{all-append}
 use Rattle.links.specs.Across.{across, opposite}
 use Rattle.tables.proofs.Sizes as sizes
 use Rattle.mesh.proofs.SoundArrivals.{across-there, opposite-there}
 use Rattle.flood.proofs.Levels.{apart}
-use Rattle.tree.specs.Growing.{Grown}
 use Rattle.tree.specs.Rows.{enteredAt, routeAt}
 use Rattle.tree.specs.Rooted.{isLink, Rooted}
 use Rattle.tree.specs.Promises.{chipAfter}
@@ -95,6 +94,14 @@ module _ (a : Asked) (none : refusal a ≡ 0) where
       go : Dec (entered c < 6) → (c ≡ a .source) ⊎ (entered c < 6)
       go (yes h) = inr h
       go (no h) = let six : entered c ≡ 6 = omega (arith, rooted .kinds c there, in-tree) in inl (rooted .only-root c there six)
+
+  -- any other chip is outside, and has no route
+  pub no-route : (c : ℕ) → c < all → (c ≡ a .source → ⊥) → (entered c < 6 → ⊥) → route c ≡ 0
+  no-route c there other high = go (ℕ-discrete (entered c) 7)
+    where
+      go : Dec (entered c ≡ 7) → route c ≡ 0
+      go (yes out) = rooted .outside c there out
+      go (no in-tree) = absurd (⊎-elim other high (within-tree c there in-tree))
 
   -- ---- links along the tree
 

@@ -3,29 +3,27 @@
 use Prim.Native.Nat.{ℕ, suc, _+_, _-_, _*_, _/_, _≤_, _<_}
 use mathlib.Core.Path.{_≡_, refl, sym, ap, _∙_, subst}
 use mathlib.Core.Bool.{Bool, true, cond, _&&_, and-eq-true-iff}
-use mathlib.Core.List.{List, [], _∷_, _++_, foldl}
+use mathlib.Core.List.{List, [], _∷_, foldl}
 use native.Mathlib.Decide.{ℕ-discrete}
 use native.Mathlib.Nat.{add-zero}
 use native.Mathlib.Omega.{arith}
-use lib.Dec.{eqb, leb}
+use lib.Dec.{eqb}
 use lib.ListN.{length, getD}
 use borrow.Author.Tests.{eqb-true, le-leb}
 use Rattle.steps.specs.Links.{has}
 use Rattle.steps.proofs.Sets.{has-none}
 use Rattle.lists.specs.Lists.{All}
-use Rattle.links.specs.Line.{Flight, Line, idle}
-use Rattle.mesh.specs.Mesh.{Chip, Mesh, fresh}
-use Rattle.mesh.specs.Steps.{Tables, setOut, setAside, arrivals, passAt}
+use Rattle.links.specs.Line.{Flight, idle}
+use Rattle.mesh.specs.Mesh.{fresh}
+use Rattle.mesh.specs.Steps.{Tables, setOut, setAside, arrivals}
 use Rattle.mesh.specs.Calls.{lineOf}
 use Rattle.mesh.specs.Asked.{Call}
-use Rattle.mesh.specs.Sound.{SoundPacket, SoundLine, SoundChip, SoundMesh}
+use Rattle.mesh.specs.Sound.{SoundMesh}
 use Rattle.mesh.proofs.SoundChanges.{chip-sound, sound-linked, sound-emptied}
 use Rattle.mesh.proofs.SoundSteps.{CodesFor, sound-aside, sound-rounded}
-use Rattle.tree.specs.Growing.{targetsOf}
-use Rattle.tree.specs.Rooted.{processorsOn}
 use Rattle.tree.proofs.ATree.{a-tree}
-use Rattle.promises.specs.History.{Tag, Passage, Event, emptied, State, turned, after}
-use Rattle.promises.specs.Told.{EachFlight, EachPass, sumOf}
+use Rattle.promises.specs.History.{Tag, emptied, State, turned, after}
+use Rattle.promises.specs.Told.{EachPass, sumOf}
 use Rattle.promises.specs.GrownTree.{Only, AtMostDeep, Keeps, handed, Delivers}
 use Rattle.promises.proofs.Told.{sum-append, each-append, each-pass-weaken}
 use Rattle.promises.proofs.Accepts as accepts

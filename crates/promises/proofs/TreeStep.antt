@@ -2,18 +2,17 @@
 -- processors of the route have it.
 use Prim.Native.Nat.{ℕ, _+_, _*_, _/_, _<_}
 use mathlib.Core.Path.{_≡_, refl, sym, ap, _∙_, subst}
-use mathlib.Core.Bool.{Bool, true, false, cond, _&&_, and-false}
+use mathlib.Core.Bool.{Bool, true, false, cond, _&&_}
 use mathlib.Core.List.{List, [], _∷_, _++_}
 use native.Mathlib.Omega.{arith}
-use lib.Dec.{eqb, leb}
+use lib.Dec.{leb}
 use lib.ListN.{length, getD}
 use lib.Seq.{getD-set-same, getD-set-other}
 use borrow.Author.Tests.{eq-eqb, ne-eqb}
-use Rattle.packet.specs.declared.Packet.{Packet}
 use Rattle.steps.specs.declared.Outcome.{Outcome}
 use Rattle.steps.specs.Links.{has, processorsOf}
 use Rattle.steps.specs.Errors.{errorsOf}
-use Rattle.steps.specs.Deciding.{packetOn, legPacket, decided, outcomeOf}
+use Rattle.steps.specs.Deciding.{packetOn, legPacket}
 use Rattle.steps.proofs.Sets.{has-none}
 use Rattle.links.specs.Line.{Flight, Line, idle, isReady, sent, lineAfter}
 use Rattle.mesh.specs.Mesh.{Chip, Mesh, fresh, readyOf}

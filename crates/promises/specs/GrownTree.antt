@@ -15,15 +15,14 @@ use Rattle.steps.specs.Links.{has, processorsOf}
 use Rattle.steps.specs.Errors.{errorsOf}
 use Rattle.lists.specs.Lists.{All}
 use Rattle.links.specs.Across.{across}
-use Rattle.mesh.specs.Mesh.{Mesh}
 use Rattle.mesh.specs.Steps.{Tables}
 use Rattle.mesh.specs.Calls.{many, lineOf}
 use Rattle.mesh.specs.Weights.{inFlight}
 use Rattle.mesh.specs.Asked.{Call, inject, round, setLink, readRegisters, change, look, leftBy}
-use Rattle.tree.specs.Growing.{Target, targetsOf, Grown}
+use Rattle.tree.specs.Growing.{targetsOf, Grown}
 use Rattle.tree.specs.Call.{grownTree, refusalOf, treeOf, rowsAfter, startsAfter}
 use Rattle.tree.specs.Rooted.{isLink, processorsOn}
-use Rattle.promises.specs.History.{Tag, Passage, State, Opens, turned, tagNow, after}
+use Rattle.promises.specs.History.{Passage, State, Opens, turned, tagNow, after}
 use Rattle.promises.specs.Sequence.{Step, sequence}
 use Rattle.promises.specs.Told.{EachFlight, EachPass, sumOf}
 
