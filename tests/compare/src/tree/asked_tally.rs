@@ -36,6 +36,7 @@ const ASKED: Events<Seen> = &[
     ("refusal 19 behind a chip named twice", |seen| {
         seen.is(OFF_MESH) && is_before(seen.twice().first(), seen.off_mesh().first())
     }),
+    ("refusal 19 behind more targets than chips", |seen| seen.off_at(|at, _| at > 144)),
     ("refusal 19 before 21", |seen| seen.is(OFF_MESH) && seen.has_bad_key()),
     ("refusal 19 before 26", |seen| seen.is(OFF_MESH) && (seen.is_short() || seen.has_other_starts())),
     ("refusal 20, a chip named twice", |seen| seen.is(TARGET) && !seen.has_bad_set() && !seen.is_odd()),
@@ -46,6 +47,7 @@ const ASKED: Events<Seen> = &[
     ("refusal 20, the source named twice", |seen| {
         seen.is(TARGET) && seen.whole().iter().filter(|target| target.0 == seen.call.source).count() > 1
     }),
+    ("refusal 20, more targets than chips", |seen| seen.is(TARGET) && seen.targets() > seen.chips() as usize),
     ("refusal 20, an empty set", |seen| seen.is(TARGET) && seen.whole().iter().any(|target| target.1 == 0)),
     ("refusal 20, bit 20", |seen| seen.is(TARGET) && seen.whole().iter().any(|target| target.1 == 1 << 20)),
     ("refusal 20, bit 31", |seen| seen.is(TARGET) && seen.whole().iter().any(|target| target.1 >> 31 == 1)),

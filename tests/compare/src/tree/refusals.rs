@@ -37,23 +37,24 @@ const FAULTS: [fn(&mut Random, &mut TreeCall, &mut Room, usize); 10] = [
 /// A fault, or a word more or fewer in the list.
 pub fn damage(random: &mut Random, call: &mut TreeCall, room: &mut Room) {
     let at = random.below(call.targets.len() as u32 / 2 + 1) as usize;
-    match random.below(FAULTS.len() as u32 + 2) as usize {
-        10 => odd_word(random, call),
-        11 => drop(call.targets.pop()),
-        fault => FAULTS[fault](random, call, room, at),
+    match FAULTS.get(random.below(FAULTS.len() as u32 + 2) as usize) {
+        Some(fault) => fault(random, call, room, at),
+        None if random.one_in(2) => odd_word(random, call),
+        None => drop(call.targets.pop()),
     }
 }
 
 pub fn all(tally: &mut TreeTally, random: &mut Random) {
     for (width, height) in [(1, 1), (1, 4), (3, 1), (2, 2), (4, 3), (12, 12)] {
-        let most = (width * height).min(6);
-        for count in 0..=most {
+        let chips = width * height;
+        for count in (0..chips.min(6)).chain([chips]) {
             for at in 0..count.max(1) {
                 each_fault(tally, random, width, height, count, at as usize);
             }
         }
         key_bits(tally, random, width, height);
         rooms(tally, random, width, height);
+        long_lists(tally, random, width, height);
         every_choice(tally, random, width, height);
     }
 }
@@ -97,6 +98,18 @@ fn rooms(tally: &mut TreeTally, random: &mut Random, width: u32, height: u32) {
             let call = with_key(random, width, height, targets);
             grow(tally, random, &call, Room { rows, starts }, false);
         }
+    }
+}
+
+/// More targets than chips, so that one is named twice; with one more that is off the mesh, or without.
+fn long_lists(tally: &mut TreeTally, random: &mut Random, width: u32, height: u32) {
+    let chips = width * height;
+    for count in [chips + 1, chips + 2, 2 * chips, 1_000] {
+        let targets: Vec<u32> = (0..count).flat_map(|number| [number % chips, 1]).collect();
+        let mut call = with_key(random, width, height, targets);
+        grow(tally, random, &call, Room::default(), false);
+        call.targets.extend([chips, 1]);
+        grow(tally, random, &call, Room::default(), false);
     }
 }
 
