@@ -24,6 +24,7 @@ pub mod FloodedStage
 pub mod FloodedWay
 pub mod Forgets
 pub mod GrownTree
+pub mod GrownTreeExample
 pub mod Histories
 pub mod InFlight
 pub mod Lefts
