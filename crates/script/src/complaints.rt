@@ -42,6 +42,12 @@ pub const END: u32 = 17;
 
 pub const CHIP: u32 = 18;
 
+pub const TO: u32 = 19;
+
+pub const PROCESSOR: u32 = 20;
+
+pub const BEFORE_COMMA: u32 = 21;
+
 // Tells which line is wrong. What is wrong with it follows.
 pub fn begin(line: u64) {
     err(b"line ");
@@ -72,7 +78,7 @@ pub fn err(t: &[u8]) {
 fn tell_wanted(wanted: u32) {
     match wanted {
         STATEMENT => err(
-            b"a statement is wanted: mesh, row, rows, code, route, spike, fixed, p2p, nn, packet, rounds, until quiet, down, up, registers or flood",
+            b"a statement is wanted: mesh, row, rows, tree, code, route, spike, fixed, p2p, nn, packet, rounds, until quiet, down, up, registers or flood",
         ),
         COORDINATE => err(b"a chip's x or y is wanted, a number from 0 to 255"),
         NUMBER => err(b"a number up to 0xffffffff is wanted, decimal or 0x and hexadecimal digits"),
@@ -100,6 +106,11 @@ fn tell_wanted_else(wanted: u32) {
         MESH_MORE => err(b"phase, monitor or the line's end is wanted"),
         NAME => err(b"the name of a file is wanted"),
         CHIP => err(b"a chip's number is wanted, from 0 to 65535"),
+        TO => err(b"to is wanted"),
+        PROCESSOR => err(
+            b"a processor is wanted, p0 to p19 or a run as p3-7, and a comma before the next chip",
+        ),
+        BEFORE_COMMA => err(b"a chip's y or number is wanted, and before the comma its processors"),
         _ => err(b"the line's end is wanted"),
     }
 }
@@ -114,6 +125,9 @@ fn tell_form(w: &[u8]) {
     }
     if same(w, b"rows") {
         err(b": rows X Y NAME");
+    }
+    if same(w, b"tree") {
+        err(b": tree X Y KEY MASK to X Y p1 p2, X Y p3");
     }
     if same(w, b"code") {
         err(b": code X Y DX DY LINK|nowhere|monitor");

@@ -10,4 +10,5 @@ pub mod routes;
 pub mod say;
 pub mod sendings;
 pub mod statements;
+pub mod targets;
 pub mod words;

@@ -43,21 +43,32 @@ pub fn number_at(line: &[u8], at: usize) -> Part {
 // What stands for a chip's x where the chip is named by its number.
 pub const BY_NUMBER: u32 = 65536;
 
-// The first word of a chip, word 1 of the line: its x, or `chip` before its number.
+// The first word of the chip that stands behind the statement's name.
 pub fn x_at(line: &[u8]) -> Part {
-    if same(word(line, 1), b"chip") {
-        there(BY_NUMBER, 1)
+    x_from(line, 1)
+}
+
+// The second word of the chip that stands behind the statement's name.
+pub fn y_at(line: &[u8]) -> Part {
+    y_from(line, 1)
+}
+
+// The first word of a chip: its x, or `chip` before its number.
+pub fn x_from(line: &[u8], from: usize) -> Part {
+    if same(word(line, from), b"chip") {
+        there(BY_NUMBER, from)
     } else {
-        coordinate_at(line, 1)
+        coordinate_at(line, from)
     }
 }
 
-// The second word of a chip: its y, or its number.
-pub fn y_at(line: &[u8]) -> Part {
-    if same(word(line, 1), b"chip") {
-        within(line, 2, wanted::CHIP, 0, 65535)
+// The second word of the chip whose first word stands at one: its y, or its number.
+pub fn y_from(line: &[u8], from: usize) -> Part {
+    let at = wrapping_add_usize(from, 1);
+    if same(word(line, from), b"chip") {
+        within(line, at, wanted::CHIP, 0, 65535)
     } else {
-        coordinate_at(line, 2)
+        coordinate_at(line, at)
     }
 }
 

@@ -53,7 +53,7 @@ fn bits_at(line: &[u8], at: usize) -> Part {
 }
 
 // The processors that p3 or p3-7 names: none where the word names none.
-fn processors(w: &[u8]) -> u32 {
+pub fn processors(w: &[u8]) -> u32 {
     if lower(byte_at(w, 0)) != b'p' {
         return 0;
     }

@@ -41,6 +41,13 @@ pub enum Statement {
         x: u32,
         y: u32,
     },
+    // The rows of a tree from a chip: its targets stand from word 6 of the line on.
+    Tree {
+        x: u32,
+        y: u32,
+        key: u32,
+        mask: u32,
+    },
     Code {
         x: u32,
         y: u32,
@@ -143,6 +150,9 @@ fn other_statement(line: &[u8]) -> Statement {
     if same(w, b"flood") {
         return flood(line);
     }
+    if same(w, b"tree") {
+        return tree(line);
+    }
     Statement::Wrong {
         wanted: wanted::STATEMENT,
         at: 0,
@@ -199,6 +209,28 @@ fn rows(line: &[u8]) -> Statement {
     Statement::Rows {
         x: x.value,
         y: y.value,
+    }
+}
+
+fn tree(line: &[u8]) -> Statement {
+    let x = x_at(line);
+    let y = y_at(line);
+    let key = number_at(line, 3);
+    let mask = number_at(line, 4);
+    let to = if same(word(line, 5), b"to") {
+        there(0, 5)
+    } else {
+        missing(wanted::TO, 5)
+    };
+    let p = first(first(x, y), first(first(key, mask), to));
+    if p.wanted != 0 {
+        return wrong(p);
+    }
+    Statement::Tree {
+        x: x.value,
+        y: y.value,
+        key: key.value,
+        mask: mask.value,
     }
 }
 

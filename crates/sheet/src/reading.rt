@@ -1,4 +1,4 @@
-// FILE's first reading: every line is understood or refused, and the tables are kept.
+// FILE's first reading: every line is understood or refused, and the tables are kept. The rows of its trees are joined to them at a second.
 use super::board::Board;
 use super::board::CHIPS;
 use super::board::CODES;
@@ -17,26 +17,31 @@ use super::boards::Rows;
 use super::boards::TOO_MANY;
 use super::boards::UNREAD;
 use super::boards::read_rows;
+use super::joining::join_trees;
 use super::paths::PATH;
 use super::paths::beside;
 use super::paths::path_in;
 use super::storing::keep_code;
 use super::storing::keep_route;
 use super::storing::keep_row;
+use super::trees::with_tree;
+use super::wrongs::MOST;
+use super::wrongs::Reading;
+use super::wrongs::begin_wrong;
+use super::wrongs::off_mesh;
+use super::wrongs::too_long;
+use super::wrongs::wrong;
+use super::wrongs::wrong_word;
 use libc::STDERR_FILENO;
 use packet::control::is_fixed;
 use packet::control::kind_of;
 use script::cells::between;
 use script::cells::word_at;
-use script::complaints::begin;
-use script::complaints::complain;
 use script::complaints::err;
 use script::lines::LINE;
 use script::lines::LINE_THERE;
-use script::lines::Lines;
 use script::lines::lines_of;
 use script::lines::next_line;
-use script::parts::BY_NUMBER;
 use script::pieces::FAILED;
 use script::pieces::PIECE;
 use script::say;
@@ -44,26 +49,6 @@ use script::statements::Statement;
 use script::statements::read_statement;
 use script::words::before_comment;
 use script::words::word;
-use std::num::wrapping_add_u32;
-use std::num::wrapping_sub_u32;
-
-// No more lines are told to be wrong.
-const MOST: u32 = 10;
-
-pub struct Reading {
-    pub lines: Lines,
-    pub board: Board,
-    // How many lines were wrong, and whether there is more to read.
-    pub wrong: u32,
-    pub going: bool,
-    // Whether rows past a chip's 1,024 are counted and not wrong.
-    pub counting: bool,
-    // Whether there are codes, or P2P packets; whether there are fixed routes, or fixed-route packets.
-    pub p2p: bool,
-    pub fixed: bool,
-    // Whether codes are flooded.
-    pub flood: bool,
-}
 
 // Reads FILE. Where something is wrong with it that is told, and the reading's `wrong` is not 0.
 pub fn read_file(
@@ -108,7 +93,7 @@ fn read_as(
     }
     let r = read_lines(counting, fd, file, rows, counts, codes, fixed, piece, line);
     libc::close(fd);
-    checked(r, file)
+    checked(join_trees(r, file, rows, counts, piece, line), file)
 }
 
 fn read_lines(
@@ -146,6 +131,7 @@ fn begun(counting: bool, fd: i32) -> Reading {
         p2p: false,
         fixed: false,
         flood: false,
+        tree: false,
     }
 }
 
@@ -292,6 +278,7 @@ fn with_table(
             route,
         } => with_row(r, x, y, key, mask, route, rows, counts),
         Statement::Rows { x, y } => with_rows(r, x, y, file, word(line, 3), rows, counts),
+        Statement::Tree { x, y, key, mask } => with_tree(r, x, y, key, mask, line),
         Statement::Code {
             x,
             y,
@@ -426,32 +413,6 @@ fn with_trouble(r: Reading, from: Rows, path: &[u8], row: u32) -> Reading {
     }
 }
 
-// A line that is wrong: its number, and what is wrong with it.
-fn wrong(before: Reading, what: &[u8]) -> Reading {
-    let r = begin_wrong(before);
-    err(what);
-    r
-}
-
-fn begin_wrong(before: Reading) -> Reading {
-    let mut r = before;
-    let lines = r.lines;
-    begin(lines.number);
-    r.wrong = wrapping_add_u32(r.wrong, 1);
-    r.going = r.wrong < MOST;
-    r
-}
-
-fn wrong_word(before: Reading, line: &[u8], wanted: u32, at: usize) -> Reading {
-    let r = begin_wrong(before);
-    complain(line, wanted, at);
-    r
-}
-
-fn too_long(r: Reading) -> Reading {
-    wrong(r, b"longer than 4,096 bytes: a line holds one statement\n")
-}
-
 fn no_file(before: Reading, path: &[u8]) -> Reading {
     let r = begin_wrong(before);
     os::fail(path);
@@ -472,27 +433,4 @@ fn bad_route(before: Reading, from: Rows, row: u32) -> Reading {
     say::number(STDERR_FILENO, from.count);
     err(b" of the file: bits 0 to 5 are links, 6 to 25 processors\n");
     r
-}
-
-fn off_mesh(before: Reading, x: u32, y: u32) -> Reading {
-    let r = begin_wrong(before);
-    let b = r.board;
-    err(b"there is no chip ");
-    if x == BY_NUMBER {
-        say::small(STDERR_FILENO, y);
-        err(b": chips go from 0 to ");
-        say::small(STDERR_FILENO, wrapping_sub_u32(chips(b), 1));
-    } else {
-        say::place(STDERR_FILENO, x, y);
-        tell_sides(b);
-    }
-    err(b"\n");
-    r
-}
-
-fn tell_sides(b: Board) {
-    err(b": x goes from 0 to ");
-    say::small(STDERR_FILENO, wrapping_sub_u32(b.width, 1));
-    err(b", y from 0 to ");
-    say::small(STDERR_FILENO, wrapping_sub_u32(b.height, 1));
 }

@@ -29,6 +29,9 @@ use sheet::board::y_of;
 use sheet::paths::PATH;
 use sheet::paths::path_in;
 use sheet::reading::read_counting;
+use sheet::trees::TREE;
+use sheet::trees::grow;
+use sheet::trees::has_row;
 
 // The most rows of a chip that are made fewer.
 const MOST: u32 = 16384;
@@ -171,7 +174,8 @@ fn print_line(
     p
 }
 
-// A line with a chip's rows is the first such line of its chip, or is left out; any other is printed as it is.
+// A line with a chip's rows is the first such line of its chip, or is left out; a tree becomes a comment, with the rows of its chips
+// below it; any other line is printed as it is.
 fn print_bytes(
     b: Board,
     file: &[u8],
@@ -182,11 +186,66 @@ fn print_bytes(
     fixed: &mut [u32; CHIPS],
 ) {
     let chip = chip_of_rows(b, read_statement(before_comment(line)));
-    if chip == NO_CHIP {
-        say::text(STDOUT_FILENO, line);
-        say::text(STDOUT_FILENO, b"\n");
+    if chip != NO_CHIP {
+        print_once(b, chip, file, done, rows, codes, fixed);
         return;
     }
+    let mut own = [0u32; TREE];
+    let mut starts = [0u32; STARTS];
+    let grown = grow(b, before_comment(line), &mut own, &mut starts);
+    if grown {
+        say::text(STDOUT_FILENO, b"# ");
+    }
+    say::text(STDOUT_FILENO, line);
+    say::text(STDOUT_FILENO, b"\n");
+    if grown {
+        print_tree(b, &starts, file, done, rows, codes, fixed);
+    }
+}
+
+// The rows of all chips that a tree has a row at.
+fn print_tree(
+    b: Board,
+    starts: &[u32; STARTS],
+    file: &[u8],
+    done: &mut [u32; CHIPS],
+    rows: &mut [u32; ROWS],
+    codes: &mut [u8; CODES],
+    fixed: &mut [u32; CHIPS],
+) {
+    let all = chips(b);
+    let mut chip = 0;
+    while chip < all {
+        print_of_tree(b, chip, starts, file, done, rows, codes, fixed);
+        chip += 1;
+    }
+}
+
+fn print_of_tree(
+    b: Board,
+    chip: u32,
+    starts: &[u32; STARTS],
+    file: &[u8],
+    done: &mut [u32; CHIPS],
+    rows: &mut [u32; ROWS],
+    codes: &mut [u8; CODES],
+    fixed: &mut [u32; CHIPS],
+) {
+    if has_row(starts, chip) {
+        print_once(b, chip, file, done, rows, codes, fixed);
+    }
+}
+
+// The rows of a chip, where they are not printed yet.
+fn print_once(
+    b: Board,
+    chip: u32,
+    file: &[u8],
+    done: &mut [u32; CHIPS],
+    rows: &mut [u32; ROWS],
+    codes: &mut [u8; CODES],
+    fixed: &mut [u32; CHIPS],
+) {
     if word_at(done, chip as usize) == 0 {
         put_word(done, chip as usize, 1);
         print_chip(b, chip, file, rows, codes, fixed);
