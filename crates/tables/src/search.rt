@@ -97,7 +97,7 @@ fn first_from(rows: &[u32], key: u32, from: usize) -> usize
     }
 }
 
-fn matches_at(rows: &[u32], i: usize, key: u32) -> bool
+pub fn matches_at(rows: &[u32], i: usize, key: u32) -> bool
     requires { ⌜ i * 3 + 2 < length (now rows) ⌝ }
     ensures { λ r. ⌜ r ≡ matches key (getD (now (rows .entry)) (i * 3) 0) (getD (now (rows .entry)) (i * 3 + 1) 0) ⌝ }
 {

@@ -1,0 +1,4 @@
+pub mod Groups
+pub mod Pays
+pub mod Placing
+pub mod Promises

@@ -1,0 +1,117 @@
+// Groups built afresh in lent room: rows counted, starts written, row numbers filled in.
+use super::top::fixes_top;
+use super::top::top_of;
+ghost use mathlib.Core.Path.{_≡_};
+ghost use mathlib.Core.Bool.{cond};
+ghost use lib.ListN.{length, getD, set};
+ghost use Prim.Native.Nat.{ℕ, suc, _+_, _*_, _/_, _≤_, _<_};
+ghost use Rattle.tables.specs.Rows.{rowsOf, blankEntry};
+ghost use Rattle.groups.specs.Groups.{inGroup, groupOf, groupsOf, roomAfter, roomFor};
+ghost use Rattle.groups.specs.Placing.{sofar, Placed, Behind};
+
+// How many groups there are, one for each top byte, and where the row numbers begin: behind the start of each group and the end of the last.
+pub const GROUPS: usize = 256;
+pub const NUMBERS: usize = 257;
+
+// The groups of a chip's rows. What the room held before counts for nothing; the words behind the groups stay as they were.
+pub fn build(rows: &[u32], room: &mut [u32])
+    requires { ⌜ (length (now rows) / 3 ≤ 1024) × (roomFor (length (now rows) / 3) ≤ length (now room)) ⌝ }
+    ensures { λ _. ⌜ now (room .exit) ≡ roomAfter (rowsOf (now (rows .entry))) (now (room .entry)) ⌝ }
+{
+    write_starts(rows, room);
+    fill(rows, room);
+}
+
+// Where each group begins, a word further on than it belongs: filling moves it on to where the next one begins.
+fn write_starts(rows: &[u32], room: &mut [u32])
+    requires { ⌜ (length (now rows) / 3 ≤ 1024) × (roomFor (length (now rows) / 3) ≤ length (now room)) ⌝ }
+    ensures { λ _. ⌜ Placed (rowsOf (now (rows .entry))) (λ _. 0) (now (room .exit)) ⌝ }
+    ensures { λ _. ⌜ Behind (rowsOf (now (rows .entry))) (now (room .entry)) (now (room .exit)) ⌝ }
+{
+    let mut counts = [0u32; 256];
+    let others = count(rows, &mut counts);
+    room[0] = 0;
+    let mut start = 0;
+    let mut g = 0;
+    while g < GROUPS {
+        room[g + 1] = start;
+        start = start + counts[g] + others;
+        g += 1;
+    }
+}
+
+// How many rows fix each top byte, and as the answer how many fix none.
+fn count(rows: &[u32], counts: &mut [u32; 256]) -> u32
+    requires { ⌜ (length (now rows) / 3 ≤ 1024) × ((g : ℕ) → g < 256 → getD (now counts) g 0 ≡ 0) ⌝ }
+    ensures { λ r. ⌜ ((g : ℕ) → g < 256 → getD (now (counts .exit)) g 0 + r ≡ length (groupOf (rowsOf (now (rows .entry))) g)) ⌝ }
+{
+    let n = rows.len() / 3;
+    let mut others = 0;
+    let mut i = 0;
+    while i < n {
+        others = count_row(rows, i, counts, others);
+        i += 1;
+    }
+    others
+}
+
+// One row counted: those that fix none are `others` so far.
+fn count_row(rows: &[u32], i: usize, counts: &mut [u32; 256], others: u32) -> u32
+    requires { ⌜ (i * 3 + 2 < length (now rows)) × ((g : ℕ) → g < 256 → getD (now counts) g 0 + others < 4294967295) ⌝ }
+    ensures { λ r. ⌜ ((g : ℕ) → g < 256 → getD (now (counts .exit)) g 0 + r ≡ cond (inGroup g (getD (rowsOf (now (rows .entry))) i blankEntry)) (suc (getD (now (counts .entry)) g 0 + others)) (getD (now (counts .entry)) g 0 + others)) ⌝ }
+{
+    if fixes_top(rows, i) {
+        let g = top_of(rows[i * 3]);
+        counts[g] = counts[g] + 1;
+        return others;
+    }
+    others + 1
+}
+
+// Every row's number into the groups that it is in.
+fn fill(rows: &[u32], room: &mut [u32])
+    requires { ⌜ (length (now rows) / 3 ≤ 1024) × ((roomFor (length (now rows) / 3) ≤ length (now room)) × Placed (rowsOf (now rows)) (λ _. 0) (now room)) ⌝ }
+    ensures { λ _. ⌜ Placed (rowsOf (now (rows .entry))) (λ g. length (groupOf (rowsOf (now (rows .entry))) g)) (now (room .exit)) ⌝ }
+    ensures { λ _. ⌜ Behind (rowsOf (now (rows .entry))) (now (room .entry)) (now (room .exit)) ⌝ }
+{
+    let n = rows.len() / 3;
+    let mut i = 0;
+    while i < n {
+        place(rows, room, i);
+        i += 1;
+    }
+}
+
+// Row i into its group, or into every group where it fixes no top byte.
+fn place(rows: &[u32], room: &mut [u32], i: usize)
+    requires { ⌜ (length (now rows) / 3 ≤ 1024) × ((roomFor (length (now rows) / 3) ≤ length (now room)) × ((i < length (now rows) / 3) × Placed (rowsOf (now rows)) (sofar (rowsOf (now rows)) i) (now room))) ⌝ }
+    ensures { λ _. ⌜ Placed (rowsOf (now (rows .entry))) (sofar (rowsOf (now (rows .entry))) (i + 1)) (now (room .exit)) ⌝ }
+    ensures { λ _. ⌜ Behind (rowsOf (now (rows .entry))) (now (room .entry)) (now (room .exit)) ⌝ }
+{
+    let number = i as u32;
+    if fixes_top(rows, i) {
+        put(room, top_of(rows[i * 3]), number);
+        return;
+    }
+    let mut g = 0;
+    while g < GROUPS {
+        put(room, g, number);
+        g += 1;
+    }
+}
+
+// A row's number at the end of group g so far.
+fn put(room: &mut [u32], g: usize, number: u32)
+    requires { ⌜ (g + 1 < length (now room)) × ((257 + getD (now room) (g + 1) 0 < length (now room)) × (getD (now room) (g + 1) 0 < 4294967295)) ⌝ }
+    ensures { λ _. ⌜ now (room .exit) ≡ set (set (now (room .entry)) (257 + getD (now (room .entry)) (g + 1) 0) number) (g + 1) (getD (now (room .entry)) (g + 1) 0 + 1) ⌝ }
+{
+    let at = room[g + 1];
+    room[NUMBERS + wide(at)] = number;
+    room[g + 1] = at + 1;
+}
+
+fn wide(at: u32) -> usize
+    ensures { λ r. ⌜ r ≡ at ⌝ }
+{
+    at as usize
+}

@@ -1,0 +1,42 @@
+// Whether groups pay.
+use super::top::fixes_top;
+ghost use mathlib.Core.Path.{_≡_};
+ghost use Rattle.tables.specs.Rows.{rowsOf};
+ghost use Rattle.groups.specs.Pays.{unfixed, pays};
+
+// Rows that are in every group are counted only where packets and rows are enough.
+pub fn pays(packets: usize, rows: &[u32]) -> bool
+    ensures { λ r. ⌜ r ≡ pays packets (rowsOf (now (rows .entry))) ⌝ }
+{
+    let n = rows.len() / 3;
+    if n < 32 {
+        return false;
+    }
+    if n > 1024 {
+        return false;
+    }
+    if packets <= 8 {
+        return false;
+    }
+    let all = count_unfixed(rows);
+    if all == n {
+        return false;
+    }
+    (n * 8 + all * 512 + 1024) / (n - all) < packets
+}
+
+// How many rows fix no top byte.
+fn count_unfixed(rows: &[u32]) -> usize
+    ensures { λ r. ⌜ r ≡ unfixed (rowsOf (now (rows .entry))) ⌝ }
+{
+    let n = rows.len() / 3;
+    let mut all = 0;
+    let mut i = 0;
+    while i < n {
+        if !fixes_top(rows, i) {
+            all += 1;
+        }
+        i += 1;
+    }
+    all
+}
