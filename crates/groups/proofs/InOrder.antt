@@ -6,9 +6,10 @@ use mathlib.Core.List.{List, [], _∷_, _++_}
 use native.Mathlib.Omega.{arith}
 use native.Mathlib.Numerals.{add-one}
 use lib.ListN.{length, getD, take, drop, length-append}
-use lib.Seq.{take-suc, split-at, length-take-le, getD-at}
+use lib.Seq.{take-suc, take-length, split-at, length-take-le, getD-at}
+use borrow.Author.Tests.{eq-eqb, ne-eqb}
 use Rattle.tables.specs.Rows.{Entry, blankEntry}
-use Rattle.groups.specs.Groups.{inGroup, groupFrom, groupOf}
+use Rattle.groups.specs.Groups.{topOf, fixesTop, inGroup, groupFrom, groupOf}
 use Rattle.groups.specs.Placing.{sofar}
 
 from-append : (g i : ℕ) (a b : List Entry) → groupFrom g i (a ++ b) ≡ groupFrom g i a ++ groupFrom g (i + length a) b
@@ -57,7 +58,7 @@ module _ (rows : List Entry) (g : ℕ) where
     front = length-take-le i rows (omega arith)
 
     -- row i is in the group, or not
-    pub sofar-next : sofar rows (i + 1) g ≡ cond (inGroup g (getD rows i blankEntry)) (suc (sofar rows i g)) (sofar rows i g)
+    sofar-next : sofar rows (i + 1) g ≡ cond (inGroup g (getD rows i blankEntry)) (suc (sofar rows i g)) (sofar rows i g)
     unfolding groupFrom
     sofar-next =
         ap (λ (l : List Entry). length (groupOf l g)) (ap (λ (k : ℕ). take k rows) (add-one i) ∙ take-suc rows i blankEntry h)
@@ -82,6 +83,27 @@ module _ (rows : List Entry) (g : ℕ) where
         ∙ simp e in
         (omega (arith, ap length whole, length-append (groupOf (take i rows) g) (i ∷ rest)),
         ap (λ (l : List ℕ). getD l (sofar rows i g) 0) whole ∙ getD-at (groupOf (take i rows) g) i rest 0 (sofar rows i g) refl)
+
+    -- it fixes the top byte of this group, or of another, or none
+    pub fixed-here : fixesTop (getD rows i blankEntry) ≡ true → topOf (getD rows i blankEntry .key) ≡ g → inGroup g (getD rows i blankEntry) ≡ true
+    fixed-here f e = simp (f, eq-eqb (topOf (getD rows i blankEntry .key)) g e)
+
+    pub sofar-else : fixesTop (getD rows i blankEntry) ≡ true → (topOf (getD rows i blankEntry .key) ≡ g → ⊥) → sofar rows (i + 1) g ≡ sofar rows i g
+    sofar-else f e = sofar-next ∙ simp (f, ne-eqb (topOf (getD rows i blankEntry .key)) g e)
+
+    pub free-here : fixesTop (getD rows i blankEntry) ≡ false → inGroup g (getD rows i blankEntry) ≡ true
+    free-here f = simp f
+
+    pub sofar-here : inGroup g (getD rows i blankEntry) ≡ true → sofar rows (i + 1) g ≡ suc (sofar rows i g)
+    sofar-here e = sofar-next ∙ simp e
+
+-- before the first row and behind the last
+pub sofar-none : (rows : List Entry) (g : ℕ) → sofar rows 0 g ≡ 0
+unfolding groupFrom
+sofar-none rows g = refl
+
+pub sofar-all : (rows : List Entry) (g : ℕ) → sofar rows (length rows) g ≡ length (groupOf rows g)
+sofar-all rows g = ap (λ (l : List Entry). length (groupOf l g)) (take-length rows)
 
 -- as many as there are rows at most
 pub sofar-most : (rows : List Entry) (i g : ℕ) → i ≤ length rows → sofar rows i g ≤ i

@@ -2,7 +2,10 @@
 use Prim.Native.Nat.{ℕ, suc, _+_, _≤_, _<_}
 use mathlib.Core.Path.{_≡_, refl, sym, ap, _∙_, subst}
 use mathlib.Core.Logic.{_⊎_, inl, inr, ⊎-elim}
+use mathlib.Core.Bool.{cond}
 use mathlib.Core.List.{List}
+use borrow.Author.Tests.{lt-ltb, le-ltb}
+use lib.Dec.{ltb}
 use native.Mathlib.Omega.{arith}
 use native.Mathlib.Nat.{le-antisymm}
 use lib.ListN.{length, getD, set, length-set}
@@ -14,11 +17,36 @@ use Rattle.groups.specs.Placing.{Placed, Behind}
 use Rattle.groups.proofs.Starts.{start-apart, groups-long}
 
 -- of one number, and of all others
-one-and-others : (P : ℕ → Type 0) (g : ℕ) → P g → ((h : ℕ) → (h ≡ g → ⊥) → P h) → (h : ℕ) → P h
+pub one-and-others : (P : ℕ → Type 0) (g : ℕ) → P g → ((h : ℕ) → (h ≡ g → ⊥) → P h) → (h : ℕ) → P h
 one-and-others P g here other h =
     ⊎-elim (λ (l : h < g). other h (λ e. omega arith))
     (λ (l : g ≤ h). ⊎-elim (λ (m : g < h). other h (λ e. omega arith)) (λ (m : h ≤ g). subst P (le-antisymm l m) here) (lt-or-ge g h))
     (lt-or-ge h g)
+
+-- one number more in each group before the g-th
+abbrev pub partly : (ℕ → ℕ) → ℕ → ℕ → ℕ
+partly many g h = cond (ltb h g) (suc (many h)) (many h)
+
+module _ (many : ℕ → ℕ) where
+  pub partly-none : (h : ℕ) → partly many 0 h ≡ many h
+  partly-none h = simp (le-ltb h 0 (omega arith))
+
+  pub partly-all : (h : ℕ) → h < 256 → partly many 256 h ≡ suc (many h)
+  partly-all h l = simp (lt-ltb h 256 l)
+
+  pub partly-before : (g : ℕ) → partly many g g ≡ many g
+  partly-before g = simp (le-ltb g g (omega arith))
+
+  pub partly-here : (g : ℕ) → partly many (g + 1) g ≡ suc (partly many g g)
+  partly-here g = simp (lt-ltb g (g + 1) (omega arith), le-ltb g g (omega arith))
+
+  pub partly-else : (g h : ℕ) → (h ≡ g → ⊥) → partly many (g + 1) h ≡ partly many g h
+  partly-else g h n =
+      ⊎-elim (λ (l : h < g). simp (lt-ltb h (g + 1) (omega arith), lt-ltb h g l))
+      (λ (l : g ≤ h).
+      let m : g < h = ⊎-elim (λ (d : g < h). d) (λ (d : h ≤ g). absurd (n (le-antisymm d l))) (lt-or-ge g h) in
+      simp (le-ltb h (g + 1) (omega arith), le-ltb h g l))
+      (lt-or-ge h g)
 
 -- the count may be said in other words
 pub said-so : (rows : List Entry) (many many′ : ℕ → ℕ) (room : List ℕ) → ((g : ℕ) → g < 256 → many′ g ≡ many g) → Placed rows many room → Placed rows many′ room

@@ -10,6 +10,11 @@ use Rattle.groups.specs.Groups.{groupOf, startOf, groupsOf}
 abbrev pub sofar : List Entry → ℕ → ℕ → ℕ
 sofar rows i g = length (groupOf (take i rows) g)
 
+-- The first i rows are counted: how many of them fix each top byte, and how many fix none.
+pub record Counted (rows : List Entry) (i : ℕ) (counts : List ℕ) (others : ℕ) : Type 0 where
+  pub all : length counts ≡ 256
+  pub each : (g : ℕ) → g < 256 → getD counts g 0 + others ≡ sofar rows i g
+
 -- The first `many g` row numbers of each group g stand where they belong, and the word behind a group's start says where its next one goes: in the end that is where the next group begins.
 pub record Placed (rows : List Entry) (many : ℕ → ℕ) (room : List ℕ) : Type 0 where
   pub first : getD room 0 0 ≡ 0

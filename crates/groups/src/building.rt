@@ -2,12 +2,11 @@
 use super::top::fixes_top;
 use super::top::top_of;
 ghost use mathlib.Core.Path.{_≡_};
-ghost use mathlib.Core.Bool.{cond};
 ghost use lib.ListN.{length, getD, set};
-ghost use Prim.Native.Nat.{ℕ, suc, _+_, _*_, _/_, _≤_, _<_};
-ghost use Rattle.tables.specs.Rows.{rowsOf, blankEntry};
-ghost use Rattle.groups.specs.Groups.{inGroup, groupOf, groupsOf, roomAfter, roomFor};
-ghost use Rattle.groups.specs.Placing.{sofar, Placed, Behind};
+ghost use Prim.Native.Nat.{_+_, _/_, _≤_, _<_};
+ghost use Rattle.tables.specs.Rows.{rowsOf};
+ghost use Rattle.groups.specs.Groups.{groupOf, roomAfter, roomFor};
+ghost use Rattle.groups.specs.Placing.{sofar, Counted, Placed, Behind};
 
 // How many groups there are, one for each top byte, and where the row numbers begin: behind the start of each group and the end of the last.
 pub const GROUPS: usize = 256;
@@ -42,8 +41,8 @@ fn write_starts(rows: &[u32], room: &mut [u32])
 
 // How many rows fix each top byte, and as the answer how many fix none.
 fn count(rows: &[u32], counts: &mut [u32; 256]) -> u32
-    requires { ⌜ (length (now rows) / 3 ≤ 1024) × ((g : ℕ) → g < 256 → getD (now counts) g 0 ≡ 0) ⌝ }
-    ensures { λ r. ⌜ ((g : ℕ) → g < 256 → getD (now (counts .exit)) g 0 + r ≡ length (groupOf (rowsOf (now (rows .entry))) g)) ⌝ }
+    requires { ⌜ (length (now rows) / 3 ≤ 1024) × Counted (rowsOf (now rows)) 0 (now counts) 0 ⌝ }
+    ensures { λ r. ⌜ Counted (rowsOf (now (rows .entry))) (length (rowsOf (now (rows .entry)))) (now (counts .exit)) r ⌝ }
 {
     let n = rows.len() / 3;
     let mut others = 0;
@@ -57,8 +56,8 @@ fn count(rows: &[u32], counts: &mut [u32; 256]) -> u32
 
 // One row counted: those that fix none are `others` so far.
 fn count_row(rows: &[u32], i: usize, counts: &mut [u32; 256], others: u32) -> u32
-    requires { ⌜ (i * 3 + 2 < length (now rows)) × ((g : ℕ) → g < 256 → getD (now counts) g 0 + others < 4294967295) ⌝ }
-    ensures { λ r. ⌜ ((g : ℕ) → g < 256 → getD (now (counts .exit)) g 0 + r ≡ cond (inGroup g (getD (rowsOf (now (rows .entry))) i blankEntry)) (suc (getD (now (counts .entry)) g 0 + others)) (getD (now (counts .entry)) g 0 + others)) ⌝ }
+    requires { ⌜ (length (now rows) / 3 ≤ 1024) × ((i < length (now rows) / 3) × Counted (rowsOf (now rows)) i (now counts) others) ⌝ }
+    ensures { λ r. ⌜ Counted (rowsOf (now (rows .entry))) (i + 1) (now (counts .exit)) r ⌝ }
 {
     if fixes_top(rows, i) {
         let g = top_of(rows[i * 3]);

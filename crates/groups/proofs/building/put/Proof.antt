@@ -1,3 +1,6 @@
+use Prim.Native.Nat.{ℕ, _+_}
+use mathlib.Core.Path.{ap}
+use lib.ListN.{getD, set}
 use borrow.Author.Needs.{needs}
 use Rattle.groups.proofs.building.put.Statement.{statement}
 use Rattle.groups.proofs.building.put.Tie as tie
@@ -55,7 +58,10 @@ same-length c = search needs
 
 -- src/building.rt:104:1
 returns : tie.Need-returns
-returns c = ?
+returns c =
+    let s = c .before .before .before .args in
+    let at = getD (s .room .now) (s .g + 1) 0 in
+    ap (λ (n : ℕ). set (set (s .room .now) (257 + n) (s .number)) (s .g + 1) (at + 1)) (c .wide .ensures)
 
 pub put-spec : {M : Type 1} → statement M
 put-spec =

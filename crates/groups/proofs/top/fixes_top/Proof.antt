@@ -1,3 +1,8 @@
+use Prim.Native.Nat.{ℕ}
+use mathlib.Core.Path.{sym, ap, _∙_}
+use lib.Dec.{eqb}
+use Rattle.tables.proofs.RowsByNumber.{row-at}
+use Rattle.groups.specs.Groups.{fixesTop}
 use borrow.Author.Needs.{needs}
 use Rattle.groups.proofs.top.fixes_top.Statement.{statement}
 use Rattle.groups.proofs.top.fixes_top.Tie as tie
@@ -27,7 +32,9 @@ top-of-requires c κs = search needs
 
 -- src/top.rt:16:1
 returns : tie.Need-returns
-returns c = ?
+returns c =
+    let s = c .before .before .before in
+    ap (λ (n : ℕ). eqb n 255) (c .top-of .ensures .0) ∙ ap fixesTop (sym (row-at (s .args .rows .now) (s .args .i) (s .pre)))
 
 pub fixes-top-spec : {M : Type 1} → statement M
 fixes-top-spec =
