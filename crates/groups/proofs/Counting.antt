@@ -43,13 +43,11 @@ pub record Begun (rows : List Entry) (g : ℕ) (room₀ room : List ℕ) : Type 
   pub behind : Behind rows room₀ room
 
 module _ (rows : List Entry) where
-  pub begun-none : (room : List ℕ) → 0 < length room → Begun rows 0 room (set room 0 0)
-  begun-none room h =
-      record {
-        first = getD-set-same room 0 0 0 h;
-        each = λ g l. absurd (omega arith);
-        behind = drop-set-lt (length (groupsOf rows)) room 0 0 (omega (arith, groups-long rows))
-      }
+  pub zero-behind : (room : List ℕ) → Behind rows room (set room 0 0)
+  zero-behind room = drop-set-lt (length (groupsOf rows)) room 0 0 (omega (arith, groups-long rows))
+
+  pub begun-none : (room : List ℕ) → 0 < length room → Begun rows 0 (set room 0 0) (set room 0 0)
+  begun-none room h = record { first = getD-set-same room 0 0 0 h; each = λ g l. absurd (omega arith); behind = refl }
 
   pub begun-next : (g : ℕ) (room₀ room : List ℕ) (start : ℕ) → g < 256 → 257 ≤ length room → start ≡ startOf rows g → Begun rows g room₀ room
       → Begun rows (g + 1) room₀ (set room (g + 1) start)

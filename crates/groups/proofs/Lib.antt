@@ -1,7 +1,9 @@
 pub mod Counting
 pub mod Filling
+pub mod GroupWords
 pub mod InOrder
 pub mod Placing
 pub mod RowByRow
 pub mod SameRow
 pub mod Starts
+pub mod Unfixed

@@ -41,6 +41,10 @@ module _ (f : ℕ → ℕ) where
       ap (λ (k : ℕ). getD (upTo (λ (g : ℕ). f g ∷ []) n) k 0) (sym e) ∙ upto-at (λ (g : ℕ). f g ∷ []) g n 0 h (omega arith)
 
 module _ (rows : List Entry) where
+  pub start-none : startOf rows 0 ≡ 0
+  unfolding upTo
+  start-none = refl
+
   pub start-next : (g : ℕ) → startOf rows (suc g) ≡ startOf rows g + length (groupOf rows g)
   start-next g = next-start (groupOf rows) g
 

@@ -1,7 +1,11 @@
 // Whether groups pay.
 use super::top::fixes_top;
 ghost use mathlib.Core.Path.{_≡_};
-ghost use Rattle.tables.specs.Rows.{rowsOf};
+ghost use mathlib.Core.Bool.{cond};
+ghost use lib.ListN.{length, getD};
+ghost use Prim.Native.Nat.{_+_, _*_, _<_};
+ghost use Rattle.tables.specs.Rows.{rowsOf, blankEntry};
+ghost use Rattle.groups.specs.Groups.{fixesTop};
 ghost use Rattle.groups.specs.Pays.{unfixed, pays};
 
 // Rows that are in every group are counted only where packets and rows are enough.
@@ -33,10 +37,15 @@ fn count_unfixed(rows: &[u32]) -> usize
     let mut all = 0;
     let mut i = 0;
     while i < n {
-        if !fixes_top(rows, i) {
-            all += 1;
-        }
+        all += one_if_free(rows, i);
         i += 1;
     }
     all
+}
+
+fn one_if_free(rows: &[u32], i: usize) -> usize
+    requires { ⌜ i * 3 + 2 < length (now rows) ⌝ }
+    ensures { λ r. ⌜ r ≡ cond (fixesTop (getD (rowsOf (now (rows .entry))) i blankEntry)) 0 1 ⌝ }
+{
+    if fixes_top(rows, i) { 0 } else { 1 }
 }

@@ -1,3 +1,13 @@
+-- `building::build` meets its contract.
+use Prim.Native.Nat.{_≤_}
+use mathlib.Core.Path.{_∙_}
+use native.Mathlib.Omega.{arith}
+use lib.ListN.{length}
+use Rattle.tables.specs.Rows.{rowsOf}
+use Rattle.tables.proofs.RowsByNumber.{rows-many}
+use Rattle.groups.specs.Groups.{groupsOf}
+use Rattle.groups.proofs.Starts.{groups-fit}
+use Rattle.groups.proofs.Filling.{room-holds}
 use borrow.Author.Needs.{needs}
 use Rattle.groups.proofs.building.build.Statement.{statement}
 use Rattle.groups.proofs.building.build.Tie as tie
@@ -20,7 +30,13 @@ same-length c = search needs
 
 -- src/building.rt:17:1
 returns : tie.Need-returns
-returns c = ?
+returns c =
+    let fill = c .before .before .fill in
+    let starts = c .before .before .before .before .before .before .write-starts in
+    let s = c .before .before .before .before .before .before .before .before .before .before in
+    let words = s .args .rows .now in
+    let long : length (groupsOf (rowsOf words)) ≤ length (fill .last .1 .0) = omega (arith, groups-fit (rowsOf words), rows-many words, s .pre, fill .kept .1 .0, starts .kept .1 .0) in
+    room-holds (rowsOf words) (fill .last .1 .0) (fill .ensures .0) long (s .args .room .now) (fill .ensures .1 ∙ starts .ensures .1)
 
 pub build-spec : {M : Type 1} → statement M
 build-spec = tie.close (tie.spec write-starts-requires fill-requires same-length returns)

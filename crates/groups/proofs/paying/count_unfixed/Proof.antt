@@ -1,42 +1,68 @@
+-- `paying::count_unfixed` meets its contract. The loop's invariant: those before i are counted. The measure is what is left of the rows.
+use Prim.Native.Nat.{ℕ, _+_, _<_, _≤_, _/_, _-_}
+use mathlib.Core.Path.{_≡_, refl, sym, ap, _∙_}
+use native.Mathlib.Omega.{arith}
+use lib.ListN.{length, take}
+use lib.Seq.{take-length}
+use Rattle.tables.specs.Rows.{rowsOf}
+use Rattle.tables.proofs.RowsByNumber.{rows-many}
+use Rattle.groups.specs.Pays.{unfixed}
+use Rattle.groups.proofs.Unfixed.{unfixed-none, unfixed-next, unfixed-first}
 use Rattle.groups.proofs.paying.count_unfixed.Statement.{statement}
 use Rattle.groups.proofs.paying.count_unfixed.Tie as tie
 use Rattle.groups.proofs.paying.count_unfixed.Reads as reads
 use Rattle.groups.proofs.paying.count_unfixed.Lts as lts
-use Rattle.groups.proofs.top.fixes_top.Reads as fixes-top-reads
+use Rattle.groups.proofs.paying.one_if_free.Reads as one-if-free-reads
 
 abbrev Inv-loop : tie.InvT-loop
-Inv-loop rows n all₀ i₀ all i = ?
+Inv-loop rows n all₀ i₀ all i =
+    (n ≡ length rows / 3) × ((i ≤ n) × (all ≡ unfixed (take i (rowsOf rows))))
 
 abbrev μ-loop : tie.MeasureT-loop
-μ-loop rows n all₀ i₀ all i = ?
+μ-loop rows n all₀ i₀ all i = n - i
 
--- src/paying.rt:35:5
+-- src/paying.rt:39:5
 loop-holds : tie.Need-loop-holds Inv-loop μ-loop
-loop-holds c = ?
+loop-holds c = (refl, (omega arith, sym unfixed-none))
 
--- src/paying.rt:36:13
-fixes-top-requires : tie.Need-fixes-top-requires Inv-loop μ-loop
-fixes-top-requires c κs = ?
+-- src/paying.rt:40:16
+one-if-free-requires : tie.Need-one-if-free-requires Inv-loop μ-loop
+one-if-free-requires c κs = omega arith
 
--- src/paying.rt:37:13
+-- src/paying.rt:40:9
 add-all : tie.Need-add-all Inv-loop μ-loop
-add-all c = ?
+add-all c =
+    let at = c .before .before in
+    let words = at .before .before .args .rows .now in
+    let h : at .loop .i < length (rowsOf words) = omega (arith, rows-many words) in
+    let next = unfixed-next (rowsOf words) (at .loop .i) h in
+    omega (arith, at .loop .inv, next, c .one-if-free .ensures, unfixed-first (rowsOf words) (at .loop .i + 1) (omega arith))
 
--- src/paying.rt:39:9
+-- src/paying.rt:41:9
 add-i : tie.Need-add-i Inv-loop μ-loop
-add-i c = ?
+add-i c = omega arith
 
--- src/paying.rt:35:5
+-- src/paying.rt:39:5
 loop-less : tie.Need-loop-less Inv-loop μ-loop
-loop-less c = ?
+loop-less c = omega arith
 
--- src/paying.rt:35:5
+-- src/paying.rt:39:5
 loop-again : tie.Need-loop-again Inv-loop μ-loop
-loop-again c = ?
+loop-again c =
+    let at = c .before .before in
+    let words = at .before .before .args .rows .now in
+    let h : at .loop .i < length (rowsOf words) = omega (arith, rows-many words) in
+    let next = unfixed-next (rowsOf words) (at .loop .i) h in
+    (refl, (omega arith, omega (arith, at .loop .inv, next, c .one-if-free .ensures)))
 
--- src/paying.rt:29:1
+-- src/paying.rt:33:1
 returns : tie.Need-returns Inv-loop μ-loop
-returns c = ?
+returns c =
+    let at = c .before in
+    let words = at .before .before .args .rows .now in
+    let rows = rowsOf words in
+    let all : at .loop .i ≡ length rows = omega (arith, rows-many words) in
+    at .loop .inv .1 .1 ∙ ap (λ (k : ℕ). unfixed (take k rows)) all ∙ ap unfixed (take-length rows)
 
 pub count-unfixed-spec : {M : Type 1} → statement M
 count-unfixed-spec =
@@ -45,7 +71,7 @@ count-unfixed-spec =
     Inv-loop
     μ-loop
     loop-holds
-    fixes-top-requires
+    one-if-free-requires
     add-all
     add-i
     loop-less
