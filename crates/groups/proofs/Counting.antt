@@ -1,5 +1,5 @@
 -- One row more counted, and where the groups begin by those counts, written one after the other.
-use Prim.Native.Nat.{ℕ, suc, _+_, _≤_, _<_}
+use Prim.Native.Nat.{ℕ, _+_, _≤_, _<_}
 use mathlib.Core.Path.{_≡_, refl, sym, ap, _∙_}
 use mathlib.Core.Logic.{⊎-elim}
 use mathlib.Core.Bool.{true, false}
@@ -10,7 +10,7 @@ use lib.ListN.{length, getD, set, replicate, length-replicate, length-set, getD-
 use lib.Seq.{getD-set-same, getD-set-other, drop-set-lt}
 use Rattle.lists.proofs.Firsts.{lt-or-ge}
 use Rattle.tables.specs.Rows.{Entry, blankEntry}
-use Rattle.groups.specs.Groups.{topOf, fixesTop, groupOf, startOf, groupsOf}
+use Rattle.groups.specs.Groups.{topOf, fixesTop, startOf, groupsOf}
 use Rattle.groups.specs.Placing.{Counted, Placed, Behind}
 use Rattle.groups.proofs.InOrder.{sofar-here, sofar-else, fixed-here, free-here, sofar-none}
 use Rattle.groups.proofs.Placing.{one-and-others}
@@ -29,7 +29,7 @@ module _ (rows : List Entry) (i : ℕ) (counts : List ℕ) (others : ℕ) (p : C
             (λ s.
             omega
             (arith, getD-set-same counts t (getD counts t 0 + 1) 0 (omega (arith, p .all)), p .each t s, sofar-here rows t i h (fixed-here rows t i h f e)))
-            (λ g n s. omega (arith, getD-set-other counts t g (getD counts t 0 + 1) 0 n, p .each g s, sofar-else rows g i h f (λ d. n (sym d ∙ e))))
+            (λ g n s. omega (arith, getD-set-other counts t g (getD counts t 0 + 1) 0 n, p .each g s, sofar-else rows g i h f (λ d. n (sym d ∙ e))));
       }
 
   pub count-free : fixesTop (getD rows i blankEntry) ≡ false → Counted rows (i + 1) counts (others + 1)
@@ -61,7 +61,7 @@ module _ (rows : List Entry) where
             let last : k ≡ g = le-antisymm (omega arith) m in
             ap (λ (j : ℕ). getD (set room (g + 1) start) (j + 1) 0) last ∙ getD-set-same room (g + 1) start 0 (omega arith) ∙ e ∙ ap (startOf rows) (sym last))
             (lt-or-ge k g);
-        behind = drop-set-lt (length (groupsOf rows)) room (g + 1) start (omega (arith, groups-long rows)) ∙ p .behind
+        behind = drop-set-lt (length (groupsOf rows)) room (g + 1) start (omega (arith, groups-long rows)) ∙ p .behind;
       }
 
   pub begun-all : (room₀ room : List ℕ) → Begun rows 256 room₀ room → Placed rows (λ _. 0) room

@@ -1,6 +1,6 @@
 -- A group row by row: what one row more adds to it, how many row numbers it has, and that each is a row's.
 use Prim.Native.Nat.{ℕ, zero, suc, _+_, _≤_, _<_}
-use mathlib.Core.Path.{_≡_, refl, sym, ap, _∙_}
+use mathlib.Core.Path.{_≡_, refl, ap, _∙_}
 use mathlib.Core.Bool.{Bool, true, false, cond}
 use mathlib.Core.List.{List, [], _∷_, _++_}
 use native.Mathlib.Omega.{arith}
@@ -80,9 +80,10 @@ module _ (rows : List Entry) (g : ℕ) where
         ap (λ (l : List Entry). groupOf l g) (split-at rows i blankEntry h)
         ∙ from-append g 0 (take i rows) (getD rows i blankEntry ∷ drop (suc i) rows)
         ∙ ap (λ (k : ℕ). groupOf (take i rows) g ++ groupFrom g k (getD rows i blankEntry ∷ drop (suc i) rows)) number
-        ∙ simp e in
-        (omega (arith, ap length whole, length-append (groupOf (take i rows) g) (i ∷ rest)),
-        ap (λ (l : List ℕ). getD l (sofar rows i g) 0) whole ∙ getD-at (groupOf (take i rows) g) i rest 0 (sofar rows i g) refl)
+        ∙ simp e in (
+          omega (arith, ap length whole, length-append (groupOf (take i rows) g) (i ∷ rest)),
+          ap (λ (l : List ℕ). getD l (sofar rows i g) 0) whole ∙ getD-at (groupOf (take i rows) g) i rest 0 (sofar rows i g) refl,
+        )
 
     -- it fixes the top byte of this group, or of another, or none
     pub fixed-here : fixesTop (getD rows i blankEntry) ≡ true → topOf (getD rows i blankEntry .key) ≡ g → inGroup g (getD rows i blankEntry) ≡ true

@@ -1,7 +1,7 @@
 -- One row number more at the end of its group so far: all that stood in the room still stands, because the parts of two groups are apart.
 use Prim.Native.Nat.{ℕ, suc, _+_, _≤_, _<_}
-use mathlib.Core.Path.{_≡_, refl, sym, ap, _∙_, subst}
-use mathlib.Core.Logic.{_⊎_, inl, inr, ⊎-elim}
+use mathlib.Core.Path.{_≡_, sym, ap, _∙_, subst}
+use mathlib.Core.Logic.{_⊎_, ⊎-elim}
 use mathlib.Core.Bool.{cond}
 use mathlib.Core.List.{List}
 use borrow.Author.Tests.{lt-ltb, le-ltb}
@@ -55,7 +55,7 @@ said-so rows many many′ room same p =
       first = p .first;
       most = λ g h. omega (arith, same g h, p .most g h);
       cursor = λ g h. p .cursor g h ∙ ap (λ (n : ℕ). startOf rows g + n) (sym (same g h));
-      there = λ g k h l. p .there g k h (omega (arith, same g h))
+      there = λ g k h l. p .there g k h (omega (arith, same g h));
     }
 
 module _ (rows : List Entry) (many : ℕ → ℕ) (room : List ℕ) (p : Placed rows many room) (long : length (groupsOf rows) ≤ length room) (g : ℕ) (small : g < 256) (more : many g < length (groupOf rows g)) where
@@ -130,5 +130,5 @@ module _ (rows : List Entry) (many : ℕ → ℕ) (room : List ℕ) (p : Placed 
                 λ h k s l.
                 one-and-others (λ (h : ℕ). (k : ℕ) → h < 256 → k < many′ h → getD after (257 + (startOf rows h + k)) 0 ≡ getD (groupOf rows h) k 0) g
                 (λ k s l. there-here k l)
-                (λ h n k s l. there-else h n k s l) h k s l
+                (λ h n k s l. there-else h n k s l) h k s l;
           }

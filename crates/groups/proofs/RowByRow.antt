@@ -9,7 +9,7 @@ use Rattle.tables.specs.Rows.{Entry, blankEntry}
 use Rattle.groups.specs.Groups.{topOf, fixesTop, inGroup, groupOf, groupsOf, roomFor}
 use Rattle.groups.specs.Placing.{sofar, Placed, Behind}
 use Rattle.groups.proofs.InOrder.{next-there, fixed-here, free-here, sofar-here, sofar-else}
-use Rattle.groups.proofs.Starts.{groups-fit, groups-long, start-most}
+use Rattle.groups.proofs.Starts.{groups-fit}
 use Rattle.groups.proofs.Placing.{partly, partly-before, partly-here, partly-else, place-within, put-placed, put-behind}
 
 -- what `put` asks for, and what it leaves

@@ -1,5 +1,5 @@
 -- The group of a key's top byte finds the row that the whole table finds: a row that is left out fixes another top byte, and cannot match.
-use Prim.Native.Nat.{ℕ, zero, suc, _+_, _/_, _%_, _^_, _<_}
+use Prim.Native.Nat.{ℕ, suc, _+_, _^_, _<_}
 use mathlib.Core.Path.{_≡_, refl, sym, ap, _∙_}
 use mathlib.Core.Bool.{Bool, true, false, not, cond}
 use mathlib.Core.List.{List, [], _∷_}
@@ -7,13 +7,12 @@ use native.Mathlib.Omega.{arith}
 use native.Mathlib.Nat.{mod-eq-of-lt}
 use borrow.Author.Tests.{eqb-true, eqb-false}
 use lib.Bits.{bitAnd, and-shr, and-mask}
-use lib.Dec.{eqb}
 use lib.ListN.{getD}
 use Rattle.tables.specs.declared.Found.{Found}
 use Rattle.tables.specs.declared.Found.the-variants.{At, Nothing}
 use Rattle.tables.specs.Rows.{Entry, matches, firstMatch, next, later, blankEntry}
 use Rattle.tables.proofs.RowByRow.{later-zero}
-use Rattle.groups.specs.Groups.{topOf, fixesTop, inGroup, groupFrom, groupOf, firstIn}
+use Rattle.groups.specs.Groups.{topOf, fixesTop, inGroup, groupFrom, firstIn}
 use Rattle.groups.specs.Promises.{SameRow}
 
 later-next : (i : ℕ) (f : Found) → later i (next f) ≡ later (suc i) f

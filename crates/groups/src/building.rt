@@ -1,6 +1,7 @@
 // Groups built afresh in lent room: rows counted, starts written, row numbers filled in.
 use super::top::fixes_top;
 use super::top::top_of;
+use super::top::wide;
 ghost use mathlib.Core.Path.{_≡_};
 ghost use lib.ListN.{length, getD, set};
 ghost use Prim.Native.Nat.{_+_, _/_, _≤_, _<_};
@@ -8,8 +9,10 @@ ghost use Rattle.tables.specs.Rows.{rowsOf};
 ghost use Rattle.groups.specs.Groups.{groupOf, roomAfter, roomFor};
 ghost use Rattle.groups.specs.Placing.{sofar, Counted, Placed, Behind};
 
-// How many groups there are, one for each top byte, and where the row numbers begin: behind the start of each group and the end of the last.
-pub const GROUPS: usize = 256;
+// One group for each top byte.
+const GROUPS: usize = 256;
+
+// Where the row numbers begin: behind the start of each group and the end of the last.
 pub const NUMBERS: usize = 257;
 
 // The groups of a chip's rows. What the room held before counts for nothing; the words behind the groups stay as they were.
@@ -31,11 +34,11 @@ fn write_starts(rows: &[u32], room: &mut [u32])
     let others = count(rows, &mut counts);
     room[0] = 0;
     let mut start = 0;
-    let mut g = 0;
-    while g < GROUPS {
-        room[g + 1] = start;
-        start = start + counts[g] + others;
-        g += 1;
+    let mut top = 0;
+    while top < GROUPS {
+        room[top + 1] = start;
+        start = start + counts[top] + others;
+        top += 1;
     }
 }
 
@@ -107,10 +110,4 @@ fn put(room: &mut [u32], g: usize, number: u32)
     let at = room[g + 1];
     room[NUMBERS + wide(at)] = number;
     room[g + 1] = at + 1;
-}
-
-fn wide(at: u32) -> usize
-    ensures { λ r. ⌜ r ≡ at ⌝ }
-{
-    at as usize
 }

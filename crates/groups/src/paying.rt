@@ -8,25 +8,26 @@ ghost use Rattle.tables.specs.Rows.{rowsOf, blankEntry};
 ghost use Rattle.groups.specs.Groups.{fixesTop};
 ghost use Rattle.groups.specs.Pays.{unfixed, pays};
 
-// Rows that are in every group are counted only where packets and rows are enough.
+// The rows that fix no top byte are counted only where it would pay without them.
 pub fn pays(packets: usize, rows: &[u32]) -> bool
     ensures { λ r. ⌜ r ≡ pays packets (rowsOf (now (rows .entry))) ⌝ }
 {
     let n = rows.len() / 3;
-    if n < 32 {
+    if n < 64 {
         return false;
     }
     if n > 1024 {
         return false;
     }
-    if packets <= 8 {
+    let steps = n * 12 + 1400;
+    if packets <= steps / n {
         return false;
     }
     let all = count_unfixed(rows);
-    if all == n {
+    if n <= all * 3 {
         return false;
     }
-    (n * 8 + all * 512 + 1024) / (n - all) < packets
+    (steps + all * 1400) / (n - all * 3) < packets
 }
 
 // How many rows fix no top byte.

@@ -1,12 +1,12 @@
 // The search through the group of a key's top byte.
 use super::building::NUMBERS;
 use super::top::top_of;
+use super::top::wide;
 use tables::Matched;
 use tables::search::matches_at;
 use tables::search::route_at;
 ghost use mathlib.Core.Path.{_≡_};
 ghost use lib.ListN.{length, take};
-ghost use Prim.Native.Nat.{_≤_, _<_};
 ghost use Rattle.tables.specs.Rows.{rowsOf, routeFor};
 ghost use Rattle.groups.specs.Groups.{groupsOf};
 
@@ -26,10 +26,4 @@ pub fn grouped_route(rows: &[u32], room: &[u32], key: u32) -> Matched
         k += 1;
     }
     Matched::Missed
-}
-
-fn wide(word: u32) -> usize
-    ensures { λ r. ⌜ r ≡ word ⌝ }
-{
-    word as usize
 }

@@ -1,4 +1,4 @@
-// The top byte of keys and masks.
+// The top byte of keys and masks, and a word of the room as a number.
 ghost use mathlib.Core.Path.{_≡_};
 ghost use lib.ListN.{length, getD};
 ghost use Prim.Native.Nat.{_*_, _+_, _<_};
@@ -18,4 +18,10 @@ pub fn fixes_top(rows: &[u32], i: usize) -> bool
     ensures { λ r. ⌜ r ≡ fixesTop (getD (rowsOf (now (rows .entry))) i blankEntry) ⌝ }
 {
     top_of(rows[i * 3 + 1]) == 255
+}
+
+pub fn wide(word: u32) -> usize
+    ensures { λ r. ⌜ r ≡ word ⌝ }
+{
+    word as usize
 }

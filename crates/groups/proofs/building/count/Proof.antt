@@ -1,6 +1,6 @@
 -- `building::count` meets its contract. The loop's invariant: the rows before i are counted. The measure is what is left of the rows.
-use Prim.Native.Nat.{_<_, _≤_, _/_, _-_}
-use mathlib.Core.Path.{_≡_, refl, sym, _∙_}
+use Prim.Native.Nat.{_≤_, _/_, _-_}
+use mathlib.Core.Path.{_≡_, refl}
 use native.Mathlib.Omega.{arith}
 use lib.ListN.{length}
 use Rattle.tables.specs.Rows.{rowsOf}
@@ -8,9 +8,6 @@ use Rattle.tables.proofs.RowsByNumber.{rows-many}
 use Rattle.groups.specs.Placing.{Counted}
 use Rattle.groups.proofs.building.count.Statement.{statement}
 use Rattle.groups.proofs.building.count.Tie as tie
-use Rattle.groups.proofs.building.count.Reads as reads
-use Rattle.groups.proofs.building.count.Lts as lts
-use Rattle.groups.proofs.building.count_row.Reads as count-row-reads
 
 abbrev Inv-loop : tie.InvT-loop
 Inv-loop rows counts₀ n others₀ i₀ counts others i = (n ≡ length rows / 3) × ((i ≤ n) × Counted (rowsOf rows) i counts others)
@@ -18,27 +15,21 @@ Inv-loop rows counts₀ n others₀ i₀ counts others i = (n ≡ length rows / 
 abbrev μ-loop : tie.MeasureT-loop
 μ-loop rows counts₀ n others₀ i₀ counts others i = n - i
 
--- src/building.rt:50:5
 loop-holds : tie.Need-loop-holds Inv-loop μ-loop
 loop-holds c = (refl, (omega arith, c .before .pre .1))
 
--- src/building.rt:51:9
 count-row-requires : tie.Need-count-row-requires Inv-loop μ-loop
 count-row-requires c κs = (c .before .before .before .before .pre .0, (omega arith, c .before .before .loop .inv .1 .1))
 
--- src/building.rt:52:9
 add-i : tie.Need-add-i Inv-loop μ-loop
 add-i c = omega arith
 
--- src/building.rt:50:5
 loop-less : tie.Need-loop-less Inv-loop μ-loop
 loop-less c = omega arith
 
--- src/building.rt:50:5
 loop-again : tie.Need-loop-again Inv-loop μ-loop
 loop-again c = (refl, (omega arith, c .count-row .ensures))
 
--- src/building.rt:43:1
 returns : tie.Need-returns Inv-loop μ-loop
 returns c =
     let rows = c .before .before .before .args .rows .now in

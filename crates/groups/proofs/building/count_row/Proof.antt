@@ -1,8 +1,7 @@
 -- `building::count_row` meets its contract.
-use Prim.Native.Nat.{_<_, _≤_, _/_}
-use mathlib.Core.Path.{_≡_, sym, ap, _∙_}
+use Prim.Native.Nat.{_≤_}
+use mathlib.Core.Path.{sym, ap, _∙_}
 use native.Mathlib.Omega.{arith}
-use lib.ListN.{length}
 use Rattle.tables.specs.Rows.{Entry, rowsOf}
 use Rattle.tables.proofs.RowsByNumber.{rows-many, row-at}
 use Rattle.groups.specs.Groups.{topOf}
@@ -11,40 +10,28 @@ use Rattle.groups.proofs.Counting.{count-fixed, count-free}
 use borrow.Author.Needs.{needs}
 use Rattle.groups.proofs.building.count_row.Statement.{statement}
 use Rattle.groups.proofs.building.count_row.Tie as tie
-use Rattle.groups.proofs.building.count_row.Reads as reads
-use Rattle.groups.proofs.building.count_row.Lts as lts
-use Rattle.groups.proofs.top.fixes_top.Reads as fixes-top-reads
-use Rattle.groups.proofs.top.top_of.Reads as top-of-reads
 
--- src/building.rt:62:8
 fixes-top-requires : tie.Need-fixes-top-requires
 fixes-top-requires c κs = search needs
 
--- src/building.rt:63:29
 mul-top-of : tie.Need-mul-top-of
 mul-top-of c = search needs
 
--- src/building.rt:63:24
 mul-top-of-2 : tie.Need-mul-top-of-2
 mul-top-of-2 c = search needs
 
--- src/building.rt:63:24
 shared-slice-read-top-of : tie.Need-shared-slice-read-top-of
 shared-slice-read-top-of c = search needs
 
--- src/building.rt:63:13
 top-of-requires : tie.Need-top-of-requires
 top-of-requires c κs = search needs
 
--- src/building.rt:64:21
 mul-counts : tie.Need-mul-counts
 mul-counts c = search needs
 
--- src/building.rt:64:21
 element-copy-out-counts : tie.Need-element-copy-out-counts
 element-copy-out-counts c = search needs
 
--- src/building.rt:64:21
 add-counts : tie.Need-add-counts
 add-counts c =
     let s = c .before .before .before .before .before .before in
@@ -53,15 +40,12 @@ add-counts c =
     let small : g ≤ 255 = omega (arith, c .before .top-of .ensures .1) in
     omega (arith, s .pre, s .pre .1 .1 .each g (omega arith), sofar-most rows (s .args .i) g (omega (arith, rows-many (s .args .rows .now))))
 
--- src/building.rt:64:9
 mul-counts-2 : tie.Need-mul-counts-2
 mul-counts-2 c = search needs
 
--- src/building.rt:64:9
 element-write-counts : tie.Need-element-write-counts
 element-write-counts c = search needs
 
--- src/building.rt:65:9
 returns : tie.Need-returns
 returns c =
     let s = c .before .before .before .before .before .before in
@@ -72,14 +56,12 @@ returns c =
     top
     (c .before .top-of .ensures .1)
 
--- src/building.rt:67:5
 add-result : tie.Need-add-result
 add-result c =
     let s = c .before .before .before in
     let rows = rowsOf (s .args .rows .now) in
     omega (arith, s .pre, s .pre .1 .1 .each 0 (omega arith), sofar-most rows (s .args .i) 0 (omega (arith, rows-many (s .args .rows .now))))
 
--- src/building.rt:58:1
 returns-2 : tie.Need-returns-2
 returns-2 c =
     let s = c .before .before .before in

@@ -1,6 +1,6 @@
 -- `building::fill` meets its contract. The loop's invariant: the numbers of the rows before i stand in their places. The measure is what is left of the rows.
-use Prim.Native.Nat.{ℕ, _+_, _<_, _≤_, _/_, _-_}
-use mathlib.Core.Path.{_≡_, refl, sym, ap, _∙_}
+use Prim.Native.Nat.{_≤_, _/_, _-_}
+use mathlib.Core.Path.{_≡_, refl, sym, _∙_}
 use native.Mathlib.Omega.{arith}
 use lib.ListN.{length}
 use Rattle.tables.specs.Rows.{rowsOf}
@@ -11,9 +11,6 @@ use Rattle.groups.proofs.InOrder.{sofar-none, sofar-all}
 use Rattle.groups.proofs.Placing.{said-so}
 use Rattle.groups.proofs.building.fill.Statement.{statement}
 use Rattle.groups.proofs.building.fill.Tie as tie
-use Rattle.groups.proofs.building.fill.Reads as reads
-use Rattle.groups.proofs.building.fill.Lts as lts
-use Rattle.groups.proofs.building.place.Reads as place-reads
 
 abbrev Inv-loop : tie.InvT-loop
 Inv-loop rows room₀ n i₀ room i =
@@ -22,48 +19,42 @@ Inv-loop rows room₀ n i₀ room i =
 abbrev μ-loop : tie.MeasureT-loop
 μ-loop rows room₀ n i₀ room i = n - i
 
--- src/building.rt:79:5
 loop-holds : tie.Need-loop-holds Inv-loop μ-loop
 loop-holds c =
     let s = c .before .before in
     let rows = rowsOf (s .args .rows .now) in
     (refl, (omega arith, (refl, (said-so rows (λ _. 0) (sofar rows 0) (s .args .room .now) (λ g h. sofar-none rows g) (s .pre .1 .1), refl))))
 
--- src/building.rt:80:9
 place-requires : tie.Need-place-requires Inv-loop μ-loop
 place-requires c κs =
     let at = c .before .before in
     let s = at .before .before .before in
     (s .pre .0, (omega (arith, s .pre, at .loop .inv), (omega arith, at .loop .inv .1 .1 .1 .0)))
 
--- src/building.rt:81:9
 add-i : tie.Need-add-i Inv-loop μ-loop
 add-i c = omega arith
 
--- src/building.rt:79:5
 loop-less : tie.Need-loop-less Inv-loop μ-loop
 loop-less c = omega arith
 
--- src/building.rt:79:5
 loop-again : tie.Need-loop-again Inv-loop μ-loop
 loop-again c =
     let call = c .before .before in
     let at = call .before .before .before in
     (refl, (omega arith, (c .before .before .place .kept .1 .0 ∙ at .loop .inv .1 .1 .0, (call .place .ensures .0, call .place .ensures .1 ∙ at .loop .inv .1 .1 .1 .1))))
 
--- src/building.rt:72:1
 same-length : tie.Need-same-length Inv-loop μ-loop
 same-length c = c .before .loop .inv .1 .1 .0
 
--- src/building.rt:72:1
 returns : tie.Need-returns Inv-loop μ-loop
 returns c =
     let at = c .before in
     let words = at .before .before .before .args .rows .now in
     let rows = rowsOf words in
-    let all : at .loop .i ≡ length rows = omega (arith, rows-many words) in
-    (said-so rows (sofar rows (length rows)) (λ g. length (groupOf rows g)) (at .loop .room) (λ g h. sym (sofar-all rows g)) (rw all at (at .loop .inv .1 .1 .1 .0)),
-    at .loop .inv .1 .1 .1 .1)
+    let all : at .loop .i ≡ length rows = omega (arith, rows-many words) in (
+      said-so rows (sofar rows (length rows)) (λ g. length (groupOf rows g)) (at .loop .room) (λ g h. sym (sofar-all rows g)) (rw all at (at .loop .inv .1 .1 .1 .0)),
+      at .loop .inv .1 .1 .1 .1,
+    )
 
 pub fill-spec : {M : Type 1} → statement M
 fill-spec =

@@ -1,4 +1,5 @@
-use Prim.Native.Nat.{ℕ, _+_, _<_, _≤_, _/_, _-_}
+-- `building::place` meets its contract. The loop's invariant: the row's number stands in each group before the g-th. The measure is what is left of the groups.
+use Prim.Native.Nat.{_+_, _<_, _≤_, _-_}
 use mathlib.Core.Path.{_≡_, refl, sym, ap, _∙_}
 use native.Mathlib.Omega.{arith}
 use lib.ListN.{length}
@@ -11,11 +12,6 @@ use Rattle.groups.proofs.Placing.{partly, partly-none, partly-all, said
 use Rattle.groups.proofs.RowByRow.{fixed-fits, fixed-put, free-fits, free-put}
 use Rattle.groups.proofs.building.place.Statement.{statement}
 use Rattle.groups.proofs.building.place.Tie as tie
-use Rattle.groups.proofs.building.place.Reads as reads
-use Rattle.groups.proofs.building.place.Lts as lts
-use Rattle.groups.proofs.building.put.Reads as put-reads
-use Rattle.groups.proofs.top.fixes_top.Reads as fixes-top-reads
-use Rattle.groups.proofs.top.top_of.Reads as top-of-reads
 
 abbrev Inv-loop : tie.InvT-loop
 Inv-loop rows room₀ i number g₀ room g =
@@ -24,31 +20,24 @@ Inv-loop rows room₀ i number g₀ room g =
 abbrev μ-loop : tie.MeasureT-loop
 μ-loop rows room₀ i number g₀ room g = 256 - g
 
--- src/building.rt:91:18
 cast-number : tie.Need-cast-number Inv-loop μ-loop
 cast-number c = omega (arith, c .before .before .pre)
 
--- src/building.rt:92:8
 fixes-top-requires : tie.Need-fixes-top-requires Inv-loop μ-loop
 fixes-top-requires c κs = omega (arith, c .before .before .pre)
 
--- src/building.rt:93:31
 mul-top-of : tie.Need-mul-top-of Inv-loop μ-loop
 mul-top-of c = omega (arith, c .before .before .before .before .before .pre)
 
--- src/building.rt:93:26
 mul-top-of-2 : tie.Need-mul-top-of-2 Inv-loop μ-loop
 mul-top-of-2 c = omega (arith, c .before .before .before .before .before .pre)
 
--- src/building.rt:93:26
 shared-slice-read-top-of : tie.Need-shared-slice-read-top-of Inv-loop μ-loop
 shared-slice-read-top-of c = omega (arith, c .before .before .before .before .before .before .pre)
 
--- src/building.rt:93:19
 top-of-requires : tie.Need-top-of-requires Inv-loop μ-loop
 top-of-requires c κs = tt
 
--- src/building.rt:93:9
 put-requires : tie.Need-put-requires Inv-loop μ-loop
 put-requires c κs =
     let s = c .before .before .before .before .before .before .before in
@@ -59,11 +48,9 @@ put-requires c κs =
     (sym (c .before .before .before .before .fixes-top .ensures) ∙ c .before .before .before .if1 .taken)
     (c .top-of .result) top (c .top-of .ensures .1)
 
--- src/building.rt:94:9
 same-length : tie.Need-same-length Inv-loop μ-loop
 same-length c = c .before .before .put .kept .0
 
--- src/building.rt:94:9
 returns : tie.Need-returns Inv-loop μ-loop
 returns c =
     let call = c .before .before in
@@ -77,14 +64,12 @@ returns c =
     (sym (t .before .before .before .before .fixes-top .ensures) ∙ t .before .before .before .if1 .taken)
     (t .top-of .result) top (t .top-of .ensures .1))
 
--- src/building.rt:97:5
 loop-holds : tie.Need-loop-holds Inv-loop μ-loop
 loop-holds c =
     let s = c .before .before .before .before in
     let rows = rowsOf (s .args .rows .now) in
     (omega arith, (refl, (said-so rows (sofar rows (s .args .i)) (partly (sofar rows (s .args .i)) 0) _ (λ g h. partly-none (sofar rows (s .args .i)) g) (s .pre .1 .1 .1), refl)))
 
--- src/building.rt:98:9
 put-requires-2 : tie.Need-put-requires-2 Inv-loop μ-loop
 put-requires-2 c κs =
     let at = c .before .before in
@@ -95,15 +80,12 @@ put-requires-2 c κs =
     (sym (at .before .before .fixes-top .ensures) ∙ at .before .if1 .left)
     (omega arith)
 
--- src/building.rt:99:9
 add-g : tie.Need-add-g Inv-loop μ-loop
 add-g c = omega arith
 
--- src/building.rt:97:5
 loop-less : tie.Need-loop-less Inv-loop μ-loop
 loop-less c = omega arith
 
--- src/building.rt:97:5
 loop-again : tie.Need-loop-again Inv-loop μ-loop
 loop-again c =
     let call = c .before .before in
@@ -117,11 +99,9 @@ loop-again c =
     (omega arith) in
     (omega arith, (c .before .before .put2 .kept .0 ∙ at .loop .inv .1 .0, (rw (call .put2 .ensures) (put .0), rw (call .put2 .ensures) (put .1) ∙ at .loop .inv .1 .1 .1)))
 
--- src/building.rt:86:1
 same-length-2 : tie.Need-same-length-2 Inv-loop μ-loop
 same-length-2 c = c .before .loop .inv .1 .0
 
--- src/building.rt:86:1
 returns-2 : tie.Need-returns-2 Inv-loop μ-loop
 returns-2 c =
     let at = c .before in
@@ -131,10 +111,11 @@ returns-2 c =
     let i = s .args .i in
     let all : at .loop .g ≡ 256 = omega arith in
     let free = sym (at .before .before .fixes-top .ensures) ∙ at .before .if1 .left in
-    let there : i < length rows = omega (arith, s .pre, rows-many words) in
-    (said-so rows (partly (sofar rows i) 256) (sofar rows (i + 1)) (at .loop .room) (λ g h. sofar-here rows g i there (free-here rows g i there free) ∙ sym (partly-all (sofar rows i) g h))
-    (rw all at (at .loop .inv .1 .1 .0)),
-    at .loop .inv .1 .1 .1)
+    let there : i < length rows = omega (arith, s .pre, rows-many words) in (
+      said-so rows (partly (sofar rows i) 256) (sofar rows (i + 1)) (at .loop .room) (λ g h. sofar-here rows g i there (free-here rows g i there free) ∙ sym (partly-all (sofar rows i) g h))
+          (rw all at (at .loop .inv .1 .1 .0)),
+      at .loop .inv .1 .1 .1,
+    )
 
 pub place-spec : {M : Type 1} → statement M
 place-spec =

@@ -10,9 +10,6 @@ use Rattle.groups.specs.Pays.{unfixed}
 use Rattle.groups.proofs.Unfixed.{unfixed-none, unfixed-next, unfixed-first}
 use Rattle.groups.proofs.paying.count_unfixed.Statement.{statement}
 use Rattle.groups.proofs.paying.count_unfixed.Tie as tie
-use Rattle.groups.proofs.paying.count_unfixed.Reads as reads
-use Rattle.groups.proofs.paying.count_unfixed.Lts as lts
-use Rattle.groups.proofs.paying.one_if_free.Reads as one-if-free-reads
 
 abbrev Inv-loop : tie.InvT-loop
 Inv-loop rows n all₀ i₀ all i =
@@ -21,15 +18,12 @@ Inv-loop rows n all₀ i₀ all i =
 abbrev μ-loop : tie.MeasureT-loop
 μ-loop rows n all₀ i₀ all i = n - i
 
--- src/paying.rt:39:5
 loop-holds : tie.Need-loop-holds Inv-loop μ-loop
 loop-holds c = (refl, (omega arith, sym unfixed-none))
 
--- src/paying.rt:40:16
 one-if-free-requires : tie.Need-one-if-free-requires Inv-loop μ-loop
 one-if-free-requires c κs = omega arith
 
--- src/paying.rt:40:9
 add-all : tie.Need-add-all Inv-loop μ-loop
 add-all c =
     let at = c .before .before in
@@ -38,15 +32,12 @@ add-all c =
     let next = unfixed-next (rowsOf words) (at .loop .i) h in
     omega (arith, at .loop .inv, next, c .one-if-free .ensures, unfixed-first (rowsOf words) (at .loop .i + 1) (omega arith))
 
--- src/paying.rt:41:9
 add-i : tie.Need-add-i Inv-loop μ-loop
 add-i c = omega arith
 
--- src/paying.rt:39:5
 loop-less : tie.Need-loop-less Inv-loop μ-loop
 loop-less c = omega arith
 
--- src/paying.rt:39:5
 loop-again : tie.Need-loop-again Inv-loop μ-loop
 loop-again c =
     let at = c .before .before in
@@ -55,7 +46,6 @@ loop-again c =
     let next = unfixed-next (rowsOf words) (at .loop .i) h in
     (refl, (omega arith, omega (arith, at .loop .inv, next, c .one-if-free .ensures)))
 
--- src/paying.rt:33:1
 returns : tie.Need-returns Inv-loop μ-loop
 returns c =
     let at = c .before in

@@ -3,19 +3,13 @@ use mathlib.Core.Path.{sym, _∙_}
 use borrow.Author.Needs.{needs}
 use Rattle.groups.proofs.paying.one_if_free.Statement.{statement}
 use Rattle.groups.proofs.paying.one_if_free.Tie as tie
-use Rattle.groups.proofs.paying.one_if_free.Reads as reads
-use Rattle.groups.proofs.paying.one_if_free.Lts as lts
-use Rattle.groups.proofs.top.fixes_top.Reads as fixes-top-reads
 
--- src/paying.rt:50:8
 fixes-top-requires : tie.Need-fixes-top-requires
 fixes-top-requires c κs = search needs
 
--- src/paying.rt:46:1
 returns : tie.Need-returns
 returns c = simp (sym (c .before .fixes-top .ensures) ∙ c .if1 .taken)
 
--- src/paying.rt:46:1
 returns-2 : tie.Need-returns-2
 returns-2 c = simp (sym (c .before .fixes-top .ensures) ∙ c .if1 .left)
 

@@ -1,5 +1,6 @@
-use Prim.Native.Nat.{ℕ, _+_, _*_, _^_, _<_, _≤_, _/_, _-_}
-use mathlib.Core.Path.{_≡_, refl, sym, ap, _∙_}
+-- `searching::grouped_route` meets its contract. The loop's invariant: what is left of the group finds what the whole table finds. The measure is how much is left.
+use Prim.Native.Nat.{ℕ, _+_, _*_, _<_, _≤_, _-_}
+use mathlib.Core.Path.{_≡_, sym, ap, _∙_}
 use native.Mathlib.Omega.{arith}
 use lib.ListN.{length, getD}
 use Rattle.tables.specs.declared.Found.the-variants.{At}
@@ -10,12 +11,6 @@ use Rattle.groups.specs.Groups.{topOf, groupOf, startOf, firstIn}
 use Rattle.groups.proofs.GroupWords.{leftAt, room-long, start-word, end-word, number-there, number-row, found-here, search-on, search-begins, search-ends}
 use Rattle.groups.proofs.searching.grouped_route.Statement.{statement}
 use Rattle.groups.proofs.searching.grouped_route.Tie as tie
-use Rattle.groups.proofs.searching.grouped_route.Reads as reads
-use Rattle.groups.proofs.searching.grouped_route.Lts as lts
-use Rattle.groups.proofs.searching.wide.Reads as wide-reads
-use Rattle.groups.proofs.top.top_of.Reads as top-of-reads
-use Rattle.tables.proofs.search.matches_at.Reads as matches-at-reads
-use Rattle.tables.proofs.search.route_at.Reads as route-at-reads
 
 abbrev Inv-loop : tie.InvT-loop
 Inv-loop rows room key g k₀ end k =
@@ -25,43 +20,34 @@ Inv-loop rows room key g k₀ end k =
 abbrev μ-loop : tie.MeasureT-loop
 μ-loop rows room key g k₀ end k = end - k
 
--- src/searching.rt:18:9
 top-of-requires : tie.Need-top-of-requires Inv-loop μ-loop
 top-of-requires c κs = tt
 
--- src/searching.rt:19:22
 mul-wide : tie.Need-mul-wide Inv-loop μ-loop
 mul-wide c = omega (arith, c .top-of .ensures)
 
--- src/searching.rt:19:22
 shared-slice-read-wide : tie.Need-shared-slice-read-wide Inv-loop μ-loop
 shared-slice-read-wide c =
     let s = c .before .before .before .before in
     omega (arith, c .before .top-of .ensures, room-long (s .args .rows .now) (s .args .room .now) (s .pre))
 
--- src/searching.rt:19:9
 wide-requires : tie.Need-wide-requires Inv-loop μ-loop
 wide-requires c κs = tt
 
--- src/searching.rt:20:25
 add-wide : tie.Need-add-wide Inv-loop μ-loop
 add-wide c = omega (arith, c .before .before .top-of .ensures)
 
--- src/searching.rt:20:20
 mul-wide-2 : tie.Need-mul-wide-2 Inv-loop μ-loop
 mul-wide-2 c = omega (arith, c .before .before .top-of .ensures)
 
--- src/searching.rt:20:20
 shared-slice-read-wide-2 : tie.Need-shared-slice-read-wide-2 Inv-loop μ-loop
 shared-slice-read-wide-2 c =
     let s = c .before .before .before .before .before .before in
     omega (arith, c .before .before .before .top-of .ensures, room-long (s .args .rows .now) (s .args .room .now) (s .pre))
 
--- src/searching.rt:20:9
 wide-requires-2 : tie.Need-wide-requires-2 Inv-loop μ-loop
 wide-requires-2 c κs = tt
 
--- src/searching.rt:21:5
 loop-holds : tie.Need-loop-holds Inv-loop μ-loop
 loop-holds c =
     let s = c .before .before .before .before .before .before .before in
@@ -71,9 +57,13 @@ loop-holds c =
     let small : g < 256 = top .ensures .1 in
     let start = c .before .before .wide .ensures ∙ start-word words (s .args .room .now) (s .pre) g (omega arith) in
     let key = s .args .key in
-    let begins = search-begins (rowsOf words) key (c .before .before .wide .result) (omega (arith, s .fits .key)) (start ∙ ap (startOf (rowsOf words)) (top .ensures .0)) in
-    (top .ensures .0, (c .wide2 .ensures ∙ end-word words (s .args .room .now) (s .pre) g small,
-    (omega (arith, start), ap (λ (h : ℕ). firstIn key (rowsOf words) (leftAt (rowsOf words) h (c .before .before .wide .result))) (top .ensures .0) ∙ begins)))
+    let begins = search-begins (rowsOf words) key (c .before .before .wide .result) (omega (arith, s .fits .key)) (start ∙ ap (startOf (rowsOf words)) (top .ensures .0)) in (
+      top .ensures .0,
+      (
+        c .wide2 .ensures ∙ end-word words (s .args .room .now) (s .pre) g small,
+        (omega (arith, start), ap (λ (h : ℕ). firstIn key (rowsOf words) (leftAt (rowsOf words) h (c .before .before .wide .result))) (top .ensures .0) ∙ begins),
+      ),
+    )
 
 -- at a turn, the next number is there and is a row's
 turn : (c : tie.In-loop Inv-loop μ-loop)
@@ -84,35 +74,29 @@ turn c =
     let s = at .before .before .before .before .before .before .before .before in
     let g = at .before .before .before .before .before .top-of .result in
     let small : g < 256 = at .before .before .before .before .before .top-of .ensures .1 in
-    let within : at .loop .k < startOf (rowsOf (s .args .rows .now)) g + length (groupOf (rowsOf (s .args .rows .now)) g) = omega (arith, at .loop .inv .1 .0, c .loop-test .taken) in
-    (number-there (s .args .rows .now) (s .args .room .now) (s .pre) g small (at .loop .k) (at .loop .inv .1 .1 .0) within,
-    number-row (s .args .rows .now) (s .args .room .now) (s .pre) g small (at .loop .k) (at .loop .inv .1 .1 .0) within)
+    let within : at .loop .k < startOf (rowsOf (s .args .rows .now)) g + length (groupOf (rowsOf (s .args .rows .now)) g) = omega (arith, at .loop .inv .1 .0, c .loop-test .taken) in (
+      number-there (s .args .rows .now) (s .args .room .now) (s .pre) g small (at .loop .k) (at .loop .inv .1 .1 .0) within,
+      number-row (s .args .rows .now) (s .args .room .now) (s .pre) g small (at .loop .k) (at .loop .inv .1 .1 .0) within,
+    )
 
--- src/searching.rt:22:27
 add-wide-2 : tie.Need-add-wide-2 Inv-loop μ-loop
 add-wide-2 c = omega (arith, turn c .0)
 
--- src/searching.rt:22:22
 mul-wide-3 : tie.Need-mul-wide-3 Inv-loop μ-loop
 mul-wide-3 c = omega (arith, turn c .0, c .before .before .before .before .before .before .before .before .before .good .1 .0)
 
--- src/searching.rt:22:22
 shared-slice-read-wide-3 : tie.Need-shared-slice-read-wide-3 Inv-loop μ-loop
 shared-slice-read-wide-3 c = turn (c .before) .0
 
--- src/searching.rt:22:13
 wide-requires-3 : tie.Need-wide-requires-3 Inv-loop μ-loop
 wide-requires-3 c κs = tt
 
--- src/searching.rt:23:12
 matches-at-requires : tie.Need-matches-at-requires Inv-loop μ-loop
 matches-at-requires c κs = omega (arith, turn (c .before .before) .1, c .wide3 .ensures)
 
--- src/searching.rt:24:35
 route-at-requires : tie.Need-route-at-requires Inv-loop μ-loop
 route-at-requires c κs = omega (arith, turn (c .before .before .before .before) .1, c .before .before .wide3 .ensures)
 
--- src/searching.rt:24:13
 returns : tie.Need-returns Inv-loop μ-loop
 returns c =
     let hit = c .before in
@@ -130,15 +114,12 @@ returns c =
     let found : firstMatch key (rowsOf words) ≡ At (n .result) = sym (at .loop .inv .1 .1 .1) ∙ here ∙ ap At (sym (n .ensures)) in
     sym (ap (matchedOf (rowsOf words)) found ∙ ap Route (match-row key words (n .result) found .1 ∙ sym (c .route-at .ensures)))
 
--- src/searching.rt:26:9
 add-k : tie.Need-add-k Inv-loop μ-loop
 add-k c = omega (arith, turn (c .before .before .before .before) .0)
 
--- src/searching.rt:21:5
 loop-less : tie.Need-loop-less Inv-loop μ-loop
 loop-less c = omega (arith, c .before .before .before .before .loop-test .taken)
 
--- src/searching.rt:21:5
 loop-again : tie.Need-loop-again Inv-loop μ-loop
 loop-again c =
     let n = c .before .before .wide3 in
@@ -154,7 +135,6 @@ loop-again c =
     let on = search-on words room (s .pre) g (top .ensures .1) (at .loop .k) (at .loop .inv .1 .1 .0) (omega (arith, at .loop .inv .1 .0, t .loop-test .taken)) key missed in
     (at .loop .inv .0, (at .loop .inv .1 .0, (omega (arith, at .loop .inv .1 .1 .0), sym on ∙ at .loop .inv .1 .1 .1)))
 
--- src/searching.rt:14:1
 returns-2 : tie.Need-returns-2 Inv-loop μ-loop
 returns-2 c =
     let at = c .before in

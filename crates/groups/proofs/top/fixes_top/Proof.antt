@@ -1,3 +1,4 @@
+-- `top::fixes_top` meets its contract.
 use Prim.Native.Nat.{ℕ}
 use mathlib.Core.Path.{sym, ap, _∙_}
 use lib.Dec.{eqb}
@@ -6,31 +7,22 @@ use Rattle.groups.specs.Groups.{fixesTop}
 use borrow.Author.Needs.{needs}
 use Rattle.groups.proofs.top.fixes_top.Statement.{statement}
 use Rattle.groups.proofs.top.fixes_top.Tie as tie
-use Rattle.groups.proofs.top.fixes_top.Reads as reads
-use Rattle.groups.proofs.top.fixes_top.Lts as lts
-use Rattle.groups.proofs.top.top_of.Reads as top-of-reads
 
--- src/top.rt:20:17
 mul-top-of : tie.Need-mul-top-of
 mul-top-of c = search needs
 
--- src/top.rt:20:17
 add-top-of : tie.Need-add-top-of
 add-top-of c = search needs
 
--- src/top.rt:20:12
 mul-top-of-2 : tie.Need-mul-top-of-2
 mul-top-of-2 c = search needs
 
--- src/top.rt:20:12
 shared-slice-read-top-of : tie.Need-shared-slice-read-top-of
 shared-slice-read-top-of c = search needs
 
--- src/top.rt:20:5
 top-of-requires : tie.Need-top-of-requires
 top-of-requires c κs = search needs
 
--- src/top.rt:16:1
 returns : tie.Need-returns
 returns c =
     let s = c .before .before .before in
