@@ -63,10 +63,10 @@ module _ (packets : ℕ) (rows : List Entry) where
     never h = simp (le-leb 64 (length rows) some, le-leb (length rows) 1024 most, le-ltb (buildSteps rows) (packets * spared rows) h)
 
     -- not even with every row in one group alone
-    pub not-without : packets ≤ (length rows * 12 + 1400) / length rows → false ≡ pays packets rows
+    pub not-without : packets ≤ (length rows * 15 + 1400) / length rows → false ≡ pays packets rows
     not-without h =
         let there : 0 < length rows = omega arith in
-        let whole : packets * length rows ≤ length rows * 12 + 1400 = le-div-iff-mul-le there .0 h in
+        let whole : packets * length rows ≤ length rows * 15 + 1400 = le-div-iff-mul-le there .0 h in
         let less : spared rows ≤ length rows = omega arith in
         never (omega (arith, whole, mul-le-mul-left packets less))
 
@@ -76,9 +76,9 @@ module _ (packets : ℕ) (rows : List Entry) where
         let product : packets * spared rows ≡ 0 = ap (λ (n : ℕ). packets * n) none ∙ mul-zero packets in
         never (omega (arith, product))
 
-    pub by-quotient : unfixed rows * 3 < length rows → ltb ((length rows * 12 + 1400 + unfixed rows * 1400) / spared rows) packets ≡ pays packets rows
+    pub by-quotient : unfixed rows * 3 < length rows → ltb ((length rows * 15 + 1400 + unfixed rows * 1400) / spared rows) packets ≡ pays packets rows
     by-quotient h =
-        let e : length rows * 12 + 1400 + unfixed rows * 1400 ≡ buildSteps rows = omega arith in
+        let e : length rows * 15 + 1400 + unfixed rows * 1400 ≡ buildSteps rows = omega arith in
         ap (λ (n : ℕ). ltb (n / spared rows) packets) e
         ∙ quotient-below (buildSteps rows) (spared rows) packets (omega arith)
         ∙ simp (le-leb 64 (length rows) some, le-leb (length rows) 1024 most)

@@ -12,16 +12,16 @@ use Rattle.groups.specs.Groups.{fixesTop}
 abbrev pub unfixed : List Entry → ℕ
 unfixed rows = total (λ (r : Entry). cond (fixesTop r) 0 1) rows
 
--- What building takes, in rows that a plain search looks at, twice as many as were measured, because a search that finds a row looks at half of them: 12 a row to count it and to write it
--- once, 1,400 for one that is written 256 times, 1,400 for the starts.
+-- What building takes, in rows that a plain search looks at, and twice what was measured, because a search that finds its row has looked at half of them: 15 a row to ask whether it pays,
+-- to count it and to write it once, 1,400 for one that is written 256 times, 1,400 for the starts.
 abbrev pub buildSteps : List Entry → ℕ
-buildSteps rows = length rows * 12 + unfixed rows * 1400 + 1400
+buildSteps rows = length rows * 15 + unfixed rows * 1400 + 1400
 
 -- What a lookup spares: it looks at no row of another group, and a row of every group, reached by its number, takes it as long as three.
 abbrev pub spared : List Entry → ℕ
 spared rows = length rows - unfixed rows * 3
 
--- 1,024 rows are a chip's most, and under 64 a plain search is nearly as fast. Building takes over 12 times what one lookup spares, so that it never pays for 12 packets or fewer. With at most
--- 1,024 rows every number but the product is below 2 ^ 21; the code divides in its place, because the packets may be any number.
+-- 1,024 rows are a chip's most, and under 64 a plain search is nearly as fast. Building takes over 15 times what one lookup spares, so that it never pays for 15 packets or fewer, and never
+-- where a third of the rows fix no top byte. With at most 1,024 rows every number but the product is below 2 ^ 21; the code divides in its place, because the packets may be any number.
 abbrev pub pays : ℕ → List Entry → Bool
 pays packets rows = leb 64 (length rows) && leb (length rows) 1024 && ltb (buildSteps rows) (packets * spared rows)

@@ -19,7 +19,7 @@ pub fn pays(packets: usize, rows: &[u32]) -> bool
     if n > 1024 {
         return false;
     }
-    let steps = n * 12 + 1400;
+    let steps = n * 15 + 1400;
     if packets <= steps / n {
         return false;
     }

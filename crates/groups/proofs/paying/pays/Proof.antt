@@ -74,7 +74,7 @@ returns-5 c =
     let rows = rowsOf (s .rows .now) in
     let many = sym (rows-many (s .rows .now)) in
     let all = at .count-unfixed .ensures in
-    (λ i. ltb ((many i * 12 + 1400 + all i * 1400) / (many i - all i * 3)) (s .packets))
+    (λ i. ltb ((many i * 15 + 1400 + all i * 1400) / (many i - all i * 3)) (s .packets))
     ∙ by-quotient (s .packets) rows (omega (arith, at .before .before .before .if1 .left, many)) (omega (arith, at .before .before .if2 .left, many)) (omega (arith, c .if4 .left, all, many))
 
 pub pays-spec : {M : Type 1} → statement M
