@@ -2,8 +2,9 @@
 use Prim.Native.Nat.{ℕ, suc, _+_, _*_, _/_, _^_}
 use mathlib.Core.Bool.{Bool, not, _||_, cond}
 use mathlib.Core.List.{List, [], _∷_, _++_}
+use mathlib.Core.Path.{_≡_}
 use lib.Dec.{eqb}
-use lib.ListN.{length, getD, drop}
+use lib.ListN.{length, getD, take, drop}
 use Rattle.lists.specs.Lists.{upTo}
 use Rattle.tables.specs.declared.Found.{Found}
 use Rattle.tables.specs.declared.Found.the-variants.{At, Nothing}
@@ -44,6 +45,10 @@ roomAfter rows room = groupsOf rows ++ drop (length (groupsOf rows)) room
 -- "257 numbers plus 256 for each row".
 abbrev pub roomFor : ℕ → ℕ
 roomFor n = 257 + 256 * n
+
+-- Room that a search is lent: none, or it holds the groups of the rows that are searched.
+abbrev pub Grouped : List Entry → List ℕ → Type 0
+Grouped rows room = (length room ≡ 0 → ⊥) → take (length (groupsOf rows)) room ≡ groupsOf rows
 
 -- The search through the rows that a list of row numbers names.
 unfoldable pub firstIn : ℕ → List Entry → List ℕ → Found
