@@ -2,6 +2,7 @@ pub mod Counting
 pub mod Filling
 pub mod GroupWords
 pub mod InOrder
+pub mod Longest
 pub mod Placing
 pub mod RowByRow
 pub mod SameRow

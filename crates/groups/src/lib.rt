@@ -1,5 +1,6 @@
 // Rows in groups by the top byte of the key, in lent room, and the search through the group of a key: the second engine beside the plain search of `tables`.
 pub mod building;
+pub mod lending;
 pub mod paying;
 pub mod searching;
 mod top;
