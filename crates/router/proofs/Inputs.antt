@@ -37,9 +37,9 @@ pub record Fine (source : ℕ) (tables : ChipTables) (t : Setting) : Type 0 wher
   pub coded : codesFine (tables .codes) (t .height * t .width) ≡ true
   pub sourced : sourceFine source ≡ true
 
-pub fine : (source : ℕ) (tables : ChipTables) (t : Setting) → firstOf (settingRefusals source tables t) ≡ 0 → Fine source tables t
-fine source tables t e =
-    let fine = not-refused (settingRefusals source tables t) refl e in
+pub fine : (source : ℕ) (tables : ChipTables) (t : Setting) (room : ℕ) → firstOf (settingRefusals source tables t room) ≡ 0 → Fine source tables t
+fine source tables t room e =
+    let fine = not-refused (settingRefusals source tables t room) refl e in
     record {
       sized = not-false _ (fine 7);
       setting = not-false _ (fine 6);
@@ -65,55 +65,55 @@ checked p source tables t hc f =
 
 -- ---- what the checks find, one after the other
 
-module _ (bytes : List ℕ) (source : ℕ) (tables : ChipTables) (t : Setting) where
+module _ (bytes : List ℕ) (source : ℕ) (tables : ChipTables) (t : Setting) (room : ℕ) where
   found : ℕ → Taken
   found n = cond (eqb n 0) (record { refusal = 0; packet = packetAt bytes }) (notTaken n)
 
-  pub refused-setting : (n : ℕ) → firstOf (settingRefusals source tables t) ≡ n → (n ≡ 0 → ⊥) → checkedOf bytes source tables t ≡ notTaken n
+  pub refused-setting : (n : ℕ) → firstOf (settingRefusals source tables t room) ≡ n → (n ≡ 0 → ⊥) → checkedOf bytes source tables t room ≡ notTaken n
   unfolding checkedOf found
   refused-setting n e some =
-      let first : firstOf (passRefusals bytes source tables t) ≡ n =
-      first-append (settingRefusals source tables t) (packetRefusals bytes) refl ∙ simp (e, ne-eqb n 0 some) in
+      let first : firstOf (passRefusals bytes source tables t room) ≡ n =
+      first-append (settingRefusals source tables t room) (packetRefusals bytes) refl ∙ simp (e, ne-eqb n 0 some) in
       ap found first ∙ simp (ne-eqb n 0 some)
 
-  module _ (fine-setting : firstOf (settingRefusals source tables t) ≡ 0) where
-    by-packet : checkedOf bytes source tables t ≡ found (cond (eqb (takenOf bytes .refusal) 0) (cond (isDirect (controlAt bytes)) 4 0) (takenOf bytes .refusal))
+  module _ (fine-setting : firstOf (settingRefusals source tables t room) ≡ 0) where
+    by-packet : checkedOf bytes source tables t room ≡ found (cond (eqb (takenOf bytes .refusal) 0) (cond (isDirect (controlAt bytes)) 4 0) (takenOf bytes .refusal))
     unfolding checkedOf found
     by-packet =
-        let first : firstOf (passRefusals bytes source tables t) ≡ firstOf (packetRefusals bytes) =
-        first-append (settingRefusals source tables t) (packetRefusals bytes) refl ∙ simp fine-setting in
+        let first : firstOf (passRefusals bytes source tables t room) ≡ firstOf (packetRefusals bytes) =
+        first-append (settingRefusals source tables t room) (packetRefusals bytes) refl ∙ simp fine-setting in
         ap found (first ∙ packet-first bytes)
 
-    pub refused-packet : (takenOf bytes .refusal ≡ 0 → ⊥) → checkedOf bytes source tables t ≡ takenOf bytes
+    pub refused-packet : (takenOf bytes .refusal ≡ 0 → ⊥) → checkedOf bytes source tables t room ≡ takenOf bytes
     unfolding found
     refused-packet some = by-packet ∙ simp (ne-eqb _ _ some) (sym (take-refused bytes some))
 
-    pub refused-direct : takenOf bytes .refusal ≡ 0 → isDirect (controlAt bytes) ≡ true → checkedOf bytes source tables t ≡ notTaken 4
+    pub refused-direct : takenOf bytes .refusal ≡ 0 → isDirect (controlAt bytes) ≡ true → checkedOf bytes source tables t room ≡ notTaken 4
     unfolding found
     refused-direct e d = by-packet ∙ simp (eq-eqb _ _ e, d)
 
-    pub accepted : takenOf bytes .refusal ≡ 0 → isDirect (controlAt bytes) ≡ false → checkedOf bytes source tables t ≡ record { refusal = 0; packet = packetAt bytes }
+    pub accepted : takenOf bytes .refusal ≡ 0 → isDirect (controlAt bytes) ≡ false → checkedOf bytes source tables t room ≡ record { refusal = 0; packet = packetAt bytes }
     unfolding found
     accepted e d = by-packet ∙ simp (eq-eqb _ _ e, d)
 
 -- where nothing is refused, each test has passed, and the packet is the one that stands in the bytes
-pub record Passed (bytes : List ℕ) (source : ℕ) (tables : ChipTables) (t : Setting) : Type 0 where
+pub record Passed (bytes : List ℕ) (source : ℕ) (tables : ChipTables) (t : Setting) (room : ℕ) : Type 0 where
   pub tests : Fine source tables t
-  pub packet : checkedOf bytes source tables t ≡ record { refusal = 0; packet = packetAt bytes }
+  pub packet : checkedOf bytes source tables t room ≡ record { refusal = 0; packet = packetAt bytes }
 
-pub passed : (bytes : List ℕ) (source : ℕ) (tables : ChipTables) (t : Setting) → checkedOf bytes source tables t .refusal ≡ 0 → Passed bytes source tables t
+pub passed : (bytes : List ℕ) (source : ℕ) (tables : ChipTables) (t : Setting) (room : ℕ) → checkedOf bytes source tables t room .refusal ≡ 0 → Passed bytes source tables t room
 unfolding checkedOf
-passed bytes source tables t e = go (firstOf (settingRefusals source tables t)) refl (firstOf (passRefusals bytes source tables t)) refl
+passed bytes source tables t room e = go (firstOf (settingRefusals source tables t room)) refl (firstOf (passRefusals bytes source tables t room)) refl
   where
-    go : (n : ℕ) → firstOf (settingRefusals source tables t) ≡ n → (m : ℕ) → firstOf (passRefusals bytes source tables t) ≡ m → Passed bytes source tables t
-    go zero f zero g = record { tests = fine source tables t f; packet = simp (eq-eqb _ _ g) }
+    go : (n : ℕ) → firstOf (settingRefusals source tables t room) ≡ n → (m : ℕ) → firstOf (passRefusals bytes source tables t room) ≡ m → Passed bytes source tables t room
+    go zero f zero g = record { tests = fine source tables t room f; packet = simp (eq-eqb _ _ g) }
     go zero f (suc m) g =
         let some : suc m ≡ 0 → ⊥ = λ z. omega arith in
-        let wrong : checkedOf bytes source tables t .refusal ≡ suc m = simp (g, ne-eqb _ _ some) in
+        let wrong : checkedOf bytes source tables t room .refusal ≡ suc m = simp (g, ne-eqb _ _ some) in
         absurd (omega arith)
     go (suc n) f m g =
         let some : suc n ≡ 0 → ⊥ = λ z. omega arith in
-        let wrong : checkedOf bytes source tables t .refusal ≡ suc n = ap (λ (x : Taken). x .refusal) (refused-setting bytes source tables t (suc n) f some) in
+        let wrong : checkedOf bytes source tables t room .refusal ≡ suc n = ap (λ (x : Taken). x .refusal) (refused-setting bytes source tables t room (suc n) f some) in
         absurd (omega arith)
 
 -- ---- which of the tables' numbers it is
@@ -132,9 +132,9 @@ all-fine few routes fixed e =
     (u .0, (u .1, t .1))
 
 -- 17 comes after 16
-pub few-at-17 : (bytes : List ℕ) (source : ℕ) (tables : ChipTables) (t : Setting) → checkedOf bytes source tables t .refusal ≡ 17 → length (tables .rows) / 3 ≤ 1024
+pub few-at-17 : (bytes : List ℕ) (source : ℕ) (tables : ChipTables) (t : Setting) (room : ℕ) → checkedOf bytes source tables t room .refusal ≡ 17 → length (tables .rows) / 3 ≤ 1024
 unfolding checkedOf
-few-at-17 bytes source tables t e = leb-true _ _ (go (sizeFine (t .width) (t .height)) (settingFine t) (fewRows (length (tables .rows) / 3)) _ (by-number (firstOf (passRefusals bytes source tables t)) (eqb (firstOf (passRefusals bytes source tables t)) 0) e))
+few-at-17 bytes source tables t room e = leb-true _ _ (go (sizeFine (t .width) (t .height)) (settingFine t) (fewRows (length (tables .rows) / 3)) _ (by-number (firstOf (passRefusals bytes source tables t room)) (eqb (firstOf (passRefusals bytes source tables t room)) 0) e))
   where
     by-number : (n : ℕ) (b : Bool) → cond {A = Taken} b (record { refusal = 0; packet = packetAt bytes }) (notTaken n) .refusal ≡ 17 → n ≡ 17
     by-number n true f = absurd (omega arith)

@@ -1,6 +1,7 @@
 // The one-router call: it takes anything, and answers or refuses.
 use super::Pass;
 use super::showing::shown;
+use groups::lending::short_for;
 use packet::Packet;
 use packet::Taken;
 use packet::bytes::not_taken;
@@ -31,15 +32,25 @@ ghost use Prim.Native.Nat.{_/_, _≤_};
 ghost use Rattle.packet.specs.Refusal.{firstOf};
 ghost use Rattle.tables.specs.Accept.{fewRows, routesFine, routeFine, rowsFine};
 ghost use Rattle.tables.specs.Tables.{chipTables};
+ghost use Rattle.groups.specs.Room.{roomShort};
 ghost use Rattle.steps.specs.Deciding.{Checked, noOutcome, outcomeOf};
 ghost use Rattle.router.specs.Call.{settingFine, sourceFine, settingRefusals, checkedOf, placeOf, passOf};
 
 // One pass of one router. Refusals, the first that applies: 7 size, 6 phase, ready set or monitor, 16 too many rows, 17 route bits,
-// 18 fixed route, 11 codes, 1 source, 2 length, 4 NN with T = 1.
-pub fn pass(bytes: &[u8], source: u32, rows: &[u32], codes: &[u8], fixed: u32, t: Setting) -> Pass
-    ensures { λ r. ⌜ r ≡ passOf (now (bytes .entry)) source (chipTables (now (rows .entry)) (now (codes .entry)) fixed) t ⌝ }
+// 18 fixed route, 11 codes, 29 room, 1 source, 2 length, 4 NN with T = 1. Groups never pay for one packet: of the room that is lent only
+// the length counts, and it stays as it came.
+pub fn pass(
+    bytes: &[u8],
+    source: u32,
+    rows: &[u32],
+    codes: &[u8],
+    fixed: u32,
+    t: Setting,
+    room: usize,
+) -> Pass
+    ensures { λ r. ⌜ r ≡ passOf (now (bytes .entry)) source (chipTables (now (rows .entry)) (now (codes .entry)) fixed) t room ⌝ }
 {
-    let taken = checked(bytes, source, rows, codes, fixed, t);
+    let taken = checked(bytes, source, rows, codes, fixed, t, room);
     let p = taken.packet;
     let o = outcome_unless(taken.refusal, p, source, rows, codes, fixed, t);
     let place = place_of(taken.refusal, rows);
@@ -64,7 +75,7 @@ fn outcome_unless(
         let errors = errors_of(p, source, t.phase);
         let stamped = stamped_of(p, source, errors, t.phase);
         let goes = by_rows(errors, p.control);
-        let found = looked_up(goes, p.word, rows);
+        let found = looked_up(goes, p.word, rows, &rows[..0]);
         let wanted = wanted_given(errors, p, source, found, codes, fixed, t);
         decide(errors, stamped, source, t.phase, wanted, t.ready)
     } else {
@@ -73,10 +84,18 @@ fn outcome_unless(
 }
 
 // The packet where nothing is refused, or the first refusal.
-fn checked(bytes: &[u8], source: u32, rows: &[u32], codes: &[u8], fixed: u32, t: Setting) -> Taken
-    ensures { λ r. ⌜ r ≡ checkedOf (now (bytes .entry)) source (chipTables (now (rows .entry)) (now (codes .entry)) fixed) t ⌝ }
+fn checked(
+    bytes: &[u8],
+    source: u32,
+    rows: &[u32],
+    codes: &[u8],
+    fixed: u32,
+    t: Setting,
+    room: usize,
+) -> Taken
+    ensures { λ r. ⌜ r ≡ checkedOf (now (bytes .entry)) source (chipTables (now (rows .entry)) (now (codes .entry)) fixed) t room ⌝ }
 {
-    let refusal = setting_refusal(source, rows, codes, fixed, t);
+    let refusal = setting_refusal(source, rows, codes, fixed, t, room);
     if refusal != 0 {
         return not_taken(refusal);
     }
@@ -91,8 +110,15 @@ fn checked(bytes: &[u8], source: u32, rows: &[u32], codes: &[u8], fixed: u32, t:
     taken
 }
 
-fn setting_refusal(source: u32, rows: &[u32], codes: &[u8], fixed: u32, t: Setting) -> u32
-    ensures { λ r. ⌜ r ≡ firstOf (settingRefusals source (chipTables (now (rows .entry)) (now (codes .entry)) fixed) t) ⌝ }
+fn setting_refusal(
+    source: u32,
+    rows: &[u32],
+    codes: &[u8],
+    fixed: u32,
+    t: Setting,
+    room: usize,
+) -> u32
+    ensures { λ r. ⌜ r ≡ firstOf (settingRefusals source (chipTables (now (rows .entry)) (now (codes .entry)) fixed) t room) ⌝ }
 {
     if !size_fine(t.width, t.height) {
         return 7;
@@ -105,6 +131,17 @@ fn setting_refusal(source: u32, rows: &[u32], codes: &[u8], fixed: u32, t: Setti
     }
     if !codes_fine(codes, chips(t.width, t.height)) {
         return 11;
+    }
+    last_refusal(source, rows.len() / 3, room)
+}
+
+// What comes after the tables: the room for so many rows, and the source.
+fn last_refusal(source: u32, rows: usize, room: usize) -> u32
+    requires { ⌜ rows ≤ 1024 ⌝ }
+    ensures { λ r. ⌜ r ≡ cond (roomShort room rows) 29 (cond (not (sourceFine source)) 1 0) ⌝ }
+{
+    if short_for(room, rows) {
+        return 29;
     }
     if !source_fine(source) {
         return 1;

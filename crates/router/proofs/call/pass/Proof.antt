@@ -19,7 +19,7 @@ outcome-unless-requires : tie.Need-outcome-unless-requires
 outcome-unless-requires c κs =
     let a = c .before .before .before .before .before .args in
     λ none.
-    let t = passed (c .before .before .before .before .before .args .bytes .now) (c .before .before .before .before .before .args .source) (chipTables (a .rows .now) (a .codes .now) (a .fixed)) (c .before .before .before .before .before .args .t) (sym (ap (λ (x : Taken). x .refusal) (c .before .checked .ensures)) ∙ none) in
+    let t = passed (c .before .before .before .before .before .args .bytes .now) (c .before .before .before .before .before .args .source) (chipTables (a .rows .now) (a .codes .now) (a .fixed)) (c .before .before .before .before .before .args .t) (a .room) (sym (ap (λ (x : Taken). x .refusal) (c .before .checked .ensures)) ∙ none) in
     let control : c .before .checked .result .packet .control < 256 =
     rw (c .before .checked .ensures ∙ t .packet) (mod-lt _ (lit< tt)) in
     checked _ _ (chipTables (a .rows .now) (a .codes .now) (a .fixed)) _ control (t .tests)
@@ -27,7 +27,7 @@ outcome-unless-requires c κs =
 place-of-requires : tie.Need-place-of-requires
 place-of-requires c κs =
     let a = c .before .before .before .before .before .before .args in
-    λ e. few-at-17 (a .bytes .now) (a .source) (chipTables (a .rows .now) (a .codes .now) (a .fixed)) (a .t) (sym (ap (λ (x : Taken). x .refusal) (c .before .before .checked .ensures)) ∙ e)
+    λ e. few-at-17 (a .bytes .now) (a .source) (chipTables (a .rows .now) (a .codes .now) (a .fixed)) (a .t) (a .room) (sym (ap (λ (x : Taken). x .refusal) (c .before .before .checked .ensures)) ∙ e)
 
 shown-requires : tie.Need-shown-requires
 shown-requires c κs =

@@ -1,6 +1,6 @@
 use mathlib.Core.Path.{sym, ap, _∙_}
 use Prim.Native.Nat.{ℕ, _/_}
-use borrow.Author.Tests.{not-true, not-false}
+use borrow.Author.Tests.{leb-true, not-true, not-false}
 use lib.ListN.{length}
 use Rattle.tables.specs.Accept.{fewRows, routesFine, routeFine, codesFine}
 use Rattle.router.proofs.Inputs.{lent-number, all-fine}
@@ -50,28 +50,21 @@ returns-4 c =
     let each = all-fine (fewRows (length (a .rows .now) / 3)) (routesFine (a .rows .now)) (routeFine (a .fixed)) lent in
     simp (sized, set, each .0, each .1 .0, each .1 .1, coded)
 
-source-fine-requires : tie.Need-source-fine-requires
-source-fine-requires c κs = search needs
+last-refusal-requires : tie.Need-last-refusal-requires
+last-refusal-requires c κs =
+    let a = c .before .before .before .before .before .before .before .before .before .before .before .args in
+    let lent = sym (c .before .before .before .before .rows-lent .ensures) ∙ not-false _ (c .before .before .before .if3 .left) in
+    leb-true _ _ (all-fine (fewRows (length (a .rows .now) / 3)) (routesFine (a .rows .now)) (routeFine (a .fixed)) lent .0)
 
 returns-5 : tie.Need-returns-5
 returns-5 c =
-    let a = c .before .before .before .before .before .before .before .before .before .before .before .before .before .args in
-    let sized = sym (c .before .before .before .before .before .before .before .before .before .before .size-fine .ensures) ∙ not-false _ (c .before .before .before .before .before .before .before .before .before .if1 .left) in
-    let set = sym (c .before .before .before .before .before .before .before .before .setting-fine .ensures) ∙ not-false _ (c .before .before .before .before .before .before .before .if2 .left) in
-    let lent = sym (c .before .before .before .before .before .before .rows-lent .ensures) ∙ not-false _ (c .before .before .before .before .before .if3 .left) in
-    let coded = sym (c .before .before .before .codes-fine .ensures ∙ ap (λ (n : ℕ). codesFine (a .codes .now) n) (c .before .before .before .before .chips .ensures)) ∙ not-false _ (c .before .before .if4 .left) in
+    let a = c .before .before .before .before .before .before .before .before .before .before .before .before .args in
+    let sized = sym (c .before .before .before .before .before .before .before .before .before .size-fine .ensures) ∙ not-false _ (c .before .before .before .before .before .before .before .before .if1 .left) in
+    let set = sym (c .before .before .before .before .before .before .before .setting-fine .ensures) ∙ not-false _ (c .before .before .before .before .before .before .if2 .left) in
+    let lent = sym (c .before .before .before .before .before .rows-lent .ensures) ∙ not-false _ (c .before .before .before .before .if3 .left) in
+    let coded = sym (c .before .before .codes-fine .ensures ∙ ap (λ (n : ℕ). codesFine (a .codes .now) n) (c .before .before .before .chips .ensures)) ∙ not-false _ (c .before .if4 .left) in
     let each = all-fine (fewRows (length (a .rows .now) / 3)) (routesFine (a .rows .now)) (routeFine (a .fixed)) lent in
-    simp (sized, set, each .0, each .1 .0, each .1 .1, coded, sym (c .before .source-fine .ensures) ∙ not-true _ (c .if5 .taken))
-
-returns-6 : tie.Need-returns-6
-returns-6 c =
-    let a = c .before .before .before .before .before .before .before .before .before .before .before .before .before .args in
-    let sized = sym (c .before .before .before .before .before .before .before .before .before .before .size-fine .ensures) ∙ not-false _ (c .before .before .before .before .before .before .before .before .before .if1 .left) in
-    let set = sym (c .before .before .before .before .before .before .before .before .setting-fine .ensures) ∙ not-false _ (c .before .before .before .before .before .before .before .if2 .left) in
-    let lent = sym (c .before .before .before .before .before .before .rows-lent .ensures) ∙ not-false _ (c .before .before .before .before .before .if3 .left) in
-    let coded = sym (c .before .before .before .codes-fine .ensures ∙ ap (λ (n : ℕ). codesFine (a .codes .now) n) (c .before .before .before .before .chips .ensures)) ∙ not-false _ (c .before .before .if4 .left) in
-    let each = all-fine (fewRows (length (a .rows .now) / 3)) (routesFine (a .rows .now)) (routeFine (a .fixed)) lent in
-    simp (sized, set, each .0, each .1 .0, each .1 .1, coded, sym (c .before .source-fine .ensures) ∙ not-false _ (c .if5 .left))
+    c .last-refusal .ensures ∙ simp (sized, set, each .0, each .1 .0, each .1 .1, coded)
 
 pub setting-refusal-spec : {M : Type 1} → statement M
 setting-refusal-spec =
@@ -87,6 +80,5 @@ setting-refusal-spec =
     chips-requires
     codes-fine-requires
     returns-4
-    source-fine-requires
-    returns-5
-    returns-6)
+    last-refusal-requires
+    returns-5)
