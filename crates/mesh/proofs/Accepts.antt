@@ -12,6 +12,7 @@ use Rattle.packet.specs.Control.{isDirect}
 use Rattle.packet.specs.Refusal.{firstOf}
 use Rattle.packet.proofs.First.{not-refused}
 use Rattle.tables.specs.Accept.{allCodes, allFixed, startsRight, rowsFew, fixedFine, codesFine}
+use Rattle.groups.specs.Room.{longest, roomShort}
 use Rattle.mesh.specs.Steps.{Tables}
 use Rattle.mesh.specs.Sound.{Passable}
 use Rattle.mesh.specs.Calls.{Lent, injectRefusals, roundRefusals}
@@ -29,6 +30,7 @@ pub record RoundGoes (held : Bool) (chips flying : ℕ) (t : Tables) (size : ℕ
   pub holds : held ≡ true
   pub lent : Lent t chips
   pub room : flying * 6 ≤ size
+  pub enough : roomShort (t .room) (longest (t .starts) chips) ≡ false
 
 pub round-goes : (holds : Bool) (chips flying : ℕ) (t : Tables) (room : ℕ) → firstOf (roundRefusals holds chips flying t room) ≡ 0 → RoundGoes holds chips flying t room
 round-goes holds chips flying t room e =
@@ -37,6 +39,7 @@ round-goes holds chips flying t room e =
       holds = not-false _ (fine 8);
       lent = lent-tables t chips (not-false _ (fine 15)) (not-false _ (fine 16)) (not-false _ (fine 18)) (not-false _ (fine 11));
       room = ltb-false _ _ (fine 10);
+      enough = fine 29;
     }
 
 -- a packet that is accepted may pass

@@ -9,6 +9,7 @@ use Rattle.packet.specs.Bytes.{packetAt, nothing}
 use Rattle.packet.specs.Refusal.{Refusal, firstOf, refuse, packetRefusals}
 use Rattle.tables.specs.Accept.{startsRight, rowsFew, startsFine, routesFine, fixedFine, codesFine}
 use Rattle.tables.specs.Places.{startsPlace, crowdPlace, routePlace, fixedPlace}
+use Rattle.groups.specs.Room.{longest, roomShort}
 use Rattle.steps.specs.Errors.{flag}
 use Rattle.kept.specs.Keeping.{empty}
 use Rattle.mesh.specs.declared.Added.{Added}
@@ -22,14 +23,16 @@ use Rattle.mesh.specs.Mesh.{Chip, Mesh, fresh}
 use Rattle.mesh.specs.Steps.{Tables, Going, setOut, withChip, injected, rounded}
 use Rattle.mesh.specs.Weights.{inFlight}
 
--- ---- refusals: "injection 8, 9, 15, 16, 17, 18, 11, 10, 2, 4; round 8, 15, 16, 17, 18, 11, 10". `holds` says whether the buffer holds a mesh.
+-- ---- refusals: "injection 8, 9, 15, 16, 17, 18, 11, 29, 10, 2, 4; round 8, 15, 16, 17, 18, 11, 29, 10". `holds` says whether the buffer holds a mesh.
 
--- "15 bad starts, 16 too many rows, 17 route bits, in 5's old place and that order; a bad fixed route .. 18, after 17"; 11: "P2P table of wrong size, or a code above 7".
+-- "15 bad starts, 16 too many rows, 17 route bits, in 5's old place and that order; a bad fixed route .. 18, after 17"; 11: "P2P table of wrong size, or a code above 7";
+-- "29 room under 257 numbers plus 256 for each row of the longest table".
 abbrev pub tablesRefusals : Tables → ℕ → List Refusal
 tablesRefusals t chips =
     refuse (not (startsRight (t .starts) chips (length (t .rows) / 3))) 15 ∷ refuse (not (rowsFew (t .starts))) 16 ∷ refuse (not (routesFine (t .rows))) 17
     ∷ refuse (not (fixedFine (t .fixed) chips)) 18
     ∷ refuse (not (codesFine (t .codes) (chips * chips))) 11
+    ∷ refuse (roomShort (t .room) (longest (t .starts) chips)) 29
     ∷ []
 
 -- "Each with the first place where it holds": "0 but for 15 to 18".
