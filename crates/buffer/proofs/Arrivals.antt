@@ -198,7 +198,7 @@ module _ (t : Tables) (l log : List ℕ) (n : ℕ) (l₁ log₁ : List ℕ) (n�
         (subst (λ (xs : List (Arrival (Unit {0}))). Passed t xs l₁ log₁ n₁ l₂ log₂ n₂) (aside-same t (upTo (asideBy l chip) k) l log n l₁ log₁ n₁ p chip k) q)
 
   module _ (k m : ℕ) (h : k < m) (d : DueAside t (upTo (asideFrom l) m) l log n) (p : Passed t (upTo (asideFrom l) k) l log n l₁ log₁ n₁) where
-    at-same : asideFrom l₁ k ≡ asideFrom l k
+    pub at-same : asideFrom l₁ k ≡ asideFrom l k
     at-same = upto-same (asideBy l₁ k) (asideBy l k) 6 (λ s hs. aside-same t (upTo (asideFrom l) k) l log n l₁ log₁ n₁ p k s)
 
     pub chips-due : DueAside t (asideFrom l₁ k) l₁ log₁ n₁

@@ -5,6 +5,7 @@ pub mod ChipParts
 pub mod FineSteps
 pub mod Flights
 pub mod Goings
+pub mod GroupsBuilt
 pub mod Headers
 pub mod HoldsMesh
 pub mod InjectCall

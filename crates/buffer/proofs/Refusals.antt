@@ -124,6 +124,11 @@ lent-none true true false fixed rest e = absurd (let z : _≡_ {A = ℕ} 0 1 = c
 lent-none true false routes fixed rest e = absurd (let z : _≡_ {A = ℕ} 0 1 = cc in omega arith)
 lent-none false few routes fixed rest e = absurd (let z : _≡_ {A = ℕ} 0 1 = cc in omega arith)
 
+pub lent-starts : (right few routes fixed : Bool) → ((right && few) && routes && fixed) ≡ true → (right && few) ≡ true
+lent-starts true true routes fixed e = refl
+lent-starts true false routes fixed e = absurd (let z : _≡_ {A = ℕ} 0 1 = cc in omega arith)
+lent-starts false few routes fixed e = absurd (let z : _≡_ {A = ℕ} 0 1 = cc in omega arith)
+
 -- 16 comes after 15, and 17 and 18 after both
 pub tables-sized : (t : Tables) (chips n : ℕ) → n ≡ firstOf (tablesRefusals t chips) → Sized (t .starts) chips (length (t .rows) / 3) n
 tables-sized t chips n e =

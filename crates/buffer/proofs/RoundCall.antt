@@ -1,11 +1,11 @@
 -- A round that is accepted: what is due, and what the three steps of the code leave together.
 use mathlib.Core.Path.{_≡_, sym, ap, _∙_, subst}
-use mathlib.Core.Bool.{true, and-eq-true-iff}
+use mathlib.Core.Bool.{Bool, true, cond, and-eq-true-iff}
 use mathlib.Core.List.{List, [], foldl}
 use Prim.Native.Nat.{ℕ, _*_, _≤_, _<_}
 use native.Mathlib.Omega.{arith}
 use lib.Dec.{lit<}
-use borrow.Author.Tests.{leb-true}
+use borrow.Author.Tests.{leb-true, eq-eqb, ne-eqb}
 use Rattle.packet.specs.Refusal.{firstOf}
 use Rattle.tables.proofs.Sizes as sizes
 use lib.ListN.{length, getD, take, drop}
@@ -22,7 +22,11 @@ use Rattle.buffer.specs.Aside.{AsideUpto}
 use Rattle.buffer.specs.PassesInTurn.{asideFrom, goingIn, DueAside, Passed}
 use Rattle.mesh.specs.Calls.{Lent, roundRefusals, placeIn}
 use Rattle.mesh.specs.declared.Added.{Added}
-use Rattle.buffer.specs.Leaving.{Moves, roundLeft, overWords}
+use Rattle.buffer.specs.Leaving.{Moves, roundLeft, roundRoom, overWords}
+use Rattle.groups.specs.Room.{longest}
+use Rattle.groups.proofs.Longest.{room-enough}
+use Rattle.mesh.specs.Room.{roomUpto, roomAfterRound}
+use Rattle.buffer.specs.Grouping.{RoomFits}
 use Rattle.lists.proofs.Alls.{all-getD, all-weaken}
 use Rattle.lists.proofs.Totals.{total-ones, total-most}
 use Rattle.buffer.proofs.HoldsMesh.{holds-head, held-few, words-enough}
@@ -31,7 +35,7 @@ use Rattle.mesh.proofs.SoundArrivals.{sound-arrivals}
 use Rattle.mesh.proofs.SoundSteps.{sound-rounded}
 use Rattle.buffer.proofs.SoundWords.{holds-sound, holds-states, sound-holds}
 use Rattle.buffer.proofs.Headers.{Head, head-range, head-same, head-fine-same}
-use Rattle.buffer.proofs.RoundWords.{mesh-aside, aside-arrivals, few-aside, mesh-over, length-over, over-behind}
+use Rattle.buffer.proofs.RoundWords.{mesh-aside, at-aside, aside-arrivals, few-aside, mesh-over, length-over, over-behind}
 use Rattle.buffer.proofs.Leaving.{refused-leaves, accepted-leaves, accepted-log}
 use Rattle.mesh.proofs.Accepts.{RoundGoes, round-goes}
 use Rattle.links.specs.Offsets.{widthAt, heightAt, elapsedAt, headerLong, stateAt, chipLong, chipPlace}
@@ -80,6 +84,9 @@ module _ (t : Tables) (l log : List ℕ) where
       subst (λ (a : Added). Moves l log (roundLeft l t (length log)) a l log) (λ i. record { refusal = sym e i; added = 0; place = sym (told ∙ ap (placeIn t (chipsOf l)) e) i })
       (refused-leaves n (placeIn t (chipsOf l) n) (meshOf l) (rounded t same (meshOf l)) (λ z. some (e ∙ z)) l log)
 
+  pub round-room-refused : (r : ℕ) → r ≡ firstOf (roundRefusals (holdsMesh l) (chipsOf l) (inFlight (meshOf l)) t (length log)) → (r ≡ 0 → ⊥) → (room : List ℕ) → room ≡ roundRoom l t (length log) room
+  round-room-refused r e some room = ap (λ (b : Bool). cond b (roomAfterRound t (meshOf l) room) room) (sym (ne-eqb _ 0 (λ z. some (e ∙ z))))
+
 module _ (t : Tables) (l log : List ℕ) (none : firstOf (roundRefusals (holdsMesh l) (chipsOf l) (inFlight (meshOf l)) t (length log)) ≡ 0) (l₁ : List ℕ) (u : AsideUpto (chipsOf l) (chipsOf l) l l₁) where
   go : RoundGoes (holdsMesh l) (chipsOf l) (inFlight (meshOf l)) t (length log)
   go = round-goes (holdsMesh l) (chipsOf l) (inFlight (meshOf l)) t (length log) none
@@ -109,6 +116,17 @@ module _ (t : Tables) (l log : List ℕ) (none : firstOf (roundRefusals (holdsMe
         };
         few = few-aside l l₁ u (held-head l (go .holds)) (held-few l (go .holds));
       }
+
+  -- ---- the room for groups: enough for each table, and left as the definition says
+
+  pub round-fits : RoomFits (t .room) (longest (t .starts) (chipsOf l))
+  round-fits = room-enough (t .room) (longest (t .starts) (chipsOf l)) (go .enough)
+
+  pub round-room : (room room′ : List ℕ) → room′ ≡ roomUpto t (λ chip. length (asideFrom l₁ chip)) (chipsOf l) room → room′ ≡ roundRoom l t (length log) room
+  unfolding meshOf
+  round-room room room′ e =
+      e ∙ (λ i. roomUpto t (λ chip. length (at-aside l l₁ u (held-head l (go .holds)) chip i)) (chipsOf l) room)
+      ∙ ap (λ (b : Bool). cond b (roomAfterRound t (meshOf l) room) room) (sym (eq-eqb _ 0 none))
 
   -- ---- what is left
 

@@ -68,7 +68,7 @@ module _ (l l₁ : List ℕ) (u : AsideUpto (chipsOf l) (chipsOf l) l l₁) wher
         ∙ u .done from there .aside j (opposite-there source)
         ∙ sym (ap (λ (c : Chip (Unit {0})). getD (c .lines) j idle .held) (mesh-chip l from there) ∙ ap (λ (x : _). x .held) (line-at j (opposite-there source) (chipWords from l))))
 
-    at-aside : (chip : ℕ) → asideFrom l₁ chip ≡ arrivingAt (meshOf l) chip
+    pub at-aside : (chip : ℕ) → asideFrom l₁ chip ≡ arrivingAt (meshOf l) chip
     unfolding upTo
     at-aside chip = upto-same (asideBy l₁ chip) (arrivingBy (meshOf l) chip) 6 (λ s hs. by-aside chip s hs)
 

@@ -3,16 +3,19 @@ use Prim.Native.Nat.{ℕ, _+_}
 use mathlib.Core.Path.{_≡_}
 use mathlib.Core.Bool.{Bool, true, cond}
 use mathlib.Core.List.{List}
-use lib.Dec.{ltb}
+use lib.Dec.{eqb, ltb}
 use lib.ListN.{length, getD, drop, set}
-use Rattle.buffer.specs.Layout.{meshOf, wordsOf}
+use Rattle.buffer.specs.Layout.{meshOf, chipsOf, wordsOf}
 use Rattle.buffer.specs.Holding.{holdsMesh}
 use Rattle.links.specs.Offsets.{roundsAt, phaseAt, elapsedAt, stateAt}
 use Rattle.links.specs.Phase.{nextPhase}
 use Rattle.links.specs.LineWords.{stateOf}
 use Rattle.mesh.specs.Steps.{Tables, same}
 use Rattle.mesh.specs.declared.Added.{Added}
-use Rattle.mesh.specs.Calls.{Left, addedOf, loggedOn, injecting, rounding, linking, emptying}
+use Rattle.packet.specs.Refusal.{firstOf}
+use Rattle.mesh.specs.Weights.{inFlight}
+use Rattle.mesh.specs.Room.{roomAfterRound}
+use Rattle.mesh.specs.Calls.{Left, addedOf, loggedOn, roundRefusals, injecting, rounding, linking, emptying}
 
 -- A mesh buffer before and after a call that leaves r. "A refusal returns its number ..., and lent memory stays as it came." "Each buffer left by opening
 -- or by an accepted call holds one [a mesh]". Words past the needed length are never touched.
@@ -38,6 +41,10 @@ injectLeft l t room chip bytes = injecting (holdsMesh l) t same (meshOf l) room 
 
 abbrev pub roundLeft : List ℕ → Tables → ℕ → Left (Unit {0})
 roundLeft l t room = rounding (holdsMesh l) t same (meshOf l) room
+
+-- What a round does to the room for groups: "a refused call leaves the room as it came".
+abbrev pub roundRoom : List ℕ → Tables → ℕ → List ℕ → List ℕ
+roundRoom l t log room = cond (eqb (firstOf (roundRefusals (holdsMesh l) (chipsOf l) (inFlight (meshOf l)) t log)) 0) (roomAfterRound t (meshOf l) room) room
 
 abbrev pub linkLeft : List ℕ → ℕ → ℕ → Bool → Left (Unit {0})
 linkLeft l chip link up = linking (holdsMesh l) (meshOf l) chip link up

@@ -1,5 +1,6 @@
 pub mod Aside
 pub mod ChipWords
+pub mod Grouping
 pub mod Held
 pub mod Holding
 pub mod Layout

@@ -1,21 +1,25 @@
 // All passes of a round, one after the other: what was set aside, chips by number, arrival links 0 to 5, oldest first.
 use super::going::pass_one;
+use super::grouping::group;
 use links::across::aside_place;
 use links::line::packet_at;
 use links::offsets::HEIGHT;
 use links::offsets::PLACE;
 use links::offsets::WIDTH;
 ghost use mathlib.Core.Path.{_≡_};
-ghost use lib.ListN.{getD};
-ghost use Prim.Native.Nat.{_≤_, _<_};
+ghost use lib.ListN.{length, getD};
+ghost use Prim.Native.Nat.{_+_, _-_, _≤_, _<_};
 ghost use Rattle.links.specs.Offsets.{widthAt, heightAt};
 ghost use Rattle.links.specs.Words.{asidePlace};
+ghost use Rattle.groups.specs.Room.{longest};
 ghost use Rattle.mesh.specs.Steps.{tablesOf};
+ghost use Rattle.mesh.specs.Room.{roomAt, roomUpto};
+ghost use Rattle.buffer.specs.Grouping.{GroupedAt, RoomFits};
 ghost use Rattle.buffer.specs.PassesInTurn.{asideBy, asideFrom, DueAside, Passed};
 ghost use Rattle.lists.specs.Lists.{upTo};
 ghost use Rattle.buffer.specs.Layout.{chipsOf};
 
-// At the first chips.
+// At the first chips, each by its groups where they pay.
 pub fn pass_chips(
     mesh: &mut [u32],
     log: &mut [u32],
@@ -24,20 +28,42 @@ pub fn pass_chips(
     starts: &[u32],
     codes: &[u8],
     fixed: &[u32],
+    room: &mut [u32],
 ) -> usize
-    requires { ⌜ (count ≤ chipsOf (now mesh)) × DueAside (tablesOf (now rows) (now starts) (now codes) (now fixed)) (upTo (asideFrom (now mesh)) count) (now mesh) (now log) 0 ⌝ }
-    ensures { λ r. ⌜ Passed (tablesOf (now (rows .entry)) (now (starts .entry)) (now (codes .entry)) (now (fixed .entry))) (upTo (asideFrom (now (mesh .entry))) count) (now (mesh .entry)) (now (log .entry)) 0 (now (mesh .exit)) (now (log .exit)) r ⌝ }
+    requires { ⌜ (count ≤ chipsOf (now mesh)) × (DueAside (tablesOf (now rows) (now starts) (now codes) (now fixed) 0) (upTo (asideFrom (now mesh)) count) (now mesh) (now log) 0 × RoomFits (length (now room)) (longest (now starts) count)) ⌝ }
+    ensures { λ r. ⌜ Passed (tablesOf (now (rows .entry)) (now (starts .entry)) (now (codes .entry)) (now (fixed .entry)) 0) (upTo (asideFrom (now (mesh .entry))) count) (now (mesh .entry)) (now (log .entry)) 0 (now (mesh .exit)) (now (log .exit)) r ⌝ }
+    ensures { λ _. ⌜ now (room .exit) ≡ roomUpto (tablesOf (now (rows .entry)) (now (starts .entry)) (now (codes .entry)) (now (fixed .entry)) (length (now (room .entry)))) (λ chip. length (asideFrom (now (mesh .entry)) chip)) count (now (room .entry)) ⌝ }
 {
     let mut n = 0;
     let mut chip = 0;
     while chip < count {
-        n = pass_links(mesh, log, n, chip, rows, starts, codes, fixed);
+        n = pass_chip(mesh, log, n, chip, rows, starts, codes, fixed, room);
         chip += 1;
     }
     n
 }
 
-// At one chip.
+// At one chip: its groups are built first, where they pay.
+fn pass_chip(
+    mesh: &mut [u32],
+    log: &mut [u32],
+    n: usize,
+    chip: usize,
+    rows: &[u32],
+    starts: &[u32],
+    codes: &[u8],
+    fixed: &[u32],
+    room: &mut [u32],
+) -> usize
+    requires { ⌜ ((chip < chipsOf (now mesh)) × DueAside (tablesOf (now rows) (now starts) (now codes) (now fixed) 0) (asideFrom (now mesh) chip) (now mesh) (now log) n) × RoomFits (length (now room)) (getD (now starts) (chip + 1) 0 - getD (now starts) chip 0) ⌝ }
+    ensures { λ r. ⌜ Passed (tablesOf (now (rows .entry)) (now (starts .entry)) (now (codes .entry)) (now (fixed .entry)) 0) (asideFrom (now (mesh .entry)) chip) (now (mesh .entry)) (now (log .entry)) n (now (mesh .exit)) (now (log .exit)) r ⌝ }
+    ensures { λ _. ⌜ now (room .exit) ≡ roomAt (tablesOf (now (rows .entry)) (now (starts .entry)) (now (codes .entry)) (now (fixed .entry)) 0) (length (asideFrom (now (mesh .entry)) chip)) chip (now (room .entry)) ⌝ }
+{
+    let used = group(mesh, chip, rows, starts, room);
+    pass_links(mesh, log, n, chip, rows, starts, codes, fixed, &room[..used])
+}
+
+// At one chip, by its groups or by the plain search.
 fn pass_links(
     mesh: &mut [u32],
     log: &mut [u32],
@@ -47,9 +73,10 @@ fn pass_links(
     starts: &[u32],
     codes: &[u8],
     fixed: &[u32],
+    room: &[u32],
 ) -> usize
-    requires { ⌜ (chip < chipsOf (now mesh)) × DueAside (tablesOf (now rows) (now starts) (now codes) (now fixed)) (asideFrom (now mesh) chip) (now mesh) (now log) n ⌝ }
-    ensures { λ r. ⌜ Passed (tablesOf (now (rows .entry)) (now (starts .entry)) (now (codes .entry)) (now (fixed .entry))) (asideFrom (now (mesh .entry)) chip) (now (mesh .entry)) (now (log .entry)) n (now (mesh .exit)) (now (log .exit)) r ⌝ }
+    requires { ⌜ (chip < chipsOf (now mesh)) × (DueAside (tablesOf (now rows) (now starts) (now codes) (now fixed) 0) (asideFrom (now mesh) chip) (now mesh) (now log) n × GroupedAt (now rows) (now starts) chip (now room)) ⌝ }
+    ensures { λ r. ⌜ Passed (tablesOf (now (rows .entry)) (now (starts .entry)) (now (codes .entry)) (now (fixed .entry)) 0) (asideFrom (now (mesh .entry)) chip) (now (mesh .entry)) (now (log .entry)) n (now (mesh .exit)) (now (log .exit)) r ⌝ }
 {
     let width = mesh[WIDTH];
     let height = mesh[HEIGHT];
@@ -70,6 +97,7 @@ fn pass_links(
             starts,
             codes,
             fixed,
+            room,
         );
         source += 1;
     }
@@ -88,16 +116,17 @@ fn pass_link(
     starts: &[u32],
     codes: &[u8],
     fixed: &[u32],
+    room: &[u32],
 ) -> usize
-    requires { ⌜ ((at ≡ asidePlace (getD (now mesh) widthAt 0) (getD (now mesh) heightAt 0) chip source) × (source < 6)) × DueAside (tablesOf (now rows) (now starts) (now codes) (now fixed)) (asideBy (now mesh) chip source) (now mesh) (now log) n ⌝ }
-    ensures { λ r. ⌜ Passed (tablesOf (now (rows .entry)) (now (starts .entry)) (now (codes .entry)) (now (fixed .entry))) (asideBy (now (mesh .entry)) chip source) (now (mesh .entry)) (now (log .entry)) n (now (mesh .exit)) (now (log .exit)) r ⌝ }
+    requires { ⌜ ((at ≡ asidePlace (getD (now mesh) widthAt 0) (getD (now mesh) heightAt 0) chip source) × (source < 6)) × (DueAside (tablesOf (now rows) (now starts) (now codes) (now fixed) 0) (asideBy (now mesh) chip source) (now mesh) (now log) n × GroupedAt (now rows) (now starts) chip (now room)) ⌝ }
+    ensures { λ r. ⌜ Passed (tablesOf (now (rows .entry)) (now (starts .entry)) (now (codes .entry)) (now (fixed .entry)) 0) (asideBy (now (mesh .entry)) chip source) (now (mesh .entry)) (now (log .entry)) n (now (mesh .exit)) (now (log .exit)) r ⌝ }
 {
     let count = mesh[at] as usize;
     let mut done = n;
     let mut i = 0;
     while i < count {
         let p = packet_at(mesh, at + 1 + i * PLACE);
-        done = pass_one(mesh, log, done, chip, source, p, rows, starts, codes, fixed);
+        done = pass_one(mesh, log, done, chip, source, p, rows, starts, codes, fixed, room);
         i += 1;
     }
     done

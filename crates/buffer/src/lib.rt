@@ -5,6 +5,7 @@ pub mod changing;
 mod chip;
 mod flight;
 mod going;
+mod grouping;
 pub mod holding;
 mod logging;
 pub mod looking;

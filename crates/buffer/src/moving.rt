@@ -21,12 +21,12 @@ ghost use mathlib.Core.Path.{_≡_};
 ghost use lib.ListN.{length, getD};
 ghost use Prim.Native.Nat.{_≤_};
 ghost use Rattle.mesh.specs.Steps.{tablesOf};
-ghost use Rattle.buffer.specs.Leaving.{Moves, injectLeft, roundLeft, overWords};
+ghost use Rattle.buffer.specs.Leaving.{Moves, injectLeft, roundLeft, roundRoom, overWords};
 ghost use Rattle.buffer.specs.Testing.{testedOf};
 ghost use Rattle.links.specs.Offsets.{elapsedAt, headerLong};
 
 // Passes a local packet at a chip, at once. Refusals, the first that applies: 8 no mesh, 9 chip, 15 starts, 16 too
-// many rows, 17 route bits, 18 fixed routes, 11 codes, 10 log, 2 length, 4 NN with T = 1.
+// many rows, 17 route bits, 18 fixed routes, 11 codes, 29 room, 10 log, 2 length, 4 NN with T = 1.
 pub fn inject(
     mesh: &mut [u32],
     log: &mut [u32],
@@ -36,15 +36,16 @@ pub fn inject(
     starts: &[u32],
     codes: &[u8],
     fixed: &[u32],
+    room: usize,
 ) -> Added
-    ensures { λ r. ⌜ Moves (now (mesh .entry)) (now (log .entry)) (injectLeft (now (mesh .entry)) (tablesOf (now (rows .entry)) (now (starts .entry)) (now (codes .entry)) (now (fixed .entry))) (length (now (log .entry))) chip (now (bytes .entry))) r (now (mesh .exit)) (now (log .exit)) ⌝ }
+    ensures { λ r. ⌜ Moves (now (mesh .entry)) (now (log .entry)) (injectLeft (now (mesh .entry)) (tablesOf (now (rows .entry)) (now (starts .entry)) (now (codes .entry)) (now (fixed .entry)) room) (length (now (log .entry))) chip (now (bytes .entry))) r (now (mesh .exit)) (now (log .exit)) ⌝ }
 {
-    let tested = test(mesh, rows, starts, codes, fixed);
-    inject_tested(mesh, log, chip, bytes, rows, starts, codes, fixed, tested)
+    let tested = test(mesh, rows, starts, codes, fixed, room);
+    inject_tested(mesh, log, chip, bytes, rows, starts, codes, fixed, room, tested)
 }
 
 // Passes all that is in flight; then, after each F rounds, the phase steps on. Refusals, the first that applies: 8 no mesh,
-// 15 starts, 16 too many rows, 17 route bits, 18 fixed routes, 11 codes, 10 log.
+// 15 starts, 16 too many rows, 17 route bits, 18 fixed routes, 11 codes, 29 room, 10 log.
 pub fn round(
     mesh: &mut [u32],
     log: &mut [u32],
@@ -52,11 +53,13 @@ pub fn round(
     starts: &[u32],
     codes: &[u8],
     fixed: &[u32],
+    room: &mut [u32],
 ) -> Added
-    ensures { λ r. ⌜ Moves (now (mesh .entry)) (now (log .entry)) (roundLeft (now (mesh .entry)) (tablesOf (now (rows .entry)) (now (starts .entry)) (now (codes .entry)) (now (fixed .entry))) (length (now (log .entry)))) r (now (mesh .exit)) (now (log .exit)) ⌝ }
+    ensures { λ r. ⌜ Moves (now (mesh .entry)) (now (log .entry)) (roundLeft (now (mesh .entry)) (tablesOf (now (rows .entry)) (now (starts .entry)) (now (codes .entry)) (now (fixed .entry)) (length (now (room .entry)))) (length (now (log .entry)))) r (now (mesh .exit)) (now (log .exit)) ⌝ }
+    ensures { λ _. ⌜ now (room .exit) ≡ roundRoom (now (mesh .entry)) (tablesOf (now (rows .entry)) (now (starts .entry)) (now (codes .entry)) (now (fixed .entry)) (length (now (room .entry)))) (length (now (log .entry))) (now (room .entry)) ⌝ }
 {
-    let tested = test(mesh, rows, starts, codes, fixed);
-    round_tested(mesh, log, rows, starts, codes, fixed, tested)
+    let tested = test(mesh, rows, starts, codes, fixed, room.len());
+    round_tested(mesh, log, rows, starts, codes, fixed, room, tested)
 }
 
 // An injection where buffer and tables were tested.
@@ -69,10 +72,11 @@ pub fn inject_tested(
     starts: &[u32],
     codes: &[u8],
     fixed: &[u32],
+    room: usize,
     tested: Tested,
 ) -> Added
-    requires { ⌜ tested ≡ testedOf (now mesh) (tablesOf (now rows) (now starts) (now codes) (now fixed)) ⌝ }
-    ensures { λ r. ⌜ Moves (now (mesh .entry)) (now (log .entry)) (injectLeft (now (mesh .entry)) (tablesOf (now (rows .entry)) (now (starts .entry)) (now (codes .entry)) (now (fixed .entry))) (length (now (log .entry))) chip (now (bytes .entry))) r (now (mesh .exit)) (now (log .exit)) ⌝ }
+    requires { ⌜ tested ≡ testedOf (now mesh) (tablesOf (now rows) (now starts) (now codes) (now fixed) room) ⌝ }
+    ensures { λ r. ⌜ Moves (now (mesh .entry)) (now (log .entry)) (injectLeft (now (mesh .entry)) (tablesOf (now (rows .entry)) (now (starts .entry)) (now (codes .entry)) (now (fixed .entry)) room) (length (now (log .entry))) chip (now (bytes .entry))) r (now (mesh .exit)) (now (log .exit)) ⌝ }
 {
     let refusal = inject_refusal(mesh, tested, log.len(), chip, bytes);
     if refusal != 0 {
@@ -95,6 +99,7 @@ pub fn inject_tested(
         starts,
         codes,
         fixed,
+        &rows[..0],
     );
     let added = n as u32;
     Added {
@@ -112,10 +117,12 @@ pub fn round_tested(
     starts: &[u32],
     codes: &[u8],
     fixed: &[u32],
+    room: &mut [u32],
     tested: Tested,
 ) -> Added
-    requires { ⌜ tested ≡ testedOf (now mesh) (tablesOf (now rows) (now starts) (now codes) (now fixed)) ⌝ }
-    ensures { λ r. ⌜ Moves (now (mesh .entry)) (now (log .entry)) (roundLeft (now (mesh .entry)) (tablesOf (now (rows .entry)) (now (starts .entry)) (now (codes .entry)) (now (fixed .entry))) (length (now (log .entry)))) r (now (mesh .exit)) (now (log .exit)) ⌝ }
+    requires { ⌜ tested ≡ testedOf (now mesh) (tablesOf (now rows) (now starts) (now codes) (now fixed) (length (now room))) ⌝ }
+    ensures { λ r. ⌜ Moves (now (mesh .entry)) (now (log .entry)) (roundLeft (now (mesh .entry)) (tablesOf (now (rows .entry)) (now (starts .entry)) (now (codes .entry)) (now (fixed .entry)) (length (now (room .entry)))) (length (now (log .entry)))) r (now (mesh .exit)) (now (log .exit)) ⌝ }
+    ensures { λ _. ⌜ now (room .exit) ≡ roundRoom (now (mesh .entry)) (tablesOf (now (rows .entry)) (now (starts .entry)) (now (codes .entry)) (now (fixed .entry)) (length (now (room .entry)))) (length (now (log .entry))) (now (room .entry)) ⌝ }
 {
     let refusal = round_refusal(mesh, tested, log.len());
     if refusal != 0 {
@@ -127,7 +134,7 @@ pub fn round_tested(
     }
     let all = chips(mesh[WIDTH], mesh[HEIGHT]);
     set_aside(mesh, all);
-    let n = pass_chips(mesh, log, all, rows, starts, codes, fixed);
+    let n = pass_chips(mesh, log, all, rows, starts, codes, fixed, room);
     round_over(mesh);
     let added = n as u32;
     Added {

@@ -13,7 +13,7 @@ ghost use Rattle.mesh.specs.Weights.{inFlight};
 ghost use Rattle.mesh.specs.Calls.{chipRefusals, numberRefusals};
 ghost use Rattle.buffer.specs.Testing.{injectNumber, roundNumber, placeTold};
 
-// Injection: 8 no mesh, 9 chip, 15 starts, 16 too many rows, 17 route bits, 18 fixed routes, 11 codes, 10 log, 2 length, 4 NN with T = 1.
+// Injection: 8 no mesh, 9 chip, 15 starts, 16 too many rows, 17 route bits, 18 fixed routes, 11 codes, 29 room, 10 log, 2 length, 4 NN with T = 1.
 pub fn inject_refusal(mesh: &[u32], tested: Tested, room: usize, chip: u32, bytes: &[u8]) -> u32
     requires { ⌜ tested .holds ≡ holdsMesh (now mesh) ⌝ }
     ensures { λ r. ⌜ r ≡ injectNumber tested (chipsOf (now (mesh .entry))) chip room (now (bytes .entry)) ⌝ }
@@ -33,7 +33,7 @@ pub fn inject_refusal(mesh: &[u32], tested: Tested, room: usize, chip: u32, byte
     packet_refusal(bytes)
 }
 
-// A round: 8 no mesh, 15 starts, 16 too many rows, 17 route bits, 18 fixed routes, 11 codes, 10 log.
+// A round: 8 no mesh, 15 starts, 16 too many rows, 17 route bits, 18 fixed routes, 11 codes, 29 room, 10 log.
 pub fn round_refusal(mesh: &[u32], tested: Tested, room: usize) -> u32
     requires { ⌜ tested .holds ≡ holdsMesh (now mesh) ⌝ }
     ensures { λ r. ⌜ r ≡ roundNumber tested (inFlight (meshOf (now (mesh .entry)))) room ⌝ }

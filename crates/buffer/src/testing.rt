@@ -1,5 +1,6 @@
 // What is tested of the memory that is lent: once for a call, and once for a run of calls that leaves tables and mesh as good as they were.
 use super::holding::holds;
+use groups::lending::room_short;
 use links::offsets::HEIGHT;
 use links::offsets::WIDTH;
 use tables::accept::codes_fine;
@@ -29,12 +30,19 @@ pub struct Tested {
     pub place: u32,
 }
 
-pub fn test(mesh: &[u32], rows: &[u32], starts: &[u32], codes: &[u8], fixed: &[u32]) -> Tested
-    ensures { λ r. ⌜ r ≡ testedOf (now (mesh .entry)) (tablesOf (now (rows .entry)) (now (starts .entry)) (now (codes .entry)) (now (fixed .entry))) ⌝ }
+pub fn test(
+    mesh: &[u32],
+    rows: &[u32],
+    starts: &[u32],
+    codes: &[u8],
+    fixed: &[u32],
+    room: usize,
+) -> Tested
+    ensures { λ r. ⌜ r ≡ testedOf (now (mesh .entry)) (tablesOf (now (rows .entry)) (now (starts .entry)) (now (codes .entry)) (now (fixed .entry)) room) ⌝ }
 {
     if holds(mesh) {
         let all = chips(mesh[WIDTH], mesh[HEIGHT]);
-        let tables = tables_refusal(rows, starts, codes, fixed, all);
+        let tables = tables_refusal(rows, starts, codes, fixed, all, room);
         let place = place_in(rows, starts, fixed, all, tables);
         Tested {
             holds: true,
@@ -50,15 +58,25 @@ pub fn test(mesh: &[u32], rows: &[u32], starts: &[u32], codes: &[u8], fixed: &[u
     }
 }
 
-fn tables_refusal(rows: &[u32], starts: &[u32], codes: &[u8], fixed: &[u32], chips: usize) -> u32
+fn tables_refusal(
+    rows: &[u32],
+    starts: &[u32],
+    codes: &[u8],
+    fixed: &[u32],
+    chips: usize,
+    room: usize,
+) -> u32
     requires { ⌜ (1 ≤ chips) × (chips ≤ 144) ⌝ }
-    ensures { λ r. ⌜ r ≡ firstOf (tablesRefusals (tablesOf (now (rows .entry)) (now (starts .entry)) (now (codes .entry)) (now (fixed .entry))) chips) ⌝ }
+    ensures { λ r. ⌜ r ≡ firstOf (tablesRefusals (tablesOf (now (rows .entry)) (now (starts .entry)) (now (codes .entry)) (now (fixed .entry)) room) chips) ⌝ }
 {
     if !rows_lent(rows, starts, fixed, chips) {
         return lent_number(rows, starts, chips);
     }
     if !codes_fine(codes, chips * chips) {
         return 11;
+    }
+    if room_short(room, starts, chips) {
+        return 29;
     }
     0
 }
@@ -93,7 +111,7 @@ fn lent_number(rows: &[u32], starts: &[u32], chips: usize) -> u32
 // The first place where the tables are refused for a number, 0 for a number that has none.
 fn place_in(rows: &[u32], starts: &[u32], fixed: &[u32], chips: usize, number: u32) -> u32
     requires { ⌜ (1 ≤ chips) × ((chips ≤ 144) × Sized (now starts) chips (length (now rows) / 3) number) ⌝ }
-    ensures { λ r. ⌜ r ≡ placeIn (tablesOf (now (rows .entry)) (now (starts .entry)) [] (now (fixed .entry))) chips number ⌝ }
+    ensures { λ r. ⌜ r ≡ placeIn (tablesOf (now (rows .entry)) (now (starts .entry)) [] (now (fixed .entry)) 0) chips number ⌝ }
 {
     if number == 15 {
         return starts_place(starts, chips, rows.len() / 3) as u32;

@@ -1,31 +1,42 @@
-use mathlib.Core.Path.{_≡_, sym, subst}
+-- `arriving::pass_chips` meets its contract. The loop's invariant: the chips before `chip` have passed what was set aside for them, and the room is as they leave it.
+use mathlib.Core.Path.{_≡_, refl, sym, ap, _∙_, subst}
 use native.Mathlib.Omega.{arith}
 use native.Mathlib.Numerals.{add-one}
-use Prim.Native.Nat.{ℕ, _-_, _≤_, _<_}
+use Prim.Native.Nat.{ℕ, _+_, _-_, _≤_, _<_}
 use native.Mathlib.Nat.{lt-of-lt-of-le}
+use lib.ListN.{length, getD}
 use Rattle.mesh.specs.Steps.{tablesOf}
+use Rattle.mesh.specs.Room.{roomUpto}
 use Rattle.lists.specs.Lists.{upTo}
 use Rattle.buffer.specs.PassesInTurn.{asideFrom, Passed}
+use Rattle.buffer.specs.Grouping.{RoomFits}
+use Rattle.buffer.proofs.GroupsBuilt.{fits-each, room-none, room-next}
 use Rattle.buffer.proofs.Arrivals as arrivals
 use Rattle.buffer.proofs.arriving.pass_chips.Statement.{statement}
 use Rattle.buffer.proofs.arriving.pass_chips.Tie as tie
 
 abbrev Inv-loop : tie.InvT-loop
-Inv-loop mesh₀ log₀ count rows starts codes fixed n₀ chip₀ mesh log n chip = (chip ≤ count) × Passed (tablesOf rows starts codes fixed) (upTo (asideFrom mesh₀) chip) mesh₀ log₀ 0 mesh log n
+Inv-loop mesh₀ log₀ count rows starts codes fixed room₀ n₀ chip₀ mesh log room n chip = 
+    (chip ≤ count)
+    × (Passed (tablesOf rows starts codes fixed 0) (upTo (asideFrom mesh₀) chip) mesh₀ log₀ 0 mesh log n
+    × ((length room ≡ length room₀) × (room ≡ roomUpto (tablesOf rows starts codes fixed (length room₀)) (λ chip. length (asideFrom mesh₀ chip)) chip room₀)))
 
 abbrev μ-loop : tie.MeasureT-loop
-μ-loop mesh₀ log₀ count rows starts codes fixed n₀ chip₀ mesh log n chip = count - chip
+μ-loop mesh₀ log₀ count rows starts codes fixed room₀ n₀ chip₀ mesh log room n chip = count - chip
 
 loop-holds : tie.Need-loop-holds Inv-loop μ-loop
-loop-holds c = (omega arith, arrivals.passed-begin _ _ _ _ _)
+loop-holds c =
+    let a = c .before .before .before .before .before .before .before .args in
+    (omega arith, (arrivals.passed-begin _ _ _ _ _, (refl, room-none (a .rows .now) (a .starts .now) (a .codes .now) (a .fixed .now) (length (a .room .now)) (λ chip. length (asideFrom (a .mesh .now) chip)) (a .room .now))))
 
-pass-links-requires : tie.Need-pass-links-requires Inv-loop μ-loop
-pass-links-requires c κs =
-    let at = c .before .before .before .loop in
-    let hi : at .chip < c .before .before .before .before .before .before .before .before .before .before .args .count = c .before .before .loop-test .taken in
-    let pre = c .before .before .before .before .before .before .before .before .before .before .pre in (
-      subst (λ (k : ℕ). at .chip < k) (sym (arrivals.chips-same _ _ _ _ _ _ _ _ (at .inv .1))) (lt-of-lt-of-le hi (pre .0)),
-      arrivals.chips-due _ _ _ _ _ _ _ (at .chip) (c .before .before .before .before .before .before .before .before .before .before .args .count) hi (pre .1) (at .inv .1),
+pass-chip-requires : tie.Need-pass-chip-requires Inv-loop μ-loop
+pass-chip-requires c κs =
+    let at = c .before .before .before .before .loop in
+    let a = c .before .before .before .before .before .before .before .before .before .before .before .before .args in
+    let hi : at .chip < a .count = c .before .before .before .loop-test .taken in
+    let pre = c .before .before .before .before .before .before .before .before .before .before .before .before .pre in (
+      (subst (λ (k : ℕ). at .chip < k) (sym (arrivals.chips-same _ _ _ _ _ _ _ _ (at .inv .1 .0))) (lt-of-lt-of-le hi (pre .0)), arrivals.chips-due _ _ _ _ _ _ _ (at .chip) (a .count) hi (pre .1 .0) (at .inv .1 .0)),
+      subst (λ (k : ℕ). RoomFits k (getD (a .starts .now) (at .chip + 1) 0 - getD (a .starts .now) (at .chip) 0)) (sym (at .inv .1 .1 .0)) (fits-each (a .starts .now) (a .count) (at .chip) (length (a .room .now)) hi (pre .1 .1)),
     )
 
 add-chip : tie.Need-add-chip Inv-loop μ-loop
@@ -36,18 +47,33 @@ loop-less c = omega arith
 
 loop-again : tie.Need-loop-again Inv-loop μ-loop
 loop-again c =
-    let at = c .before .before .before .before .before .before .before .before .loop in
-    let hi : at .chip < c .before .before .before .before .before .before .before .before .before .before .before .before .before .before .before .args .count = c .before .before .before .before .before .before .before .loop-test .taken in
-    (omega arith, rw add-one (arrivals.chips-step _ _ _ _ _ _ _ (at .chip) (c .before .before .before .before .before .before .before .before .before .before .before .before .before .before .before .args .count) hi (c .before .before .before .before .before .before .before .before .before .before .before .before .before .before .before .pre .1) (at .inv .1) _ _ _ (c .before .before .before .before .pass-links .ensures)))
+    let at = c .before .before .before .before .before .before .before .before .before .before .before .loop in
+    let a = c .before .before .before .before .before .before .before .before .before .before .before .before .before .before .before .before .before .before .before .args in
+    let hi : at .chip < a .count = c .before .before .before .before .before .before .before .before .before .before .loop-test .taken in
+    let pre = c .before .before .before .before .before .before .before .before .before .before .before .before .before .before .before .before .before .before .before .pre in
+    let passed = c .before .before .before .before .before .before .pass-chip in
+    let same = ap length (arrivals.at-same _ _ _ _ _ _ _ (at .chip) (a .count) hi (pre .1 .0) (at .inv .1 .0)) in (
+      omega arith,
+      (
+        rw add-one (arrivals.chips-step _ _ _ _ _ _ _ (at .chip) (a .count) hi (pre .1 .0) (at .inv .1 .0) _ _ _ (passed .ensures .0)),
+        (
+          passed .kept .1 .1 .1 .1 .1 .1 .1 .1 .0 ∙ at .inv .1 .1 .0,
+          rw add-one (passed .ensures .1 ∙ room-next (a .rows .now) (a .starts .now) (a .codes .now) (a .fixed .now) (length (a .room .now)) (λ chip. length (asideFrom (a .mesh .now) chip)) (at .chip) _ (a .room .now) (at .room) same (at .inv .1 .1 .1)),
+        ),
+      ),
+    )
 
 same-length : tie.Need-same-length Inv-loop μ-loop
-same-length c = c .before .loop .inv .1 .long
+same-length c = c .before .loop .inv .1 .0 .long
 
 same-length-2 : tie.Need-same-length-2 Inv-loop μ-loop
-same-length-2 c = c .before .loop .inv .1 .room
+same-length-2 c = c .before .loop .inv .1 .0 .room
+
+same-length-3 : tie.Need-same-length-3 Inv-loop μ-loop
+same-length-3 c = c .before .loop .inv .1 .1 .0
 
 returns : tie.Need-returns Inv-loop μ-loop
-returns c = let e : c .before .loop .chip ≡ c .before .before .before .before .before .before .before .before .args .count = omega arith in rw e at (c .before .loop .inv .1)
+returns c = let e : c .before .loop .chip ≡ c .before .before .before .before .before .before .before .before .before .args .count = omega arith in (rw e at (c .before .loop .inv .1 .0), rw e at (c .before .loop .inv .1 .1 .1))
 
 pub pass-chips-spec : {M : Type 1} → statement M
 pass-chips-spec =
@@ -56,10 +82,11 @@ pass-chips-spec =
     Inv-loop
     μ-loop
     loop-holds
-    pass-links-requires
+    pass-chip-requires
     add-chip
     loop-less
     loop-again
     same-length
     same-length-2
+    same-length-3
     returns)

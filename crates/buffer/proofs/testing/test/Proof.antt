@@ -33,14 +33,14 @@ place-in-requires : tie.Need-place-in-requires
 place-in-requires c κs =
     let a = c .before .before .before .before .before .before .before .before .before .before .before .args in
     let sized = holds-size (a .mesh .now) (sym (c .before .before .before .before .before .holds .ensures) ∙ c .before .before .before .before .if1 .taken) in
-    let number = tables-sized (tablesOf (a .rows .now) (a .starts .now) (a .codes .now) (a .fixed .now)) (c .before .chips .result) (c .tables-refusal .result) (c .tables-refusal .ensures) in
+    let number = tables-sized (tablesOf (a .rows .now) (a .starts .now) (a .codes .now) (a .fixed .now) (a .room)) (c .before .chips .result) (c .tables-refusal .result) (c .tables-refusal .ensures) in
     (rw (c .before .chips .ensures) (chips-some _ _ sized), (rw (c .before .chips .ensures) (chips-small _ _ sized), number))
 
 returns : tie.Need-returns
 returns c =
     let a = c .before .before .before .before .before .before .before .before .before .before .before .before .args in
     let h = sym (c .before .before .before .before .before .before .holds .ensures) ∙ c .before .before .before .before .before .if1 .taken in
-    let t = tablesOf (a .rows .now) (a .starts .now) (a .codes .now) (a .fixed .now) in
+    let t = tablesOf (a .rows .now) (a .starts .now) (a .codes .now) (a .fixed .now) (a .room) in
     let number = c .before .tables-refusal .ensures ∙ ap (λ (n : ℕ). firstOf (tablesRefusals t n)) (c .before .before .chips .ensures) in
     let place = c .place-in .ensures ∙ ap₂ (placeIn t) (c .before .before .chips .ensures) number in
     simp h (λ i. record { holds = true; tables = number i; place = place i })
