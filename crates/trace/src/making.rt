@@ -22,10 +22,11 @@ pub fn make(
     starts: &[u32],
     codes: &[u8],
     fixed: &[u32],
+    room: &mut [u32],
     tested: Tested,
 ) -> Added
-    requires { ⌜ (call .length ≤ 9) × (tested ≡ testedOf (now mesh) (tablesOf (now rows) (now starts) (now codes) (now fixed))) ⌝ }
-    ensures { λ r. ⌜ Moves (now (mesh .entry)) (now (log .entry)) (madeLeft (now (mesh .entry)) (tablesOf (now (rows .entry)) (now (starts .entry)) (now (codes .entry)) (now (fixed .entry))) (length (now (log .entry))) call) r (now (mesh .exit)) (now (log .exit)) ⌝ }
+    requires { ⌜ (call .length ≤ 9) × (tested ≡ testedOf (now mesh) (tablesOf (now rows) (now starts) (now codes) (now fixed) (length (now room)))) ⌝ }
+    ensures { λ r. ⌜ Moves (now (mesh .entry)) (now (log .entry)) (madeLeft (now (mesh .entry)) (tablesOf (now (rows .entry)) (now (starts .entry)) (now (codes .entry)) (now (fixed .entry)) (length (now (room .entry)))) (length (now (log .entry))) call) r (now (mesh .exit)) (now (log .exit)) ⌝ }
 {
     let kind = call.kind;
     match kind {
@@ -42,10 +43,11 @@ pub fn make(
                 starts,
                 codes,
                 fixed,
+                room.len(),
                 tested,
             )
         }
-        2 => round_tested(mesh, log, rows, starts, codes, fixed, tested),
+        2 => round_tested(mesh, log, rows, starts, codes, fixed, room, tested),
         3 => {
             let refusal = set_link_tested(mesh, call.chip, call.link, call.up == 1, tested.holds);
             Added {

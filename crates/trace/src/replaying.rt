@@ -20,10 +20,11 @@ pub fn replay(
     starts: &[u32],
     codes: &[u8],
     fixed: &[u32],
+    room: &mut [u32],
 ) -> Replayed
-    ensures { λ r. ⌜ Replays (now (mesh .entry)) (now (mesh .exit)) (now (log .entry)) (now (log .exit)) r (replayOf (now (mesh .entry)) (tablesOf (now (rows .entry)) (now (starts .entry)) (now (codes .entry)) (now (fixed .entry))) (length (now (log .entry))) (now (trace .entry))) ⌝ }
+    ensures { λ r. ⌜ Replays (now (mesh .entry)) (now (mesh .exit)) (now (log .entry)) (now (log .exit)) r (replayOf (now (mesh .entry)) (tablesOf (now (rows .entry)) (now (starts .entry)) (now (codes .entry)) (now (fixed .entry)) (length (now (room .entry)))) (length (now (log .entry))) (now (trace .entry))) ⌝ }
 {
-    let tested = test(mesh, rows, starts, codes, fixed);
+    let tested = test(mesh, rows, starts, codes, fixed, room.len());
     let mut at = 0;
     let mut added = 0;
     while at < trace.len() {
@@ -36,6 +37,7 @@ pub fn replay(
             starts,
             codes,
             fixed,
+            room,
             tested,
         );
         if done.refusal != 0 {
@@ -73,10 +75,11 @@ fn replay_one(
     starts: &[u32],
     codes: &[u8],
     fixed: &[u32],
+    room: &mut [u32],
     tested: Tested,
 ) -> Done
-    requires { ⌜ tested ≡ testedOf (now mesh) (tablesOf (now rows) (now starts) (now codes) (now fixed)) ⌝ }
-    ensures { λ r. ⌜ OneDone (tablesOf (now (rows .entry)) (now (starts .entry)) (now (codes .entry)) (now (fixed .entry))) (now (trace .entry)) (now (mesh .entry)) (now (log .entry)) (now (mesh .exit)) (now (log .exit)) r ⌝ }
+    requires { ⌜ tested ≡ testedOf (now mesh) (tablesOf (now rows) (now starts) (now codes) (now fixed) (length (now room))) ⌝ }
+    ensures { λ r. ⌜ OneDone (tablesOf (now (rows .entry)) (now (starts .entry)) (now (codes .entry)) (now (fixed .entry)) (length (now (room .entry)))) (now (trace .entry)) (now (mesh .entry)) (now (log .entry)) (now (mesh .exit)) (now (log .exit)) r ⌝ }
 {
     let record = read_record(trace);
     if record.refusal != 0 {
@@ -88,7 +91,7 @@ fn replay_one(
         };
     }
     let call = record.call;
-    let made = make(mesh, log, call, rows, starts, codes, fixed, tested);
+    let made = make(mesh, log, call, rows, starts, codes, fixed, room, tested);
     Done {
         refusal: made.refusal,
         length: record.length,

@@ -1,4 +1,5 @@
 use borrow.Author.Needs.{needs}
+use lib.ListN.{length}
 use Rattle.mesh.specs.Steps.{tablesOf}
 use Rattle.trace.proofs.DoneRecords.{read-packet, record-refused, record-made}
 use Rattle.trace.proofs.replaying.replay_one.Statement.{statement}
@@ -9,14 +10,14 @@ read-record-requires c κs = search needs
 
 returns : tie.Need-returns
 returns c =
-    let s = c .before .before .before .before .before .before .before .before .before .before in
-    let t = tablesOf (s .args .rows .now) (s .args .starts .now) (s .args .codes .now) (s .args .fixed .now) in
+    let s = c .before .before .before .before .before .before .before .before .before .before .before in
+    let t = tablesOf (s .args .rows .now) (s .args .starts .now) (s .args .codes .now) (s .args .fixed .now) (length (s .args .room .now)) in
     record-refused t (s .args .trace .now) (s .args .mesh .now) (s .args .log .now) (c .before .before .read-record .result) (c .before .before .read-record .ensures) (c .if1 .taken)
 
 make-requires : tie.Need-make-requires
 make-requires c κs =
-    let s = c .before .before .before .before .before .before .before .before .before .before .before .before .before in
-    (rw (c .before .before .before .before .before .read-record .ensures) (read-packet (s .args .trace .now)), s .pre)
+    let s = c .before .before .before .before .before .before .before .before .before .before .before .before .before .before .before in
+    (rw (c .before .before .before .before .before .before .read-record .ensures) (read-packet (s .args .trace .now)), s .pre)
 
 same-length : tie.Need-same-length
 same-length c = search needs
@@ -24,13 +25,16 @@ same-length c = search needs
 same-length-2 : tie.Need-same-length-2
 same-length-2 c = search needs
 
+same-length-3 : tie.Need-same-length-3
+same-length-3 c = search needs
+
 returns-2 : tie.Need-returns-2
 returns-2 c =
-    let s = c .before .before .before .before .before .before .before .before .before .before .before .before .before .before .before .before .before .before in
-    let t = tablesOf (s .args .rows .now) (s .args .starts .now) (s .args .codes .now) (s .args .fixed .now) in
-    record-made t (s .args .trace .now) (s .args .mesh .now) (s .args .log .now) (c .before .before .before .before .before .before .before .before .before .before .read-record .result) (c .before .before .before .before .before .before .before .before .before .before .read-record .ensures) (c .before .before .before .before .before .before .before .before .if1 .left) (c .before .before .before .before .make .result) _ _ (c .before .before .before .before .make .ensures)
+    let s = c .before .before .before .before .before .before .before .before .before .before .before .before .before .before .before .before .before .before .before .before .before .before in
+    let t = tablesOf (s .args .rows .now) (s .args .starts .now) (s .args .codes .now) (s .args .fixed .now) (length (s .args .room .now)) in
+    record-made t (s .args .trace .now) (s .args .mesh .now) (s .args .log .now) (c .before .before .before .before .before .before .before .before .before .before .before .before .before .read-record .result) (c .before .before .before .before .before .before .before .before .before .before .before .before .before .read-record .ensures) (c .before .before .before .before .before .before .before .before .before .before .before .if1 .left) (c .before .before .before .before .before .before .make .result) _ _ (c .before .before .before .before .before .before .make .ensures)
 
 pub replay-one-spec : {M : Type 1} → statement M
 replay-one-spec =
     tie.close
-    (tie.spec read-record-requires returns make-requires same-length same-length-2 returns-2)
+    (tie.spec read-record-requires returns make-requires same-length same-length-2 same-length-3 returns-2)
