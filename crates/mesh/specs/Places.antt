@@ -21,4 +21,4 @@ pub record FirstWrong (t : Tables) (chips number : ℕ) : Type 0 where
   pub before : (j : ℕ) → j < placeIn t chips number → wrongAt t chips number j ≡ false
 
 abbrev pub PlacesTold : Type 0
-PlacesTold = (t : Tables) (chips number : ℕ) → 1 ≤ chips → number ≡ firstOf (tablesRefusals t chips) → 15 ≤ number → FirstWrong t chips number
+PlacesTold = (t : Tables) (chips number : ℕ) → 1 ≤ chips → number ≡ firstOf (tablesRefusals t chips) → 15 ≤ number → number ≤ 18 → FirstWrong t chips number
