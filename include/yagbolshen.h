@@ -271,11 +271,13 @@ yb_packed yagbolshen_pack(yb_fields fields);
 /* Passes one packet through one router. `source` is the link 0 to 5 that it came by, or 7 for a local one. `rows` has
  * three words a row: key, mask, route; `rows_len` counts words. `codes` has one P2P code for each of the width * height
  * chips, at y * width + x. `monitor` is the number of the processor that watches the chip, 0 to 19; `ready` has bit i for
- * link i; `fixed` is the route of the chip's fixed-route packets. Refuses 7, 6, 16, 17, 18, 11, 1, 2, 4, the first that
- * applies. */
+ * link i; `fixed` is the route of the chip's fixed-route packets. `room` is room for groups, see yagbolshen_round; one
+ * packet never pays for them, so that only its length counts, and it stays as it came. Refuses 7, 6, 16, 17, 18, 11, 29,
+ * 1, 2, 4, the first that applies. */
 yb_pass yagbolshen_pass(const uint8_t *packet, size_t packet_len, uint32_t source, uint32_t width, uint32_t height,
                         const uint32_t *rows, size_t rows_len, const uint8_t *codes, size_t codes_len,
-                        uint32_t monitor, uint32_t phase, uint32_t ready, uint32_t fixed);
+                        uint32_t monitor, uint32_t phase, uint32_t ready, uint32_t fixed, uint32_t *room,
+                        size_t room_len);
 
 /* Finds the first row that takes a key: key AND mask is the row's key itself, so that a row with a key bit outside its mask
  * takes none. `rows_len` counts rows. Takes any number of rows and any routes, and never refuses; the number of a row past
@@ -299,18 +301,21 @@ yb_size yagbolshen_size(uint32_t width, uint32_t height);
 uint32_t yagbolshen_open(uint32_t *mesh, size_t mesh_len, uint32_t width, uint32_t height, uint32_t rounds_per_phase,
                          uint32_t monitor);
 
-/* Passes a local packet at a chip, at once, and answers how many log records were added. Refuses 8, 9, 15, 16, 17, 18,
- * 11, 10, 2, 4, the first that applies. */
+/* Passes a local packet at a chip, at once, and answers how many log records were added. `room` stays as it came.
+ * Refuses 8, 9, 15, 16, 17, 18, 11, 29, 10, 2, 4, the first that applies. */
 yb_added yagbolshen_inject(uint32_t *mesh, size_t mesh_len, uint32_t *log, size_t log_len, uint32_t chip,
                            const uint8_t *packet, size_t packet_len, const uint32_t *rows, size_t rows_len,
                            const uint32_t *starts, size_t starts_len, const uint8_t *codes, size_t codes_len,
-                           const uint32_t *fixed, size_t fixed_len);
+                           const uint32_t *fixed, size_t fixed_len, uint32_t *room, size_t room_len);
 
 /* Passes all that is in flight, once, and answers how many log records were added; after each `rounds_per_phase` rounds
- * the phase steps on. Refuses 8, 15, 16, 17, 18, 11, 10, the first that applies. */
+ * the phase steps on. `room` is room for groups of rows, a faster search with the same answers: 257 numbers plus 256 for
+ * each row of the longest table of one chip, or none (`room_len` 0, the pointer may then be NULL). What it held before
+ * counts for nothing; docs/LAYOUT.md says what it holds after. Refuses 8, 15, 16, 17, 18, 11, 29, 10, the first that
+ * applies. */
 yb_added yagbolshen_round(uint32_t *mesh, size_t mesh_len, uint32_t *log, size_t log_len, const uint32_t *rows,
                           size_t rows_len, const uint32_t *starts, size_t starts_len, const uint8_t *codes,
-                          size_t codes_len, const uint32_t *fixed, size_t fixed_len);
+                          size_t codes_len, const uint32_t *fixed, size_t fixed_len, uint32_t *room, size_t room_len);
 
 /* Takes one directed link of a chip up or down. Answers the refusal, or 0. Refuses 8, 9, the first that applies. */
 uint32_t yagbolshen_set_link(uint32_t *mesh, size_t mesh_len, uint32_t chip, uint32_t link, bool up);
@@ -350,13 +355,13 @@ yb_record yagbolshen_read_record(const uint8_t *trace, size_t trace_len);
 /* Reads the records of a trace one after another and makes their calls on the mesh, each with the rest of the log,
  * and stops at the first refusal. What earlier records did stands, and the call that was refused changes neither
  * mesh nor log. Refuses a record by 12, 13, 14, the first that applies, and then by what its call refuses, in the call's
- * own order: an injection 8, 9, 15, 16, 17, 18, 11, 10, 4, a round 8, 15, 16, 17, 18, 11, 10, a link change and a read of
+ * own order: an injection 8, 9, 15, 16, 17, 18, 11, 29, 10, 4, a round 8, 15, 16, 17, 18, 11, 29, 10, a link change and a read of
  * registers 8, 9. Tables are looked at by records that pass packets alone. A trace of no bytes makes no call and is accepted, whatever is
  * lent with it. Registers that a replay reads are emptied, and handed to nobody. */
 yb_replayed yagbolshen_replay(uint32_t *mesh, size_t mesh_len, uint32_t *log, size_t log_len, const uint8_t *trace,
                               size_t trace_len, const uint32_t *rows, size_t rows_len, const uint32_t *starts,
                               size_t starts_len, const uint8_t *codes, size_t codes_len, const uint32_t *fixed,
-                              size_t fixed_len);
+                              size_t fixed_len, uint32_t *room, size_t room_len);
 
 /* Writes all P2P codes of a mesh, width * height for each chip, chip after chip, as injection, round and replay take them;
  * what the room held before does not count. A chip's code for itself is 7, even with all its links down; for a chip that
@@ -405,26 +410,29 @@ typedef struct {
     size_t codes_len;
     const uint32_t *fixed;
     size_t fixed_len;
+    uint32_t *room;
+    size_t room_len;
 } yb_tables;
 
 static inline yb_added yb_inject(uint32_t *mesh, size_t mesh_len, uint32_t *log, size_t log_len, uint32_t chip,
                                  const uint8_t *packet, size_t packet_len, const yb_tables *tables) {
     return yagbolshen_inject(mesh, mesh_len, log, log_len, chip, packet, packet_len, tables->rows, tables->rows_len,
                              tables->starts, tables->starts_len, tables->codes, tables->codes_len, tables->fixed,
-                             tables->fixed_len);
+                             tables->fixed_len, tables->room, tables->room_len);
 }
 
 static inline yb_added yb_round(uint32_t *mesh, size_t mesh_len, uint32_t *log, size_t log_len,
                                 const yb_tables *tables) {
     return yagbolshen_round(mesh, mesh_len, log, log_len, tables->rows, tables->rows_len, tables->starts,
-                            tables->starts_len, tables->codes, tables->codes_len, tables->fixed, tables->fixed_len);
+                            tables->starts_len, tables->codes, tables->codes_len, tables->fixed, tables->fixed_len,
+                            tables->room, tables->room_len);
 }
 
 static inline yb_replayed yb_replay(uint32_t *mesh, size_t mesh_len, uint32_t *log, size_t log_len,
                                     const uint8_t *trace, size_t trace_len, const yb_tables *tables) {
     return yagbolshen_replay(mesh, mesh_len, log, log_len, trace, trace_len, tables->rows, tables->rows_len,
                              tables->starts, tables->starts_len, tables->codes, tables->codes_len, tables->fixed,
-                             tables->fixed_len);
+                             tables->fixed_len, tables->room, tables->room_len);
 }
 #endif
 

@@ -27,7 +27,7 @@ abbrev s : State
 s = begun 2 1 1 0
 
 abbrev t : Tables
-t = tablesOf [] (0 ∷ 0 ∷ 0 ∷ []) (7 ∷ 0 ∷ 0 ∷ 7 ∷ []) (0 ∷ 0 ∷ [])
+t = tablesOf [] (0 ∷ 0 ∷ 0 ∷ []) (7 ∷ 0 ∷ 0 ∷ 7 ∷ []) (0 ∷ 0 ∷ []) 0
 
 -- 41 00 00 01 00
 abbrev bytes : List ℕ

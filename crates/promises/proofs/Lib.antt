@@ -35,6 +35,7 @@ pub mod Owned
 pub mod Plains
 pub mod Records
 pub mod Registered
+pub mod RoomCountsForNothing
 pub mod Runs
 pub mod Sequences
 pub mod Told

@@ -38,9 +38,9 @@ use Rattle.lists.proofs.Alls.{all-getD}
 use Rattle.mesh.proofs.SoundChanges.{chip-sound}
 use Rattle.buffer.proofs.SoundWords.{holds-sound}
 
-pub pass-determined : (bytes : List ℕ) (source : ℕ) (tables : ChipTables) (t : Setting) (a b : Pass)
-    → a ≡ passOf bytes source tables t → b ≡ passOf bytes source tables t → a ≡ b
-pass-determined bytes source tables t = determined
+pub pass-determined : (bytes : List ℕ) (source : ℕ) (tables : ChipTables) (t : Setting) (room : ℕ) (a b : Pass)
+    → a ≡ passOf bytes source tables t room → b ≡ passOf bytes source tables t room → a ≡ b
+pass-determined bytes source tables t room = determined
 
 pub find-determined : (key : ℕ) (rows : List Row) (a b : RowFound) → a ≡ foundIn key rows → b ≡ foundIn key rows → a ≡ b
 find-determined key rows = determined

@@ -63,7 +63,7 @@ abbrev seen : Given → Seen
 seen g =
     seenIn
     (passOf (g .bytes) (g .source) (chipTables (g .rows) (6 ∷ []) 0)
-    (record { width = 1; height = 1; monitor = 0; phase = g .phase; ready = g .ready }))
+    (record { width = 1; height = 1; monitor = 0; phase = g .phase; ready = g .ready }) 0)
 
 pub record Case : Type 0 where
   pub number : ℕ

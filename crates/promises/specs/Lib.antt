@@ -10,6 +10,7 @@ pub mod History
 pub mod KnownPasses
 pub mod NoStaleBlock
 pub mod OnePass
+pub mod RoomCountsForNothing
 pub mod Sequence
 pub mod Told
 pub mod TreeWays
