@@ -32,7 +32,7 @@ ghost use Rattle.buffer.specs.Layout.{meshOf};
 ghost use Rattle.buffer.specs.Holding.{holdsMesh};
 ghost use Rattle.mesh.specs.Steps.{tablesOf};
 ghost use Rattle.mesh.specs.Calls.{registersRead, countRead, meshRead, linkRead, flightRead};
-ghost use Rattle.buffer.specs.Leaving.{Leaves, Moves, injectLeft, roundLeft, linkLeft, registersLeft};
+ghost use Rattle.buffer.specs.Leaving.{Leaves, Moves, injectLeft, roundLeft, roundRoom, linkLeft, registersLeft};
 ghost use Rattle.tree.specs.Call.{treeOf, rowsAfter, startsAfter};
 ghost use Rattle.fewer.specs.Call.{fewerOf, leftAfter, goneAfter};
 ghost use Rattle.trace.specs.Records.{recordRead, writtenOf, writtenOn};
@@ -69,8 +69,10 @@ pub extern "C" fn yagbolshen_pass(
     phase: u32,
     ready: u32,
     fixed: u32,
+    room: &mut [u32],
 ) -> Pass
-    ensures { λ r. ⌜ r ≡ passOf (now (packet .entry)) source (chipTables (now (rows .entry)) (now (codes .entry)) fixed) (settingOf width height monitor phase ready) ⌝ }
+    ensures { λ r. ⌜ r ≡ passOf (now (packet .entry)) source (chipTables (now (rows .entry)) (now (codes .entry)) fixed) (settingOf width height monitor phase ready) (length (now (room .entry))) ⌝ }
+    ensures { λ _. ⌜ now (room .exit) ≡ now (room .entry) ⌝ }
 {
     let t = Setting {
         width,
@@ -79,7 +81,7 @@ pub extern "C" fn yagbolshen_pass(
         phase,
         ready,
     };
-    router::call::pass(packet, source, rows, codes, fixed, t)
+    router::call::pass(packet, source, rows, codes, fixed, t, room.len())
 }
 
 // The first row of a table in row structs that takes a key.
@@ -124,10 +126,22 @@ pub extern "C" fn yagbolshen_inject(
     starts: &[u32],
     codes: &[u8],
     fixed: &[u32],
+    room: &mut [u32],
 ) -> Added
-    ensures { λ r. ⌜ Moves (now (mesh .entry)) (now (log .entry)) (injectLeft (now (mesh .entry)) (tablesOf (now (rows .entry)) (now (starts .entry)) (now (codes .entry)) (now (fixed .entry))) (length (now (log .entry))) chip (now (packet .entry))) r (now (mesh .exit)) (now (log .exit)) ⌝ }
+    ensures { λ r. ⌜ Moves (now (mesh .entry)) (now (log .entry)) (injectLeft (now (mesh .entry)) (tablesOf (now (rows .entry)) (now (starts .entry)) (now (codes .entry)) (now (fixed .entry)) (length (now (room .entry)))) (length (now (log .entry))) chip (now (packet .entry))) r (now (mesh .exit)) (now (log .exit)) ⌝ }
+    ensures { λ _. ⌜ now (room .exit) ≡ now (room .entry) ⌝ }
 {
-    buffer::moving::inject(mesh, log, chip, packet, rows, starts, codes, fixed)
+    buffer::moving::inject(
+        mesh,
+        log,
+        chip,
+        packet,
+        rows,
+        starts,
+        codes,
+        fixed,
+        room.len(),
+    )
 }
 
 // Passes all that is in flight, once.
@@ -139,10 +153,12 @@ pub extern "C" fn yagbolshen_round(
     starts: &[u32],
     codes: &[u8],
     fixed: &[u32],
+    room: &mut [u32],
 ) -> Added
-    ensures { λ r. ⌜ Moves (now (mesh .entry)) (now (log .entry)) (roundLeft (now (mesh .entry)) (tablesOf (now (rows .entry)) (now (starts .entry)) (now (codes .entry)) (now (fixed .entry))) (length (now (log .entry)))) r (now (mesh .exit)) (now (log .exit)) ⌝ }
+    ensures { λ r. ⌜ Moves (now (mesh .entry)) (now (log .entry)) (roundLeft (now (mesh .entry)) (tablesOf (now (rows .entry)) (now (starts .entry)) (now (codes .entry)) (now (fixed .entry)) (length (now (room .entry)))) (length (now (log .entry)))) r (now (mesh .exit)) (now (log .exit)) ⌝ }
+    ensures { λ _. ⌜ now (room .exit) ≡ roundRoom (now (mesh .entry)) (tablesOf (now (rows .entry)) (now (starts .entry)) (now (codes .entry)) (now (fixed .entry)) (length (now (room .entry)))) (length (now (log .entry))) (now (room .entry)) ⌝ }
 {
-    buffer::moving::round(mesh, log, rows, starts, codes, fixed)
+    buffer::moving::round(mesh, log, rows, starts, codes, fixed, room)
 }
 
 // Takes one directed link of a chip up or down.
@@ -222,10 +238,11 @@ pub extern "C" fn yagbolshen_replay(
     starts: &[u32],
     codes: &[u8],
     fixed: &[u32],
+    room: &mut [u32],
 ) -> Replayed
-    ensures { λ r. ⌜ Replays (now (mesh .entry)) (now (mesh .exit)) (now (log .entry)) (now (log .exit)) r (replayOf (now (mesh .entry)) (tablesOf (now (rows .entry)) (now (starts .entry)) (now (codes .entry)) (now (fixed .entry))) (length (now (log .entry))) (now (trace .entry))) ⌝ }
+    ensures { λ r. ⌜ Replays (now (mesh .entry)) (now (mesh .exit)) (now (log .entry)) (now (log .exit)) r (replayOf (now (mesh .entry)) (tablesOf (now (rows .entry)) (now (starts .entry)) (now (codes .entry)) (now (fixed .entry)) (length (now (room .entry)))) (length (now (log .entry))) (now (trace .entry))) ⌝ }
 {
-    trace::replaying::replay(mesh, log, trace, rows, starts, codes, fixed)
+    trace::replaying::replay(mesh, log, trace, rows, starts, codes, fixed, room)
 }
 
 // Fills all P2P codes of a mesh by flooding over its up links.
