@@ -16,7 +16,7 @@ setting = record { width = 1; height = 1; monitor = 0; phase = 0; ready = 63 }
 
 -- The pass of a packet from link 0; and what it is refused with.
 abbrev pub passWith : List ℕ → List ℕ → Pass
-passWith bytes rows = passOf bytes 0 (chipTables rows (6 ∷ []) 0) setting
+passWith bytes rows = passOf bytes 0 (chipTables rows (6 ∷ []) 0) setting 0
 
 abbrev pub refusalWith : List ℕ → List ℕ → ℕ
 refusalWith bytes rows = passWith bytes rows .refusal

@@ -23,7 +23,7 @@ unfoldable pub begun : Held
 begun = record { holds = true; mesh = opened 2 1 2 0 }
 
 abbrev pub lent : Tables
-lent = tablesOf (1 ∷ 4294967295 ∷ 1 ∷ 1 ∷ 4294967295 ∷ 1 ∷ []) (0 ∷ 1 ∷ 2 ∷ []) (6 ∷ 6 ∷ 6 ∷ 6 ∷ []) (0 ∷ 0 ∷ [])
+lent = tablesOf (1 ∷ 4294967295 ∷ 1 ∷ 1 ∷ 4294967295 ∷ 1 ∷ []) (0 ∷ 1 ∷ 2 ∷ []) (6 ∷ 6 ∷ 6 ∷ 6 ∷ []) (0 ∷ 0 ∷ []) 0
 
 -- "P is 00 00 00 00 01".
 abbrev pub packet : List ℕ

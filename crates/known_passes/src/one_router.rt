@@ -63,5 +63,5 @@ fn pass_with(bytes: &[u8], rows: &[u32]) -> Pass
         phase: 0,
         ready: 63,
     };
-    pass(bytes, 0, rows, &codes, 0, t)
+    pass(bytes, 0, rows, &codes, 0, t, 0)
 }

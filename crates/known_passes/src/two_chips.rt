@@ -73,7 +73,8 @@ fn passes_on(mesh: &mut [u32; WORDS], flying: u32) -> bool
     ensures { λ r. ⌜ case.heldIn (now (mesh .exit)) ≡ case.next (case.heldIn (now (mesh .entry))) ⌝ }
 {
     let mut log = [0u32; 6];
-    let r = round(mesh, &mut log, &ROWS, &STARTS, &CODES, &FIXED);
+    let mut none = [0u32; 0];
+    let r = round(mesh, &mut log, &ROWS, &STARTS, &CODES, &FIXED, &mut none);
     (r.refusal == 0) & (r.added == 0) & (in_flight(mesh) == flying)
 }
 
@@ -83,7 +84,8 @@ fn ends(mesh: &mut [u32; WORDS], chip: u32) -> bool
     ensures { λ r. ⌜ case.heldIn (now (mesh .exit)) ≡ case.next (case.heldIn (now (mesh .entry))) ⌝ }
 {
     let mut log = [0u32; 6];
-    let r = round(mesh, &mut log, &ROWS, &STARTS, &CODES, &FIXED);
+    let mut none = [0u32; 0];
+    let r = round(mesh, &mut log, &ROWS, &STARTS, &CODES, &FIXED, &mut none);
     (r.refusal == 0) & (r.added == 1) & (in_flight(mesh) == 0) & too_old(&log, chip)
 }
 
@@ -93,7 +95,7 @@ fn injected(mesh: &mut [u32; WORDS], chip: u32) -> bool
     ensures { λ r. ⌜ case.heldIn (now (mesh .exit)) ≡ case.after (case.heldIn (now (mesh .entry))) (case.inject (case.heldIn (now (mesh .entry))) chip) ⌝ }
 {
     let mut log = [0u32; 6];
-    let r = inject(mesh, &mut log, chip, &P, &ROWS, &STARTS, &CODES, &FIXED);
+    let r = inject(mesh, &mut log, chip, &P, &ROWS, &STARTS, &CODES, &FIXED, 0);
     (r.refusal == 0) & (r.added == 0)
 }
 

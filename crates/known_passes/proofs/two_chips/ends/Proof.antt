@@ -24,6 +24,9 @@ slice-aggregate-round-4 c = search needs
 slice-aggregate-round-5 : tie.Need-slice-aggregate-round-5
 slice-aggregate-round-5 c = search needs
 
+slice-aggregate-round-6 : tie.Need-slice-aggregate-round-6
+slice-aggregate-round-6 c = search needs
+
 round-requires : tie.Need-round-requires
 round-requires c κs = search needs
 
@@ -36,9 +39,9 @@ too-old-requires c κs = search needs
 returns : tie.Need-returns
 unfolding round added ends
 returns c =
-    let called = c .before .before .before .before .before .before .before in
-    let a = called .before .before .before .before .before .before .before .args in
-    let e = called .round .ensures in
+    let called = c .before .before .before .before .before .before .before .before in
+    let a = called .before .before .before .before .before .before .before .before .args in
+    let e = called .round .ensures .0 in
     let held = round-held (a .mesh .now) (called .round .last .0) (e .buffer) in
     let flies = c .before .before .in-flight .ensures ∙ ap flight held in
     let old = c .too-old .ensures ∙ ap (λ (log : List ℕ). tooOld log (a .chip)) (e .logged) in
@@ -53,6 +56,7 @@ ends-spec =
     slice-aggregate-round-3
     slice-aggregate-round-4
     slice-aggregate-round-5
+    slice-aggregate-round-6
     round-requires
     in-flight-requires
     too-old-requires

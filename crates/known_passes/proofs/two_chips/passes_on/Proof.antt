@@ -22,6 +22,9 @@ slice-aggregate-round-4 c = search needs
 slice-aggregate-round-5 : tie.Need-slice-aggregate-round-5
 slice-aggregate-round-5 c = search needs
 
+slice-aggregate-round-6 : tie.Need-slice-aggregate-round-6
+slice-aggregate-round-6 c = search needs
+
 round-requires : tie.Need-round-requires
 round-requires c κs = search needs
 
@@ -31,9 +34,9 @@ in-flight-requires c κs = search needs
 returns : tie.Need-returns
 unfolding round added passesOn
 returns c =
-    let called = c .before .before .before .before .before in
-    let a = called .before .before .before .before .before .before .before .args in
-    let e = called .round .ensures in
+    let called = c .before .before .before .before .before .before in
+    let a = called .before .before .before .before .before .before .before .before .args in
+    let e = called .round .ensures .0 in
     let held = round-held (a .mesh .now) (called .round .last .0) (e .buffer) in
     let flies = c .in-flight .ensures ∙ ap flight held in
     (λ i. eqb (e .answered i .refusal) 0 && eqb (e .answered i .added) 0 && eqb (flies i) (a .flying), held)
@@ -47,6 +50,7 @@ passes-on-spec =
     slice-aggregate-round-3
     slice-aggregate-round-4
     slice-aggregate-round-5
+    slice-aggregate-round-6
     round-requires
     in-flight-requires
     returns)
