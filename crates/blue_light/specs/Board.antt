@@ -16,7 +16,7 @@ opened = openedWords (replicate 37888 0) 3 3 100 0
 -- Key 1 and every bit of it: at chip 0 to link 0, at chip 2 to processor 1; no point-to-point or fixed-route packet is sent.
 abbrev pub lent : Tables
 lent =
-    tablesOf (1 ∷ 4294967295 ∷ 1 ∷ 1 ∷ 4294967295 ∷ 128 ∷ []) (0 ∷ 1 ∷ 1 ∷ 2 ∷ 2 ∷ 2 ∷ 2 ∷ 2 ∷ 2 ∷ 2 ∷ []) (replicate 81 6) (replicate 9 0)
+    tablesOf (1 ∷ 4294967295 ∷ 1 ∷ 1 ∷ 4294967295 ∷ 128 ∷ []) (0 ∷ 1 ∷ 1 ∷ 2 ∷ 2 ∷ 2 ∷ 2 ∷ 2 ∷ 2 ∷ 2 ∷ []) (replicate 81 6) (replicate 9 0) 0
 
 abbrev pub packet : List ℕ
 packet = 0 ∷ 0 ∷ 0 ∷ 0 ∷ 1 ∷ []

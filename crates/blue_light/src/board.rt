@@ -62,14 +62,15 @@ pub fn send(mesh: &mut [u32; WORDS], log: &mut [u32; 6]) -> u32
     ensures { λ r. ⌜ r ≡ addedOf (injectLeft (now (mesh .entry)) lent (length (now (log .entry))) 0 packet) .added ⌝ }
 {
     let bytes: [u8; 5] = [0, 0, 0, 0, 1];
-    inject(mesh, log, 0, &bytes, &ROWS, &STARTS, &CODES, &FIXED).added
+    inject(mesh, log, 0, &bytes, &ROWS, &STARTS, &CODES, &FIXED, 0).added
 }
 
 // A round, which answers the same.
 pub fn turn(mesh: &mut [u32; WORDS], log: &mut [u32; 6]) -> u32
     ensures { λ r. ⌜ r ≡ addedOf (roundLeft (now (mesh .entry)) lent (length (now (log .entry)))) .added ⌝ }
 {
-    round(mesh, log, &ROWS, &STARTS, &CODES, &FIXED).added
+    let mut none = [0u32; 0];
+    round(mesh, log, &ROWS, &STARTS, &CODES, &FIXED, &mut none).added
 }
 
 pub fn watched_link_is_up(mesh: &mut [u32; WORDS], up: bool) {

@@ -16,11 +16,14 @@ slice-aggregate-round-3 c = search needs
 slice-aggregate-round-4 : tie.Need-slice-aggregate-round-4
 slice-aggregate-round-4 c = search needs
 
+slice-aggregate-round-5 : tie.Need-slice-aggregate-round-5
+slice-aggregate-round-5 c = search needs
+
 round-requires : tie.Need-round-requires
 round-requires c κs = search needs
 
 returns : tie.Need-returns
-returns c = ap (λ (r : Added). r .added) (c .round .ensures .answered)
+returns c = ap (λ (r : Added). r .added) (c .before .round .ensures .0 .answered)
 
 pub turn-spec : {M : Type 1} → statement M
 turn-spec =
@@ -30,5 +33,6 @@ turn-spec =
     slice-aggregate-round-2
     slice-aggregate-round-3
     slice-aggregate-round-4
+    slice-aggregate-round-5
     round-requires
     returns)
