@@ -21,6 +21,7 @@ use buffer::moving::round;
 use kept::Registers;
 use kept::keeping::MOST_UNITS;
 use libc::STDOUT_FILENO;
+use mesh::Added;
 use packet::control::carries_of;
 use script::cells::between;
 use script::names::say_link;
@@ -52,6 +53,7 @@ pub fn send(
         starts,
         codes,
         fixed,
+        0,
     );
     let mut c = answered_lent(before, a.refusal, a.place, rows, starts);
     if a.refusal == 0 {
@@ -139,6 +141,19 @@ pub fn is_quiet(mesh: &[u32; WORDS]) -> bool {
     look_mesh(mesh).in_flight == 0
 }
 
+// A round with no room lent: the plain search.
+pub fn plain_round(
+    mesh: &mut [u32; WORDS],
+    log: &mut [u32; LOG],
+    rows: &[u32],
+    starts: &[u32],
+    codes: &[u8],
+    fixed: &[u32],
+) -> Added {
+    let mut none = [0u32; 0];
+    round(mesh, log, rows, starts, codes, fixed, &mut none)
+}
+
 pub fn one_round(
     before: Course,
     mesh: &mut [u32; WORDS],
@@ -148,7 +163,7 @@ pub fn one_round(
     codes: &[u8],
     fixed: &[u32],
 ) -> Course {
-    let a = round(mesh, log, rows, starts, codes, fixed);
+    let a = plain_round(mesh, log, rows, starts, codes, fixed);
     let mut c = answered_lent(going_on(before), a.refusal, a.place, rows, starts);
     if a.refusal == 0 {
         c.rounds = wrapping_add_u64(c.rounds, 1);

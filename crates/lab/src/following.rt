@@ -1,12 +1,12 @@
 // One packet alone in FILE's mesh: every pass of it, told before the round that makes it.
 use super::calls::first_bytes;
 use super::calls::is_quiet;
+use super::calls::plain_round;
 use super::passes::tell_pass;
 use super::telling::number;
 use super::telling::text;
 use buffer::looking::look_flight;
 use buffer::moving::inject;
-use buffer::moving::round;
 use mesh::FlightRead;
 use packet::Packet;
 use packet::bytes::bytes_of;
@@ -42,6 +42,7 @@ pub fn follow_packet(
         starts,
         codes,
         fixed,
+        0,
     );
     tell_end(follow(b, mesh, log, rows, starts, codes, fixed));
 }
@@ -74,7 +75,7 @@ fn follow(
         }
         number = wrapping_add_u64(number, 1);
         tell_round(b, number, mesh, rows, starts, codes, fixed);
-        round(mesh, log, rows, starts, codes, fixed);
+        plain_round(mesh, log, rows, starts, codes, fixed);
         left -= 1;
     }
     number

@@ -94,6 +94,7 @@ fn pass_at(
         own,
         fixed,
         t,
+        0,
     )
 }
 
