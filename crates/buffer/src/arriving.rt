@@ -60,7 +60,17 @@ fn pass_chip(
     ensures { λ _. ⌜ now (room .exit) ≡ roomAt (tablesOf (now (rows .entry)) (now (starts .entry)) (now (codes .entry)) (now (fixed .entry)) 0) (length (asideFrom (now (mesh .entry)) chip)) chip (now (room .entry)) ⌝ }
 {
     let used = group(mesh, chip, rows, starts, room);
-    pass_links(mesh, log, n, chip, rows, starts, codes, fixed, &room[..used])
+    pass_links(
+        mesh,
+        log,
+        n,
+        chip,
+        rows,
+        starts,
+        codes,
+        fixed,
+        &room[..used],
+    )
 }
 
 // At one chip, by its groups or by the plain search.
@@ -126,7 +136,19 @@ fn pass_link(
     let mut i = 0;
     while i < count {
         let p = packet_at(mesh, at + 1 + i * PLACE);
-        done = pass_one(mesh, log, done, chip, source, p, rows, starts, codes, fixed, room);
+        done = pass_one(
+            mesh,
+            log,
+            done,
+            chip,
+            source,
+            p,
+            rows,
+            starts,
+            codes,
+            fixed,
+            room,
+        );
         i += 1;
     }
     done

@@ -41,7 +41,18 @@ pub fn inject(
     ensures { λ r. ⌜ Moves (now (mesh .entry)) (now (log .entry)) (injectLeft (now (mesh .entry)) (tablesOf (now (rows .entry)) (now (starts .entry)) (now (codes .entry)) (now (fixed .entry)) room) (length (now (log .entry))) chip (now (bytes .entry))) r (now (mesh .exit)) (now (log .exit)) ⌝ }
 {
     let tested = test(mesh, rows, starts, codes, fixed, room);
-    inject_tested(mesh, log, chip, bytes, rows, starts, codes, fixed, room, tested)
+    inject_tested(
+        mesh,
+        log,
+        chip,
+        bytes,
+        rows,
+        starts,
+        codes,
+        fixed,
+        room,
+        tested,
+    )
 }
 
 // Passes all that is in flight; then, after each F rounds, the phase steps on. Refusals, the first that applies: 8 no mesh,

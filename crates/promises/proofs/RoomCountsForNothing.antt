@@ -53,8 +53,8 @@ module _ {A : Type 0} (t : Tables) (m : Mesh A) where
         let g = injected t turn m chip (record { packet = packetAt bytes; tag = tag }) in
         let short : roomShort (t .room) (longest (t .starts) (many m)) ≡ false = not-refused (injectRefusals holds (many m) chip t log bytes) refl (unless-none n (placeIn t (many m) n) g z) 29 in
         ap (λ (b : Bool).
-          let r = firstOf (refuse (not holds) 8 ∷ refuse (not (ltb chip (many m))) 9 ∷ (refusals b ++ (refuse (ltb log 6) 10 ∷ packetRefusals bytes))) in
-          unless r (placeIn t (many m) r) m g) short
+        let r = firstOf (refuse (not holds) 8 ∷ refuse (not (ltb chip (many m))) 9 ∷ (refusals b ++ (refuse (ltb log 6) 10 ∷ packetRefusals bytes))) in
+        unless r (placeIn t (many m) r) m g) short
 
     round-same : rounding holds t turn m log .refusal ≡ 0 → rounding holds t turn m log ≡ rounding holds (withoutRoom t) turn m log
     round-same z =
@@ -62,8 +62,8 @@ module _ {A : Type 0} (t : Tables) (m : Mesh A) where
         let g = rounded t turn m in
         let short : roomShort (t .room) (longest (t .starts) (many m)) ≡ false = not-refused (roundRefusals holds (many m) (inFlight m) t log) refl (unless-none n (placeIn t (many m) n) g z) 29 in
         ap (λ (b : Bool).
-          let r = firstOf (refuse (not holds) 8 ∷ (refusals b ++ (refuse (ltb log (inFlight m * 6)) 10 ∷ []))) in
-          unless r (placeIn t (many m) r) m g) short
+        let r = firstOf (refuse (not holds) 8 ∷ (refusals b ++ (refuse (ltb log (inFlight m * 6)) 10 ∷ []))) in
+        unless r (placeIn t (many m) r) m g) short
 
     made-same : (tag : A) (c : Call) → making holds t turn tag m log c .refusal ≡ 0 → making holds t turn tag m log c ≡ making holds (withoutRoom t) turn tag m log c
     made-same tag c = go (eqb (c .kind) 1) (eqb (c .kind) 2)
@@ -125,14 +125,14 @@ unfolding passOf checkedOf
 at-one-router bytes source tables t room z =
     let short : roomShort room (length (tables .rows) / 3) ≡ false = not-refused (passRefusals bytes source tables t room) refl z 29 in
     ap (λ (b : Bool).
-      let n = firstOf (refuse (not (sizeFine (t .width) (t .height))) 7 ∷ refuse (not (settingFine t)) 6 ∷ refuse (not (fewRows (length (tables .rows) / 3))) 16
-      ∷ refuse (not (routesFine (tables .rows))) 17
-      ∷ refuse (not (routeFine (tables .fixed))) 18
-      ∷ refuse (not (codesFine (tables .codes) (t .height * t .width))) 11
-      ∷ refuse b 29
-      ∷ refuse (not (sourceFine source)) 1
-      ∷ packetRefusals bytes) in
-      answer (cond {A = Taken} (eqb n 0) (record { refusal = 0; packet = packetAt bytes }) (notTaken n)) source tables t) short
+    let n = firstOf (refuse (not (sizeFine (t .width) (t .height))) 7 ∷ refuse (not (settingFine t)) 6 ∷ refuse (not (fewRows (length (tables .rows) / 3))) 16
+    ∷ refuse (not (routesFine (tables .rows))) 17
+    ∷ refuse (not (routeFine (tables .fixed))) 18
+    ∷ refuse (not (codesFine (tables .codes) (t .height * t .width))) 11
+    ∷ refuse b 29
+    ∷ refuse (not (sourceFine source)) 1
+    ∷ packetRefusals bytes) in
+    answer (cond {A = Taken} (eqb n 0) (record { refusal = 0; packet = packetAt bytes }) (notTaken n)) source tables t) short
 
 pub room-counts-for-nothing : RoomCountsForNothing
 room-counts-for-nothing = record { call = at-a-call; replay = at-a-replay; router = at-one-router }

@@ -16,7 +16,7 @@ use Rattle.buffer.proofs.arriving.pass_chips.Statement.{statement}
 use Rattle.buffer.proofs.arriving.pass_chips.Tie as tie
 
 abbrev Inv-loop : tie.InvT-loop
-Inv-loop mesh₀ log₀ count rows starts codes fixed room₀ n₀ chip₀ mesh log room n chip = 
+Inv-loop mesh₀ log₀ count rows starts codes fixed room₀ n₀ chip₀ mesh log room n chip =
     (chip ≤ count)
     × (Passed (tablesOf rows starts codes fixed 0) (upTo (asideFrom mesh₀) chip) mesh₀ log₀ 0 mesh log n
     × ((length room ≡ length room₀) × (room ≡ roomUpto (tablesOf rows starts codes fixed (length room₀)) (λ chip. length (asideFrom mesh₀ chip)) chip room₀)))

@@ -14,7 +14,7 @@ use Rattle.buffer.proofs.grouping.count_aside.Statement.{statement}
 use Rattle.buffer.proofs.grouping.count_aside.Tie as tie
 
 abbrev Inv-loop : tie.InvT-loop
-Inv-loop mesh chip width height x y sum₀ source₀ sum source = 
+Inv-loop mesh chip width height x y sum₀ source₀ sum source =
     (source ≤ 6) × ((sum ≤ source * 8) × (sum ≡ length (upTo (asideBy mesh chip) source)))
 
 abbrev μ-loop : tie.MeasureT-loop

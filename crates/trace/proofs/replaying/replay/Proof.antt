@@ -10,7 +10,7 @@ use Rattle.trace.proofs.replaying.replay.Statement.{statement}
 use Rattle.trace.proofs.replaying.replay.Tie as tie
 
 abbrev Inv-loop : tie.InvT-loop
-Inv-loop mesh₀ log₀ trace rows starts codes fixed room₀ tested at₀ added₀ mesh log room at added = 
+Inv-loop mesh₀ log₀ trace rows starts codes fixed room₀ tested at₀ added₀ mesh log room at added =
     ((tested ≡ testedOf mesh₀ (tablesOf rows starts codes fixed (length room₀))) × (length room ≡ length room₀)) × SoFar (tablesOf rows starts codes fixed (length room₀)) trace mesh₀ log₀ mesh log at added
 
 abbrev μ-loop : tie.MeasureT-loop
