@@ -15,7 +15,7 @@ int main(void)
     const uint32_t ready = 63 & ~(1u << 0);
     const uint32_t fixed = 0; /* no fixed-route packet comes here */
 
-    yb_pass pass = yagbolshen_pass(packet, sizeof packet, 3, 1, 1, rows, 6, codes, 1, 0, 0, ready, fixed);
+    yb_pass pass = yagbolshen_pass(packet, sizeof packet, 3, 1, 1, rows, 6, codes, 1, 0, 0, ready, fixed, NULL, 0);
 
     printf("refusal %" PRIu32 ", errors %" PRIu32 "\n", pass.refusal, pass.errors);
     for (int link = 0; link < 6; link++)

@@ -57,10 +57,10 @@ static uint32_t make(run *r, yb_call call)
     yb_added answer = {0};
     if (call.kind == INJECTION)
         answer = yagbolshen_inject(r->mesh, r->words, rest, left, call.chip, call.bytes, call.length, rows, 12, starts,
-                                   CHIPS + 1, codes, sizeof codes, fixed, CHIPS);
+                                   CHIPS + 1, codes, sizeof codes, fixed, CHIPS, NULL, 0);
     else if (call.kind == ROUND)
         answer = yagbolshen_round(r->mesh, r->words, rest, left, rows, 12, starts, CHIPS + 1, codes, sizeof codes,
-                                  fixed, CHIPS);
+                                  fixed, CHIPS, NULL, 0);
     else if (call.kind == LINK_CHANGE)
         answer.refusal = yagbolshen_set_link(r->mesh, r->words, call.chip, call.link, call.up == 1);
     else
@@ -75,7 +75,7 @@ static bool replay(run *r, const char *what, const uint8_t *trace, size_t length
     if (!open_run(r))
         return false;
     yb_replayed answer = yagbolshen_replay(r->mesh, r->words, r->log, 6 * RECORDS, trace, length, rows, 12, starts,
-                                           CHIPS + 1, codes, sizeof codes, fixed, CHIPS);
+                                           CHIPS + 1, codes, sizeof codes, fixed, CHIPS, NULL, 0);
     r->added = answer.added;
     printf("%s: refusal %" PRIu32 ", stopped at byte %zu of %zu, %zu log records\n", what, answer.refusal, answer.at,
            length, answer.added);

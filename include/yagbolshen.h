@@ -27,6 +27,7 @@
  * 26  room for fewer rows than one a chip, or starts that are not one more than chips
  * 27  room shorter than the record to be written
  * 28  room for fewer rows, or for fewer numbers of rows, than there are
+ * 29  room for groups that is lent, under 257 numbers plus 256 for each row of the longest table
  *
  * For 15 to 18 `place` is the first place where it is so, and for every other number, 0 too, it is 0:
  * 15  the position among the starts: 0 if their number is wrong or the first is not 0, p if the start at p is below the
@@ -49,8 +50,8 @@
 /* Raised with each change that a caller can see; 2 brings kept traces, 3 has a row match by its key itself,
  * 4 brings fixed-route packets, 5 has registers say where, when and how many, 6 brings P2P codes by flooding,
  * 7 makes tables fewer rows, 8 says of bad tables which start, chip, row or fixed route it is: 15 to 18, with a place,
- * 9 grows multicast trees. */
-#define YAGBOLSHEN_VERSION 9
+ * 9 grows multicast trees, 10 lends room to pass, inject, round and replay, by which lookups skip rows. */
+#define YAGBOLSHEN_VERSION 10
 
 /* The refusals by name. */
 #define YB_ACCEPTED 0
@@ -76,6 +77,7 @@
 #define YB_TREE_ROOM 26     /* for rows, or how many starts there are */
 #define YB_NO_ROOM 27
 #define YB_FEWER_ROOM 28
+#define YB_GROUPS_ROOM 29   /* for rows in groups by the top byte of the key */
 
 /* Links lead from a chip at x, y to x + 1 east, y + 1 north, both north-east, and back; the mesh wraps. What is sent by
  * link i arrives by link (i + 3) % 6. A source of 7 is the chip itself. */
@@ -271,9 +273,8 @@ yb_packed yagbolshen_pack(yb_fields fields);
 /* Passes one packet through one router. `source` is the link 0 to 5 that it came by, or 7 for a local one. `rows` has
  * three words a row: key, mask, route; `rows_len` counts words. `codes` has one P2P code for each of the width * height
  * chips, at y * width + x. `monitor` is the number of the processor that watches the chip, 0 to 19; `ready` has bit i for
- * link i; `fixed` is the route of the chip's fixed-route packets. `room` is room for groups, see yagbolshen_round; one
- * packet never pays for them, so that only its length counts, and it stays as it came. Refuses 7, 6, 16, 17, 18, 11, 29,
- * 1, 2, 4, the first that applies. */
+ * link i; `fixed` is the route of the chip's fixed-route packets. Of `room` the length alone counts, and it stays as it
+ * came: groups never pay for one packet. Refuses 7, 6, 16, 17, 18, 11, 29, 1, 2, 4, the first that applies. */
 yb_pass yagbolshen_pass(const uint8_t *packet, size_t packet_len, uint32_t source, uint32_t width, uint32_t height,
                         const uint32_t *rows, size_t rows_len, const uint8_t *codes, size_t codes_len,
                         uint32_t monitor, uint32_t phase, uint32_t ready, uint32_t fixed, uint32_t *room,
@@ -290,7 +291,15 @@ yb_found yagbolshen_find(const yb_row *rows, size_t rows_len, uint32_t key);
  * numbers); `codes` has width * height P2P codes for each chip, chip after chip; `fixed` has for each chip the route that
  * its fixed-route packets want, whatever their key (0 where they are to be swallowed). `log` takes six words for each pass that
  * hands a packet to a processor: chip, processor set, error flags, control byte, word, payload or 0. Chips are numbered
- * y * width + x; links 0 to 5 lead east, north-east, north, west, south-west, south. */
+ * y * width + x; links 0 to 5 lead east, north-east, north, west, south-west, south.
+ *
+ * `room` is lent for groups, by which a lookup skips rows: those of a table grouped by the top byte of the key where the
+ * mask fixes all of it, other rows in every group, in the order of the table. A `room_len` of 0, and the pointer may then be
+ * NULL, is the plain search, row by row. Any other room under 257 numbers plus 256 for each row of the longest table (of one
+ * chip) is refused by 29, after 11. Answers, mesh and log are the same with room and without. A round builds the groups of a
+ * chip, afresh and once for all packets that arrive there, where that pays: for many packets and rows, few of them without a
+ * fixed top byte. What the room held before counts for nothing; what it holds after stands in docs/LAYOUT.md. A call that is
+ * refused, an injection and a pass leave it as it came. */
 
 /* The words that a mesh needs. Refuses 7. */
 yb_size yagbolshen_size(uint32_t width, uint32_t height);
@@ -301,21 +310,19 @@ yb_size yagbolshen_size(uint32_t width, uint32_t height);
 uint32_t yagbolshen_open(uint32_t *mesh, size_t mesh_len, uint32_t width, uint32_t height, uint32_t rounds_per_phase,
                          uint32_t monitor);
 
-/* Passes a local packet at a chip, at once, and answers how many log records were added. `room` stays as it came.
- * Refuses 8, 9, 15, 16, 17, 18, 11, 29, 10, 2, 4, the first that applies. */
+/* Passes a local packet at a chip, at once, and answers how many log records were added. Refuses 8, 9, 15, 16, 17, 18,
+ * 11, 29, 10, 2, 4, the first that applies. Of `room` the length alone counts, and it stays as it came. */
 yb_added yagbolshen_inject(uint32_t *mesh, size_t mesh_len, uint32_t *log, size_t log_len, uint32_t chip,
                            const uint8_t *packet, size_t packet_len, const uint32_t *rows, size_t rows_len,
                            const uint32_t *starts, size_t starts_len, const uint8_t *codes, size_t codes_len,
                            const uint32_t *fixed, size_t fixed_len, uint32_t *room, size_t room_len);
 
 /* Passes all that is in flight, once, and answers how many log records were added; after each `rounds_per_phase` rounds
- * the phase steps on. `room` is room for groups of rows, a faster search with the same answers: 257 numbers plus 256 for
- * each row of the longest table of one chip, or none (`room_len` 0, the pointer may then be NULL). What it held before
- * counts for nothing; docs/LAYOUT.md says what it holds after. Refuses 8, 15, 16, 17, 18, 11, 29, 10, the first that
- * applies. */
+ * the phase steps on. Refuses 8, 15, 16, 17, 18, 11, 29, 10, the first that applies. */
 yb_added yagbolshen_round(uint32_t *mesh, size_t mesh_len, uint32_t *log, size_t log_len, const uint32_t *rows,
                           size_t rows_len, const uint32_t *starts, size_t starts_len, const uint8_t *codes,
-                          size_t codes_len, const uint32_t *fixed, size_t fixed_len, uint32_t *room, size_t room_len);
+                          size_t codes_len, const uint32_t *fixed, size_t fixed_len, uint32_t *room,
+                          size_t room_len);
 
 /* Takes one directed link of a chip up or down. Answers the refusal, or 0. Refuses 8, 9, the first that applies. */
 uint32_t yagbolshen_set_link(uint32_t *mesh, size_t mesh_len, uint32_t chip, uint32_t link, bool up);
@@ -355,9 +362,9 @@ yb_record yagbolshen_read_record(const uint8_t *trace, size_t trace_len);
 /* Reads the records of a trace one after another and makes their calls on the mesh, each with the rest of the log,
  * and stops at the first refusal. What earlier records did stands, and the call that was refused changes neither
  * mesh nor log. Refuses a record by 12, 13, 14, the first that applies, and then by what its call refuses, in the call's
- * own order: an injection 8, 9, 15, 16, 17, 18, 11, 29, 10, 4, a round 8, 15, 16, 17, 18, 11, 29, 10, a link change and a read of
- * registers 8, 9. Tables are looked at by records that pass packets alone. A trace of no bytes makes no call and is accepted, whatever is
- * lent with it. Registers that a replay reads are emptied, and handed to nobody. */
+ * own order: an injection 8, 9, 15, 16, 17, 18, 11, 29, 10, 4, a round 8, 15, 16, 17, 18, 11, 29, 10, a link change and a
+ * read of registers 8, 9. Tables and room are looked at by records that pass packets alone. A trace of no bytes makes no call
+ * and is accepted, whatever is lent with it. Registers that a replay reads are emptied, and handed to nobody. */
 yb_replayed yagbolshen_replay(uint32_t *mesh, size_t mesh_len, uint32_t *log, size_t log_len, const uint8_t *trace,
                               size_t trace_len, const uint32_t *rows, size_t rows_len, const uint32_t *starts,
                               size_t starts_len, const uint8_t *codes, size_t codes_len, const uint32_t *fixed,
@@ -399,7 +406,8 @@ yb_tree yagbolshen_tree(uint32_t width, uint32_t height, uint32_t source, uint32
                         const uint32_t *targets, size_t targets_len, uint32_t *rows, size_t rows_len, uint32_t *starts,
                         size_t starts_len);
 
-/* All that is lent with the tables, as one struct, and the calls that take it. A further table is one more field at the end. */
+/* All that is lent with the tables, as one struct, and the calls that take it. A further table is one more field at the end.
+ * Room for groups is lent with them; where the struct's last two fields are left out, it is NULL and 0, which is none. */
 #ifndef YAGBOLSHEN_WITHOUT_INLINE
 typedef struct {
     const uint32_t *rows;

@@ -19,6 +19,7 @@ pub struct BusyMesh {
     starts: Vec<u32>,
     pub codes: Vec<u8>,
     fixed: Vec<u32>,
+    room: Vec<u32>,
 }
 
 impl BusyMesh {
@@ -55,6 +56,33 @@ impl BusyMesh {
         for chip in (5..width * height).step_by(24) {
             assert_eq!(mesh_calls::set_link(&mut mesh.words, chip, 3, false), 0);
         }
+        mesh
+    }
+
+    /// Circling too, with so many rows a chip and room for their groups: the rows of the links stand evenly among spare ones,
+    /// of which so many fix no top byte. The keys are spread over the top byte, or all have it 0.
+    pub fn grouped(side: u32, on_each: u32, rows: u32, unfixed: u32, spread: bool) -> BusyMesh {
+        let mut mesh = BusyMesh::open(side, side);
+        let top = |number: u32| if spread { number % 256 << 24 } else { 0 };
+        let key = |link: u32| top(43 * link) | link;
+        for _ in 0..side * side {
+            let mut spare = 0;
+            for row in 0..rows {
+                let link = LINKS * row / rows;
+                if row == (2 * link + 1) * rows / (2 * LINKS) {
+                    mesh.add_row(key(link), 1 << link);
+                    continue;
+                }
+                // Evenly too: row number n is one of them where n * unfixed / rows steps on.
+                let fixes = (row + 1) * unfixed / rows == row * unfixed / rows;
+                let (top, mask) = if fixes { (top(row), u32::MAX) } else { (0, 0x00ff_ffff) };
+                mesh.add_masked(top | SPARE + spare, mask, 0);
+                spare += 1;
+            }
+            mesh.end_chip();
+        }
+        mesh.room = vec![0; 257 + 256 * rows as usize];
+        mesh.fill(on_each, |link, _| (0x00, key(link)));
         mesh
     }
 
@@ -105,13 +133,22 @@ impl BusyMesh {
             starts: self.starts.clone(),
             codes: self.codes.clone(),
             fixed: self.fixed.clone(),
+            room: self.room.clone(),
         }
     }
 
     /// Makes a call that needs no more than buffer, log and tables.
     pub fn on(&mut self, call: fn(&mut [u32], &mut [u32], &LentTables) -> Added) -> Added {
-        let tables = LentTables { rows: &self.rows, starts: &self.starts, codes: &self.codes, fixed: &self.fixed };
+        let (rows, starts, codes, fixed) = (&self.rows, &self.starts, &self.codes, &self.fixed);
+        let tables = LentTables { rows, starts, codes, fixed, room: 0 };
         call(&mut self.words, &mut self.log, &tables)
+    }
+
+    /// The same call with room for groups.
+    pub fn in_room(&mut self, call: fn(&mut [u32], &mut [u32], &LentTables, &mut [u32]) -> Added) -> Added {
+        let (rows, starts, codes, fixed) = (&self.rows, &self.starts, &self.codes, &self.fixed);
+        let tables = LentTables { rows, starts, codes, fixed, room: self.room.len() };
+        call(&mut self.words, &mut self.log, &tables, &mut self.room)
     }
 
     pub fn inject_by(
@@ -119,7 +156,8 @@ impl BusyMesh {
         call: fn(&mut [u32], &mut [u32], u32, &[u8], &LentTables) -> Added,
         packet: &[u8],
     ) -> Added {
-        let tables = LentTables { rows: &self.rows, starts: &self.starts, codes: &self.codes, fixed: &self.fixed };
+        let (rows, starts, codes, fixed) = (&self.rows, &self.starts, &self.codes, &self.fixed);
+        let tables = LentTables { rows, starts, codes, fixed, room: 0 };
         let chip = self.chip;
         self.chip = if chip as usize + 2 < self.starts.len() { chip + 1 } else { 0 };
         call(&mut self.words, &mut self.log, chip, packet, &tables)
@@ -130,7 +168,8 @@ impl BusyMesh {
         call: fn(&mut [u32], &mut [u32], &[u8], &LentTables) -> Replayed,
         trace: &[u8],
     ) -> Replayed {
-        let tables = LentTables { rows: &self.rows, starts: &self.starts, codes: &self.codes, fixed: &self.fixed };
+        let (rows, starts, codes, fixed) = (&self.rows, &self.starts, &self.codes, &self.fixed);
+        let tables = LentTables { rows, starts, codes, fixed, room: 0 };
         call(&mut self.words, &mut self.log, trace, &tables)
     }
 
@@ -140,11 +179,15 @@ impl BusyMesh {
         let chips = (width * height) as usize;
         let log = vec![0; chips * LINKS as usize * 8 * RECORD];
         let (codes, fixed) = (vec![6; chips * chips], vec![0; chips]);
-        BusyMesh { words, log, chip: 0, rows: vec![], starts: vec![0], codes, fixed }
+        BusyMesh { words, log, chip: 0, rows: vec![], starts: vec![0], codes, fixed, room: vec![] }
     }
 
     fn add_row(&mut self, key: u32, route: u32) {
-        self.rows.extend_from_slice(&[key, u32::MAX, route]);
+        self.add_masked(key, u32::MAX, route);
+    }
+
+    fn add_masked(&mut self, key: u32, mask: u32, route: u32) {
+        self.rows.extend_from_slice(&[key, mask, route]);
     }
 
     fn end_chip(&mut self) {
@@ -152,7 +195,7 @@ impl BusyMesh {
     }
 
     /// Injects packets at every chip: control byte, without parity, and word of what goes out by a link.
-    fn fill(&mut self, on_each: u32, packet: fn(u32, u32) -> (u8, u32)) {
+    fn fill(&mut self, on_each: u32, packet: impl Fn(u32, u32) -> (u8, u32)) {
         let chips = self.starts.len() as u32 - 1;
         for _ in 0..on_each {
             for link in 0..LINKS {

@@ -61,7 +61,8 @@ impl KeptTrace {
     }
 
     pub fn on_part(&mut self, bytes: Range<usize>, replay: Replay) -> Replayed {
-        let tables = LentTables { rows: &self.rows, starts: &self.starts, codes: &self.codes, fixed: &self.fixed };
+        let tables =
+            LentTables { rows: &self.rows, starts: &self.starts, codes: &self.codes, fixed: &self.fixed, room: 0 };
         replay(&mut self.words, &mut self.log, &self.trace[bytes], &tables)
     }
 

@@ -18,6 +18,7 @@ mod mesh_calls;
 mod mesh_times;
 #[path = "../../tests/compare/src/model.rs"]
 mod model;
+mod no_room;
 mod packet_times;
 mod pass_times;
 mod plain_fewer;
@@ -26,6 +27,7 @@ mod plain_tree;
 #[path = "../../tests/compare/src/random.rs"]
 mod random;
 mod replay_times;
+mod room_times;
 mod stack;
 mod timing;
 #[path = "../../tests/compare/src/trace_calls.rs"]
@@ -41,6 +43,7 @@ fn main() {
     packet_times::all(rounds);
     mesh_times::all(rounds);
     replay_times::all(rounds);
+    room_times::all(rounds);
     flood_times::all(rounds);
     tree_times::all(rounds);
     growth::all(rounds);

@@ -2,7 +2,7 @@
 //! packet, for which no row is searched.
 
 use crate::interface::{Pass, PassCall};
-use crate::{lib_calls, model, timing};
+use crate::{model, no_room, timing};
 
 const SIDE: u32 = 12;
 const KEY: u32 = 0x1234;
@@ -11,7 +11,7 @@ const ROUTE: u32 = 1 << 2 | 1 << 3 | 1 << 6 | 1 << 9;
 const READY: u32 = 63 & !(1 << 3);
 
 pub fn all(rounds: usize) {
-    let versions: [fn(&PassCall) -> Pass; 3] = [lib_calls::pass, model::pass::<false>, model::pass::<true>];
+    let versions: [fn(&PassCall) -> Pass; 3] = [no_room::pass, model::pass::<false>, model::pass::<true>];
     for row_count in [16, 256, 1024] {
         for matches in [true, false] {
             let rows = table(row_count, matches);
@@ -27,7 +27,7 @@ pub fn call(rows: &[u32]) -> PassCall<'_> {
     let packet = &[0x00, 0x00, 0x00, 0x12, 0x34];
     let codes = &[6; (SIDE * SIDE) as usize];
     let (monitor, phase, ready, fixed) = (0, 0, READY, ROUTE);
-    PassCall { packet, source: 0, width: SIDE, height: SIDE, rows, codes, monitor, phase, ready, fixed }
+    PassCall { packet, source: 0, width: SIDE, height: SIDE, rows, codes, monitor, phase, ready, fixed, room: 0 }
 }
 
 /// A fixed-route packet with the route that the rows have.

@@ -3,7 +3,7 @@
 
 use crate::interface::{Added, KeptCall, LentTables, Replayed};
 use crate::kept_trace::{KeptTrace, CALLS};
-use crate::{mesh_calls, plain_mesh, timing, trace_calls};
+use crate::{mesh_calls, no_room, plain_mesh, timing, trace_calls};
 use std::hint::black_box;
 use std::time::Instant;
 
@@ -15,7 +15,7 @@ const SOME_TENS: std::ops::Range<u32> = 20..100;
 
 type Version = fn(&mut KeptTrace) -> Replayed;
 
-const REPLAY: Version = |kept| kept.on(trace_calls::replay);
+const REPLAY: Version = |kept| kept.on(no_room::replay);
 const ONE_BY_ONE: Version = |kept| kept.on(one_by_one);
 const PLAIN: Version = |kept| kept.on(plain_mesh::replay::<false>);
 const TUNED: Version = |kept| kept.on(plain_mesh::replay::<true>);
@@ -92,7 +92,7 @@ fn in_flight(start: &KeptTrace) -> u32 {
     let mut kept = start.clone();
     let (mut at, mut packets) = (0, 0);
     for round in start.rounds.iter().copied() {
-        assert_eq!(kept.on_part(at..round, trace_calls::replay).refusal, 0);
+        assert_eq!(kept.on_part(at..round, no_room::replay).refusal, 0);
         packets += mesh_calls::look(&kept.words).in_flight;
         at = round;
     }

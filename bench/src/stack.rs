@@ -3,7 +3,7 @@
 
 use crate::busy_mesh::{bytes, BusyMesh};
 use crate::interface::{Fields, KeptCall, Row, TreeCall};
-use crate::{fewer_calls, lib_calls, mesh_calls, pass_times, trace_calls, tree_calls, tree_times};
+use crate::{fewer_calls, lib_calls, mesh_calls, no_room, pass_times, trace_calls, tree_calls, tree_times};
 use std::arch::asm;
 use std::cell::RefCell;
 use std::hint::black_box;
@@ -68,7 +68,7 @@ extern "C" fn pack() {
 }
 
 extern "C" fn pass() {
-    black_box(lib_calls::pass(black_box(&pass_times::call(black_box(&[0; 3 * 1024])))));
+    black_box(no_room::pass(black_box(&pass_times::call(black_box(&[0; 3 * 1024])))));
 }
 
 extern "C" fn find() {
@@ -136,7 +136,7 @@ extern "C" fn read_record() {
 }
 
 extern "C" fn replay() {
-    MESH.with_borrow_mut(|mesh| black_box(mesh.replay_by(trace_calls::replay, black_box(&EACH_KIND))));
+    MESH.with_borrow_mut(|mesh| black_box(mesh.replay_by(no_room::replay, black_box(&EACH_KIND))));
 }
 
 fn stack_use(caller: extern "C" fn()) -> usize {

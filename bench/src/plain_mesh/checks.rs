@@ -3,13 +3,15 @@
 use super::holding::holds;
 use super::{chips_of, link_at, HELD, RECORD};
 use crate::interface::{LentTables, Packet};
-use crate::model::{codes_fit, direct_of, is_route, kind, kind_of, refusal, routes_fit, take, LINKS, MOST_ROWS};
+use crate::model::{
+    codes_fit, direct_of, is_route, kind, kind_of, refusal, room_fits, routes_fit, take, LINKS, MOST_ROWS,
+};
 
 pub const NO_MESH: u32 = 8;
 pub const NOT_THERE: u32 = 9;
 pub const LOG: u32 = 10;
 
-/// 8, 9, 15, 16, 17, 18, 11, 10, 2, 4.
+/// 8, 9, 15, 16, 17, 18, 11, 29, 10, 2, 4.
 pub fn inject<const JOINED: bool>(
     mesh: &[u32],
     log: &[u32],
@@ -39,7 +41,7 @@ pub fn packet(bytes: &[u8]) -> Result<Packet, u32> {
     Ok(packet)
 }
 
-/// 8, 15, 16, 17, 18, 11, 10.
+/// 8, 15, 16, 17, 18, 11, 29, 10.
 pub fn round<const JOINED: bool>(mesh: &[u32], log: &[u32], tables: &LentTables) -> Result<(), u32> {
     if !holds(mesh) {
         return Err(NO_MESH);
@@ -51,7 +53,7 @@ pub fn round<const JOINED: bool>(mesh: &[u32], log: &[u32], tables: &LentTables)
     Ok(())
 }
 
-/// 15, 16, 17, 18, 11.
+/// 15, 16, 17, 18, 11, 29.
 pub fn check_tables<const JOINED: bool>(chips: usize, tables: &LentTables) -> Result<(), u32> {
     let starts = tables.starts;
     let starts_fit = starts.len() == chips + 1
@@ -73,7 +75,14 @@ pub fn check_tables<const JOINED: bool>(chips: usize, tables: &LentTables) -> Re
     if !codes_fit::<JOINED>(tables.codes, (chips * chips) as u32) {
         return Err(refusal::CODES);
     }
+    if tables.room != 0 && !room_fits(tables.room, longest_table(starts)) {
+        return Err(refusal::GROUPS_ROOM);
+    }
     Ok(())
+}
+
+fn longest_table(starts: &[u32]) -> usize {
+    starts.windows(2).map(|pair| (pair[1] - pair[0]) as usize).max().unwrap_or(0)
 }
 
 fn fixed_fit<const JOINED: bool>(fixed: &[u32], chips: usize) -> bool {

@@ -4,16 +4,18 @@
 
 mod checks;
 mod flooding;
+mod groups;
 mod holding;
 mod passing;
 mod places;
 mod replaying;
 
 use crate::interface::{Added, LentTables};
-use crate::model::{self, LINKS, LOCAL};
+use crate::model::{self, first_match, LINKS, LOCAL};
+pub use flooding::flood;
+pub use groups::round_in;
 use passing::{packet_at, pass_at};
 use places::place_of;
-pub use flooding::flood;
 pub use replaying::replay;
 
 const HEADER: usize = 6;
@@ -55,7 +57,7 @@ pub fn inject<const JOINED: bool>(
     }
     match model::take(bytes) {
         Err(refusal) => Added { refusal, added: 0, place: 0 },
-        Ok(packet) => accepted(pass_at(mesh, log, 0, chip as usize, LOCAL, packet, tables)),
+        Ok(packet) => accepted(pass_at(mesh, log, 0, chip as usize, LOCAL, packet, tables, first_match)),
     }
 }
 
@@ -76,16 +78,35 @@ fn accepted(added: usize) -> Added {
 fn pass_all(mesh: &mut [u32], log: &mut [u32], mut records: usize, tables: &LentTables) -> usize {
     set_aside(mesh);
     for chip in 0..chips_of(mesh) {
-        for source in 0..LINKS as usize {
-            let from = link_at(neighbour(mesh, chip, source), (source + 3) % LINKS as usize);
-            for number in 0..mesh[from + ASIDE] as usize {
-                let packet = packet_at(mesh, from + ASIDE + 1 + number * PLACE);
-                records = pass_at(mesh, log, records, chip, source as u32, packet, tables);
-            }
-        }
+        records = pass_chip(mesh, log, records, chip, tables, first_match);
     }
     end_round(mesh);
     records
+}
+
+/// All that arrives at a chip. `find` is how its rows are searched.
+#[inline(always)]
+fn pass_chip(
+    mesh: &mut [u32],
+    log: &mut [u32],
+    mut records: usize,
+    chip: usize,
+    tables: &LentTables,
+    find: impl Fn(&[u32], u32) -> Option<u32> + Copy,
+) -> usize {
+    for source in 0..LINKS as usize {
+        let from = arrival_at(mesh, chip, source);
+        for number in 0..mesh[from + ASIDE] as usize {
+            let packet = packet_at(mesh, from + ASIDE + 1 + number * PLACE);
+            records = pass_at(mesh, log, records, chip, source as u32, packet, tables, find);
+        }
+    }
+    records
+}
+
+/// The words of the link that a chip's arrivals by a link come over.
+fn arrival_at(mesh: &[u32], chip: usize, source: usize) -> usize {
+    link_at(neighbour(mesh, chip, source), (source + 3) % LINKS as usize)
 }
 
 fn set_aside(mesh: &mut [u32]) {

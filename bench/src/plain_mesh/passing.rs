@@ -20,7 +20,7 @@ pub fn packet_at(words: &[u32], at: usize) -> Packet {
     Packet { control: words[at], nine: words[at] >> 1 & 1, word: words[at + 1], payload: words[at + 2] }
 }
 
-/// The log has so many records before. Answers how many it has then.
+/// The log has so many records before. Answers how many it has then. `find` is how the chip's rows are searched.
 pub fn pass_at(
     mesh: &mut [u32],
     log: &mut [u32],
@@ -29,6 +29,7 @@ pub fn pass_at(
     source: u32,
     packet: Packet,
     tables: &LentTables,
+    find: impl Fn(&[u32], u32) -> Option<u32>,
 ) -> usize {
     let chips = (mesh[WIDTH] * mesh[HEIGHT]) as usize;
     let (first, end) = (tables.starts[chip] as usize, tables.starts[chip + 1] as usize);
@@ -44,12 +45,13 @@ pub fn pass_at(
         phase: mesh[PHASE],
         ready: ready_set(&mesh[at..at + CHIP]),
         fixed: tables.fixed[chip],
+        room: tables.room,
     };
     let words = &mut mesh[at..at + CHIP];
     count(words, PASSES, 1);
     let errors = model::errors_of(&call, &packet);
     let (processors, packet) = if errors == 0 {
-        sound_pass(words, &call, packet)
+        sound_pass(words, &call, packet, find)
     } else {
         for (number, error) in ERRORS.iter().enumerate() {
             count(words, FIRST_ERROR + number, u32::from(errors & error != 0));
@@ -65,11 +67,16 @@ pub fn pass_at(
 }
 
 /// Answers the processors that get the packet, and the packet as it then stands.
-fn sound_pass(words: &mut [u32], call: &PassCall, packet: Packet) -> (u32, Packet) {
+fn sound_pass(
+    words: &mut [u32],
+    call: &PassCall,
+    packet: Packet,
+    find: impl Fn(&[u32], u32) -> Option<u32>,
+) -> (u32, Packet) {
     let kind = kind_of(packet.control);
     let packet = if call.source == LOCAL && kind != kind::NN { with_stamp(&packet, call.phase) } else { packet };
     let (wanted, local_miss) = match kind {
-        kind::MC => model::mc_wanted(call, &packet),
+        kind::MC => model::mc_wanted(call, &packet, find),
         kind::FIXED => (model::fixed_wanted(call, &packet), false),
         kind::P2P => (model::p2p_wanted(call, packet.word), false),
         _ => (model::nn_wanted(call, packet.control), false),

@@ -7,7 +7,7 @@ use super::passing::pass_at;
 use super::places::place_of;
 use super::{chips_of, link_at, pass_all, CHIP, COUNTERS_AT, DOWN, HEADER, RECORD};
 use crate::interface::{LentTables, Replayed};
-use crate::model::{LINKS, LOCAL};
+use crate::model::{first_match, LINKS, LOCAL};
 
 const CUT_SHORT: u32 = 12;
 const VERSION: u32 = 13;
@@ -77,7 +77,8 @@ impl Replay<'_> {
                 self.test_tables::<JOINED>(chips)?;
                 self.test_log(1)?;
                 let packet = packet(bytes)?;
-                self.records = pass_at(self.mesh, self.log, self.records, chip, LOCAL, packet, self.tables);
+                self.records =
+                    pass_at(self.mesh, self.log, self.records, chip, LOCAL, packet, self.tables, first_match);
             }
             Call::Round => {
                 self.test_tables::<JOINED>(chips)?;

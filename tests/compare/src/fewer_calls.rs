@@ -1,8 +1,7 @@
 //! The static library's call that makes tables fewer rows, as a safe call.
 
 use crate::interface::Fewer;
-use crate::lib_calls::pointer;
-use crate::mesh_calls::pointer_mut;
+use crate::lib_calls::{pointer, pointer_mut};
 
 extern "C" {
     fn yagbolshen_fewer(

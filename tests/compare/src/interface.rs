@@ -95,6 +95,8 @@ pub struct PassCall<'a> {
     pub phase: u32,
     pub ready: u32,
     pub fixed: u32,
+    /// How many numbers are lent for groups.
+    pub room: usize,
 }
 
 #[repr(C)]
@@ -248,4 +250,6 @@ pub struct LentTables<'a> {
     pub codes: &'a [u8],
     /// One route a chip.
     pub fixed: &'a [u32],
+    /// How many numbers are lent for groups beside them.
+    pub room: usize,
 }

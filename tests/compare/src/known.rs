@@ -54,5 +54,17 @@ fn pass(packet: &[u8], source: u32, ready: u32, rows: &[u32]) -> Pass {
 
 fn pass_in_phase(phase: u32, packet: &[u8], source: u32, ready: u32, rows: &[u32]) -> Pass {
     let (codes, monitor, fixed) = (&[7], 0, 0);
-    model::pass::<false>(&PassCall { packet, source, width: 1, height: 1, rows, codes, monitor, phase, ready, fixed })
+    model::pass::<false>(&PassCall {
+        packet,
+        source,
+        width: 1,
+        height: 1,
+        rows,
+        codes,
+        monitor,
+        phase,
+        ready,
+        fixed,
+        room: 0,
+    })
 }

@@ -20,6 +20,8 @@ extern "C" {
         phase: u32,
         ready: u32,
         fixed: u32,
+        room: *mut u32,
+        room_len: usize,
     ) -> Pass;
     fn yagbolshen_find(rows: *const Row, rows_len: usize, key: u32) -> Found;
 }
@@ -32,7 +34,8 @@ pub fn pack(fields: &Fields) -> Packed {
     unsafe { yagbolshen_pack(*fields) }
 }
 
-pub fn pass(call: &PassCall) -> Pass {
+/// The room that is lent has the call's length.
+pub fn pass_in(call: &PassCall, room: &mut [u32]) -> Pass {
     unsafe {
         yagbolshen_pass(
             pointer(call.packet),
@@ -48,6 +51,8 @@ pub fn pass(call: &PassCall) -> Pass {
             call.phase,
             call.ready,
             call.fixed,
+            pointer_mut(room),
+            room.len(),
         )
     }
 }
@@ -61,5 +66,13 @@ pub fn pointer<T>(slice: &[T]) -> *const T {
         std::ptr::null()
     } else {
         slice.as_ptr()
+    }
+}
+
+pub fn pointer_mut<T>(slice: &mut [T]) -> *mut T {
+    if slice.is_empty() {
+        std::ptr::null_mut()
+    } else {
+        slice.as_mut_ptr()
     }
 }

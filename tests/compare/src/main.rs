@@ -1,6 +1,6 @@
 //! Compares the static library with the model, every field of every answer, and counts what was reached. Arguments: how
 //! many times the usual count (1), the seed (1), and at choice the number of one sequence of calls on a mesh: that one
-//! alone is then run, with the kept trace of that number, and the calls are printed.
+//! alone is then run, with the kept trace and the crowd of that number, and the calls are printed.
 
 mod compare;
 mod fewer;
@@ -38,6 +38,7 @@ const FINDS: f64 = 2e6;
 const RECORDS: f64 = 4e6;
 const SEQUENCES: f64 = 3e5;
 const TRACES: f64 = 1e5;
+const CROWDS: f64 = 2e4;
 const FLOODS: f64 = 1e4;
 const FEWERS: f64 = 1e6;
 const TREES: f64 = 1e5;
@@ -56,7 +57,8 @@ fn main() {
 
     if let Some(number) = only {
         mesh::run(&mut mesh_tally, seed, number, true);
-        return mesh::run_trace(&mut mesh_tally, seed, number, true);
+        mesh::run_trace(&mut mesh_tally, seed, number, true);
+        return mesh::run_crowd(&mut mesh_tally, seed, number, true);
     }
     known::all();
     systematic::all(&mut tally, &mut random);
@@ -73,6 +75,9 @@ fn main() {
     }
     for number in 0..(TRACES * scale) as u64 {
         mesh::run_trace(&mut mesh_tally, seed, number, false);
+    }
+    for number in 0..(CROWDS * scale) as u64 {
+        mesh::run_crowd(&mut mesh_tally, seed, number, false);
     }
     mesh::flooding::systematic(&mut flood_tally, &mut random);
     mesh::flooding::random(&mut flood_tally, &mut random, (FLOODS * scale) as u64);

@@ -1,7 +1,7 @@
 //! The static library's calls on a mesh, made safe as in lib_calls.rs.
 
 use crate::interface::{Added, CountRead, Flight, LentTables, LinkLook, MeshLook, RegistersRead, Size};
-use crate::lib_calls::pointer;
+use crate::lib_calls::{pointer, pointer_mut};
 
 extern "C" {
     fn yagbolshen_size(width: u32, height: u32) -> Size;
@@ -29,6 +29,8 @@ extern "C" {
         codes_len: usize,
         fixed: *const u32,
         fixed_len: usize,
+        room: *mut u32,
+        room_len: usize,
     ) -> Added;
     fn yagbolshen_round(
         mesh: *mut u32,
@@ -43,6 +45,8 @@ extern "C" {
         codes_len: usize,
         fixed: *const u32,
         fixed_len: usize,
+        room: *mut u32,
+        room_len: usize,
     ) -> Added;
     fn yagbolshen_set_link(mesh: *mut u32, mesh_len: usize, chip: u32, link: u32, up: bool) -> u32;
     fn yagbolshen_read_registers(mesh: *mut u32, mesh_len: usize, chip: u32) -> RegistersRead;
@@ -61,7 +65,19 @@ pub fn open(mesh: &mut [u32], width: u32, height: u32, rounds_per_phase: u32, mo
     unsafe { yagbolshen_open(pointer_mut(mesh), mesh.len(), width, height, rounds_per_phase, monitor) }
 }
 
+/// With no room for groups.
 pub fn inject(mesh: &mut [u32], log: &mut [u32], chip: u32, packet: &[u8], tables: &LentTables) -> Added {
+    inject_in(mesh, log, chip, packet, tables, &mut [])
+}
+
+pub fn inject_in(
+    mesh: &mut [u32],
+    log: &mut [u32],
+    chip: u32,
+    packet: &[u8],
+    tables: &LentTables,
+    room: &mut [u32],
+) -> Added {
     unsafe {
         yagbolshen_inject(
             pointer_mut(mesh),
@@ -79,11 +95,18 @@ pub fn inject(mesh: &mut [u32], log: &mut [u32], chip: u32, packet: &[u8], table
             tables.codes.len(),
             pointer(tables.fixed),
             tables.fixed.len(),
+            pointer_mut(room),
+            room.len(),
         )
     }
 }
 
+/// With no room for groups.
 pub fn round(mesh: &mut [u32], log: &mut [u32], tables: &LentTables) -> Added {
+    round_in(mesh, log, tables, &mut [])
+}
+
+pub fn round_in(mesh: &mut [u32], log: &mut [u32], tables: &LentTables, room: &mut [u32]) -> Added {
     unsafe {
         yagbolshen_round(
             pointer_mut(mesh),
@@ -98,6 +121,8 @@ pub fn round(mesh: &mut [u32], log: &mut [u32], tables: &LentTables) -> Added {
             tables.codes.len(),
             pointer(tables.fixed),
             tables.fixed.len(),
+            pointer_mut(room),
+            room.len(),
         )
     }
 }
@@ -128,12 +153,4 @@ pub fn flight(mesh: &[u32], chip: u32, link: u32, place: u32) -> Flight {
 
 pub fn flood(mesh: &[u32], codes: &mut [u8]) -> u32 {
     unsafe { yagbolshen_flood(pointer(mesh), mesh.len(), pointer_mut(codes), codes.len()) }
-}
-
-pub fn pointer_mut<T>(slice: &mut [T]) -> *mut T {
-    if slice.is_empty() {
-        std::ptr::null_mut()
-    } else {
-        slice.as_mut_ptr()
-    }
 }

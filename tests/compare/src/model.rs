@@ -43,6 +43,7 @@ pub mod refusal {
     pub const MANY_ROWS: u32 = 16;
     pub const ROUTE: u32 = 17;
     pub const FIXED_ROUTE: u32 = 18;
+    pub const GROUPS_ROOM: u32 = 29;
 }
 
 pub fn read(bytes: &[u8]) -> Read {
@@ -212,7 +213,7 @@ pub fn bad_row(rows: &[u32]) -> Option<usize> {
     rows.chunks(ROW).position(|row| row.len() < ROW || !is_route(row[2]))
 }
 
-/// The packet, or the first refusal that applies: 7, 6, 16, 17, 18, 11, 1, 2, 4.
+/// The packet, or the first refusal that applies: 7, 6, 16, 17, 18, 11, 29, 1, 2, 4.
 fn accept<const JOINED: bool>(call: &PassCall) -> Result<Packet, u32> {
     if !is_side(call.width) || !is_side(call.height) {
         return Err(refusal::SIZE);
@@ -232,6 +233,9 @@ fn accept<const JOINED: bool>(call: &PassCall) -> Result<Packet, u32> {
     if !codes_fit::<JOINED>(call.codes, call.width * call.height) {
         return Err(refusal::CODES);
     }
+    if !room_fits(call.room, call.rows.len() / ROW) {
+        return Err(refusal::GROUPS_ROOM);
+    }
     if call.source >= LINKS && call.source != LOCAL {
         return Err(refusal::SOURCE);
     }
@@ -240,6 +244,11 @@ fn accept<const JOINED: bool>(call: &PassCall) -> Result<Packet, u32> {
         return Err(refusal::DIRECT);
     }
     Ok(packet)
+}
+
+/// No room, or at least "257 numbers plus 256 for each row of the longest table".
+pub fn room_fits(room: usize, longest: usize) -> bool {
+    room == 0 || room >= 257 + 256 * longest
 }
 
 fn is_side(side: u32) -> bool {
@@ -331,7 +340,7 @@ fn sound_pass(call: &PassCall, packet: Packet) -> Pass {
     let packet = if local && kind != kind::NN { with_stamp(&packet, call.phase) } else { packet };
 
     let (wanted, local_miss) = match kind {
-        kind::MC => mc_wanted(call, &packet),
+        kind::MC => mc_wanted(call, &packet, first_match),
         kind::FIXED => (fixed_wanted(call, &packet), false),
         kind::P2P => (p2p_wanted(call, packet.word), false),
         _ => (nn_wanted(call, packet.control), false),
@@ -354,13 +363,14 @@ fn sound_pass(call: &PassCall, packet: Packet) -> Pass {
     pass
 }
 
-/// The wanted set of a multicast packet, and whether it is a local miss.
-pub fn mc_wanted(call: &PassCall, packet: &Packet) -> (u32, bool) {
+/// The wanted set of a multicast packet, and whether it is a local miss. `find` is how the rows are searched.
+#[inline(always)]
+pub fn mc_wanted(call: &PassCall, packet: &Packet, find: impl Fn(&[u32], u32) -> Option<u32>) -> (u32, bool) {
     let mark = mark_of(packet.control);
     if mark == mark::EMERGENCY {
         return (0, false);
     }
-    match first_match(call.rows, packet.word) {
+    match find(call.rows, packet.word) {
         Some(route) => (route, false),
         None if call.source == LOCAL => (monitor_route(call), true),
         None if mark == mark::SECOND_LEG => (1 << ((call.source + 2) % LINKS), false),

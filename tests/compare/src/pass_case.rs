@@ -16,6 +16,8 @@ pub struct PassCase {
     pub phase: u32,
     pub ready: u32,
     pub fixed: u32,
+    /// How many numbers are lent for groups.
+    pub room: usize,
 }
 
 impl PassCase {
@@ -31,6 +33,7 @@ impl PassCase {
             phase: self.phase,
             ready: self.ready,
             fixed: self.fixed,
+            room: self.room,
         }
     }
 
@@ -50,6 +53,11 @@ impl PassCase {
         self.fixed = random_route(random);
         self.codes.clear();
         self.codes.extend((0..self.width * self.height).map(|_| random.below(8) as u8));
+        self.room = if random.one_in(4) { self.enough_room() + random.pick(&[0, 0, 1, 300]) as usize } else { 0 };
+    }
+
+    fn enough_room(&self) -> usize {
+        257 + 256 * (self.rows.len() / 3)
     }
 
     fn random_word(&self, random: &mut Random, kind: u32) -> u32 {
@@ -120,7 +128,7 @@ pub fn random_route(random: &mut Random) -> u32 {
 pub type Damage = fn(&mut PassCase, &mut Random);
 
 /// Each gives an input that was accepted a reason to be refused.
-pub const DAMAGES: [Damage; 14] = [
+pub const DAMAGES: [Damage; 15] = [
     |case, random| case.width = random.pick(&[0, 13, 14, 255, 0x1_0000, 0x8000_0001, u32::MAX]),
     |case, random| case.height = random.pick(&[0, 13, 14, 255, 0x1_0000, 0x8000_0001, u32::MAX]),
     |case, random| case.phase = random.pick(&[4, 5, 7, 8, 0x8000_0000, u32::MAX]),
@@ -161,6 +169,10 @@ pub const DAMAGES: [Damage; 14] = [
     },
     |case, random| case.fixed |= 1 << (26 + random.below(6)),
     |case, _| case.set_control(|control| control & 0x3f | 0xa0),
+    |case, random| {
+        let short = case.enough_room() as u32 - 1;
+        case.room = random.pick(&[1, 256, short, short]) as usize;
+    },
 ];
 
 impl PassCase {

@@ -35,6 +35,7 @@ const PASS_CALL: Events<Pass> = &[
     ("pass refusal 17, a row's route", |pass| pass.refusal == refusal::ROUTE),
     ("pass refusal 18, the fixed route", |pass| pass.refusal == refusal::FIXED_ROUTE),
     ("pass refusal 11, codes", |pass| pass.refusal == refusal::CODES),
+    ("pass refusal 29, room for groups", |pass| pass.refusal == refusal::GROUPS_ROOM),
     ("pass refusal 1, source", |pass| pass.refusal == refusal::SOURCE),
     ("pass refusal 2, length", |pass| pass.refusal == refusal::LENGTH),
     ("pass refusal 4, NN with T = 1", |pass| pass.refusal == refusal::DIRECT),
@@ -50,6 +51,8 @@ struct BadTables {
     bad_fixed: bool,
     bad_code: bool,
     of_fixed: bool,
+    bad_source: bool,
+    room: usize,
 }
 
 impl BadTables {
@@ -61,8 +64,14 @@ impl BadTables {
             bad_rows: call.rows.chunks_exact(3).filter(|row| !is_route(row[2])).count(),
             bad_fixed: !is_route(call.fixed),
             bad_code: call.codes.iter().any(|&code| code > 7),
+            bad_source: call.source == 6 || call.source > model::LOCAL,
+            room: call.room,
             of_fixed: call.packet.first().is_some_and(|&control| kind_of(control.into()) == kind::FIXED),
         }
+    }
+
+    fn is_short(&self) -> bool {
+        !model::room_fits(self.room, self.words / 3)
     }
 
     /// How many words there are from the row that it told of on; 17 alone tells of one.
@@ -92,6 +101,15 @@ const BAD_TABLES: Events<BadTables> = &[
     ("18, packet of type 11", |case| case.refusal == refusal::FIXED_ROUTE && case.of_fixed),
     ("18, packet of another type", |case| case.refusal == refusal::FIXED_ROUTE && !case.of_fixed),
     ("18 before 11", |case| case.refusal == refusal::FIXED_ROUTE && case.bad_code),
+    ("11 before 29", |case| case.refusal == refusal::CODES && case.is_short()),
+    ("29, room for one number", |case| case.refusal == refusal::GROUPS_ROOM && case.room == 1),
+    ("29, room for 256 numbers, no rows", |case| {
+        case.refusal == refusal::GROUPS_ROOM && case.room == 256 && case.words == 0
+    }),
+    ("29, one number short, some rows", |case| {
+        case.refusal == refusal::GROUPS_ROOM && case.words > 0 && model::room_fits(case.room + 1, case.words / 3)
+    }),
+    ("29 before 1", |case| case.refusal == refusal::GROUPS_ROOM && case.bad_source),
     ("7 before 17", |case| case.refusal == refusal::SIZE && case.bad_rows > 0),
     ("6 before 17", |case| case.refusal == refusal::RANGE && case.bad_rows > 0),
 ];

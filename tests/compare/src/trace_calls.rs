@@ -1,8 +1,7 @@
 //! The static library's calls about a kept trace, made safe as in lib_calls.rs.
 
 use crate::interface::{KeptCall, LentTables, RecordRead, Replayed, Written};
-use crate::lib_calls::pointer;
-use crate::mesh_calls::pointer_mut;
+use crate::lib_calls::{pointer, pointer_mut};
 
 extern "C" {
     fn yagbolshen_write_record(trace: *mut u8, trace_len: usize, call: KeptCall) -> Written;
@@ -22,6 +21,8 @@ extern "C" {
         codes_len: usize,
         fixed: *const u32,
         fixed_len: usize,
+        room: *mut u32,
+        room_len: usize,
     ) -> Replayed;
 }
 
@@ -33,7 +34,7 @@ pub fn read_record(trace: &[u8]) -> RecordRead {
     unsafe { yagbolshen_read_record(pointer(trace), trace.len()) }
 }
 
-pub fn replay(mesh: &mut [u32], log: &mut [u32], trace: &[u8], tables: &LentTables) -> Replayed {
+pub fn replay_in(mesh: &mut [u32], log: &mut [u32], trace: &[u8], tables: &LentTables, room: &mut [u32]) -> Replayed {
     unsafe {
         yagbolshen_replay(
             pointer_mut(mesh),
@@ -50,6 +51,8 @@ pub fn replay(mesh: &mut [u32], log: &mut [u32], trace: &[u8], tables: &LentTabl
             tables.codes.len(),
             pointer(tables.fixed),
             tables.fixed.len(),
+            pointer_mut(room),
+            room.len(),
         )
     }
 }

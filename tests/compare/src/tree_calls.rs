@@ -1,8 +1,7 @@
 //! The static library's call that grows a multicast tree, as a safe call.
 
 use crate::interface::{Tree, TreeCall};
-use crate::lib_calls::pointer;
-use crate::mesh_calls::pointer_mut;
+use crate::lib_calls::{pointer, pointer_mut};
 
 extern "C" {
     fn yagbolshen_tree(

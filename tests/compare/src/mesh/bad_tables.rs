@@ -1,6 +1,8 @@
 //! What is wrong with lent tables, and the first place where it is: written after the sentences of the rules.
-//! "15 bad starts, 16 too many rows, 17 route bits, .. in that order; a bad fixed route .. 18, after 17"; then 11.
+//! "15 bad starts, 16 too many rows, 17 route bits, .. in that order; a bad fixed route .. 18, after 17"; then 11; then 29,
+//! "room under 257 numbers plus 256 for each row of the longest table".
 
+use super::groups::room_for;
 use crate::interface::LentTables;
 use crate::model::{refusal, MOST_ROWS};
 
@@ -29,6 +31,7 @@ pub struct Faults {
     pub row: Option<usize>,
     pub fixed: Option<usize>,
     pub codes: bool,
+    pub room: bool,
 }
 
 impl Faults {
@@ -39,13 +42,22 @@ impl Faults {
             row: bad_row(tables.rows),
             fixed: bad_fixed(tables.fixed, chips),
             codes: tables.codes.len() != chips * chips || tables.codes.iter().any(|&code| code > MOST_CODE),
+            room: tables.room != 0 && tables.room < room_for(longest_table(tables.starts)),
         }
     }
 
     /// "The numbers go before the places: a bad start at the end comes before a bad route in row 0."
     pub fn refused(&self) -> Refused {
-        let numbers = [refusal::STARTS, refusal::MANY_ROWS, refusal::ROUTE, refusal::FIXED_ROUTE, refusal::CODES];
-        let places = [self.start, self.crowd, self.row, self.fixed, self.codes.then_some(0)];
+        let numbers = [
+            refusal::STARTS,
+            refusal::MANY_ROWS,
+            refusal::ROUTE,
+            refusal::FIXED_ROUTE,
+            refusal::CODES,
+            refusal::GROUPS_ROOM,
+        ];
+        let (codes, room) = (self.codes.then_some(0), self.room.then_some(0));
+        let places = [self.start, self.crowd, self.row, self.fixed, codes, room];
         let mut with_places = numbers.into_iter().zip(places);
         let refused = with_places.find_map(|(number, place)| Some(Refused { number, place: place? as u32 }));
         refused.unwrap_or_default()
@@ -60,6 +72,11 @@ fn bad_start(starts: &[u32], chips: usize, rows: usize) -> Option<usize> {
     }
     let falls = (1..=chips).find(|&at| starts[at] < starts[at - 1]);
     falls.or((starts[chips] as usize != rows).then_some(chips))
+}
+
+/// The most rows of one chip; where starts fall, 15 goes before.
+pub fn longest_table(starts: &[u32]) -> usize {
+    starts.windows(2).map(|pair| pair[1].saturating_sub(pair[0]) as usize).max().unwrap_or(0)
 }
 
 /// "16: the lowest chip." Where starts fall, 15 goes before.

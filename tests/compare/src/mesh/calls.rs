@@ -1,6 +1,7 @@
 //! Each call on a mesh, made on the library's buffer and on the model's mesh, and what both answer and leave compared.
 
 use super::account;
+use super::groups;
 use super::layout::{link_at, words_for, CHIP, COUNTERS_AT, HEADER};
 use super::model::{Done, Mesh};
 use super::pair::Pair;
@@ -40,6 +41,7 @@ impl Pair {
         packet: &[u8],
         tables: &LentTables,
     ) -> Added {
+        let tables = &self.lender.lend(tables);
         self.begin("inject", || format!("at {chip:x}, log {room:x}, {packet:x?}, {tables:x?}"));
         let refused = refusals::inject(self.mesh.as_ref(), room, chip, packet, tables);
         let in_flight = account::in_flight(self.mesh.as_ref());
@@ -48,8 +50,10 @@ impl Pair {
             _ => Done::default(),
         };
         let (words, log) = (&mut self.words[..self.lent], &mut self.log[..room]);
-        let answer = mesh_calls::inject(words, log, chip, packet, tables);
+        let answer = mesh_calls::inject_in(words, log, chip, packet, tables, self.lender.room());
         self.settle_moved(refused, &done, answer);
+        self.settle_room();
+        tally.rooms.lent(Call::Inject, tables, self.mesh.as_ref(), refused.number, room);
         self.settle_account(in_flight, &done);
         tally.refusal(Call::Inject, refused.number);
         tally.places.inject.tables(self.mesh.as_ref(), tables, refused);
@@ -58,19 +62,24 @@ impl Pair {
     }
 
     pub fn round(&mut self, tally: &mut MeshTally, room: usize, tables: &LentTables) -> Added {
+        let tables = &self.lender.lend(tables);
         self.begin("round", || format!("log {room:x}, {tables:x?}"));
         let refused = refusals::round(self.mesh.as_ref(), room, tables);
         let in_flight = account::in_flight(self.mesh.as_ref());
         let done = match &mut self.mesh {
             Some(mesh) if refused.number == 0 => {
                 tally.round_begins(mesh, room);
+                let built = groups::after_round(mesh, tables, self.lender.expected());
+                tally.rooms.built(Call::Round, &built);
                 mesh.round(tables)
             }
             _ => Done::default(),
         };
         let (words, log) = (&mut self.words[..self.lent], &mut self.log[..room]);
-        let answer = mesh_calls::round(words, log, tables);
+        let answer = mesh_calls::round_in(words, log, tables, self.lender.room());
         self.settle_moved(refused, &done, answer);
+        self.settle_room();
+        tally.rooms.lent(Call::Round, tables, self.mesh.as_ref(), refused.number, room);
         self.settle_account(in_flight, &done);
         tally.refusal(Call::Round, refused.number);
         tally.places.round.tables(self.mesh.as_ref(), tables, refused);

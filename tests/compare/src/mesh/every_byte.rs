@@ -148,7 +148,7 @@ impl Trial<'_> {
             self.replay(self.kept.room, &[&passes_nothing[..], &round].concat(), &tables.lent());
             self.replay(self.kept.room, &[&passes_nothing[..], &trace].concat(), &tables.lent());
         }
-        let none = LentTables { rows: &[], starts: &[], codes: &[], fixed: &[] };
+        let none = LentTables { rows: &[], starts: &[], codes: &[], fixed: &[], room: 0 };
         self.replay(self.kept.room, &passes_nothing, &none);
         self.replay(0, &passes_nothing, &none);
         self.replay(self.kept.room, &trace, &none);
@@ -191,7 +191,7 @@ impl Trial<'_> {
 /// Nothing is lent at all.
 fn of_nothing(tally: &mut MeshTally) {
     let mut pair = Pair::new("a replay of nothing".to_string(), false, vec![0; 8], 0, vec![0; 8]);
-    let none = LentTables { rows: &[], starts: &[], codes: &[], fixed: &[] };
+    let none = LentTables { rows: &[], starts: &[], codes: &[], fixed: &[], room: 0 };
     pair.replay(tally, 0, &[], &none);
     pair.replay(tally, 0, &[0, 2, 1, 2], &none);
     tally.replays.of_nothing += 1;

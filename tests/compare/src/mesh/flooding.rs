@@ -197,7 +197,7 @@ impl OneWay {
     /// destination alone. Answers whether it came with another stamp than the phase's.
     fn send(&mut self, random: &mut Random, rounds_before: u32, codes: &[u8]) -> bool {
         let chips = codes.len().isqrt();
-        let tables = LentTables { rows: &[], starts: &vec![0; chips + 1], codes, fixed: &vec![0; chips] };
+        let tables = LentTables { rows: &[], starts: &vec![0; chips + 1], codes, fixed: &vec![0; chips], room: 0 };
         let log = &mut [0; 6];
         (0..rounds_before).for_each(|_| assert_eq!(self.round(log, &tables), 0, "{}: before it", self.name()));
         let packet = p2p(random, self.id(self.from), self.id(self.to));

@@ -144,6 +144,12 @@ impl Mesh {
         self.chips.iter_mut().map(of_chip).collect()
     }
 
+    /// The packets that the next round passes at a chip, by the links that they arrive by.
+    pub fn arriving(&self, chip: u32) -> impl Iterator<Item = &Packet> + '_ {
+        let from = move |arrival| &self.chips[self.neighbour(chip, arrival) as usize].links[(arrival as usize + 3) % 6];
+        (0..6).flat_map(move |arrival| &from(arrival).held)
+    }
+
     /// The chip that this link of a chip leads to, which is also the one that arrivals by this link come from.
     pub fn neighbour(&self, chip: u32, link: u32) -> u32 {
         let (width, height) = (self.width, self.height);

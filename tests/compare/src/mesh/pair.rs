@@ -4,6 +4,7 @@
 use super::account;
 use super::bad_tables::Refused;
 use super::layout::{mesh_in, words_for};
+use super::lending::Lender;
 use super::model::{Done, Mesh};
 use crate::interface::Added;
 use std::fmt::Debug;
@@ -24,13 +25,16 @@ pub struct Pair {
     /// What words and log have to be if a call changes nothing.
     pub before: Vec<u32>,
     log_before: Vec<u32>,
+    /// The room for groups.
+    pub lender: Lender,
 }
 
 impl Pair {
     pub fn new(name: String, prints: bool, words: Vec<u32>, lent: usize, log: Vec<u32>) -> Pair {
         let mesh = mesh_in(&words[..lent]);
         let (before, log_before) = (words.clone(), log.clone());
-        Pair { name, prints, calls: 0, call: "", mesh, words, lent, log, before, log_before }
+        let lender = Lender::new(&name);
+        Pair { name, prints, calls: 0, call: "", mesh, words, lent, log, before, log_before, lender }
     }
 
     /// The words were changed from outside, or others of them are lent: what they hold is read anew.
@@ -93,6 +97,12 @@ impl Pair {
             self.mesh_differs(left.as_ref());
         }
         self.before.copy_from_slice(&self.words);
+    }
+
+    /// After a call that was lent room for groups: it holds what it has to hold, and what is about it is as it was.
+    pub fn settle_room(&self) {
+        let (expected, room) = self.lender.both();
+        self.same_words("room for groups", expected, room);
     }
 
     /// No word but those that were also set in `before` has changed.

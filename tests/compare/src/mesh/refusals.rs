@@ -1,5 +1,5 @@
-//! Which calls on a mesh are refused, and by which number: the first that applies of 8, 9, 15, 16, 17, 18, 11, 10, 2, 4,
-//! or on opening of 7, 6, 8. 0 is a call that is accepted. Injection and round have a place beside it.
+//! Which calls on a mesh are refused, and by which number: the first that applies of 8, 9, 15, 16, 17, 18, 11, 29, 10,
+//! 2, 4, or on opening of 7, 6, 8. 0 is a call that is accepted. Injection and round have a place beside it.
 
 use super::bad_tables::{Faults, Refused};
 use super::layout::{is_rounds, is_side, words_for, PROCESSORS};

@@ -2,6 +2,7 @@
 //! and their calls made on the model's mesh, "each with the rest of the log", up to the first refusal.
 
 use super::bad_tables::Refused;
+use super::groups::{self, Built};
 use super::model::{Done, Mesh};
 use super::refusals;
 use crate::interface::{KeptCall, LentTables, Registers, Replayed};
@@ -20,12 +21,15 @@ pub struct Played {
     pub registers: Vec<Registers>,
     /// The call that was refused, unless its record was.
     pub refused: Option<KeptCall>,
+    /// The groups that its rounds built.
+    pub built: Vec<Built>,
 }
 
-pub fn replay(mesh: &mut Option<Mesh>, room: usize, trace: &[u8], tables: &LentTables) -> Played {
+/// `room` words of the log are lent; `groups` is the room for groups.
+pub fn replay(mesh: &mut Option<Mesh>, room: usize, trace: &[u8], tables: &LentTables, groups: &mut [u32]) -> Played {
     let mut played = Played::default();
     while played.answer.at < trace.len() {
-        match played.next(mesh, room, &trace[played.answer.at..], tables) {
+        match played.next(mesh, room, &trace[played.answer.at..], tables, groups) {
             Ok(length) => played.answer.at += length,
             Err(refused) => {
                 (played.answer.refusal, played.answer.place) = (refused.number, refused.place);
@@ -45,11 +49,12 @@ impl Played {
         room: usize,
         left: &[u8],
         tables: &LentTables,
+        groups: &mut [u32],
     ) -> Result<usize, Refused> {
         let (length, call) = take(left)?;
         let rest = room - LOG_RECORD * self.done.records.len();
         match (refused_by(mesh.as_ref(), rest, &call, tables), mesh) {
-            (Refused { number: 0, .. }, Some(mesh)) => self.make(mesh, &call, tables),
+            (Refused { number: 0, .. }, Some(mesh)) => self.make(mesh, &call, tables, groups),
             (refused, _) => {
                 self.refused = Some(call);
                 return Err(refused);
@@ -58,10 +63,13 @@ impl Played {
         Ok(length)
     }
 
-    fn make(&mut self, mesh: &mut Mesh, call: &KeptCall, tables: &LentTables) {
+    fn make(&mut self, mesh: &mut Mesh, call: &KeptCall, tables: &LentTables, groups: &mut [u32]) {
         match call.kind {
             kind::INJECTION => self.did(mesh.inject(call.chip, packet_of(call), tables)),
-            kind::ROUND => self.did(mesh.round(tables)),
+            kind::ROUND => {
+                self.built.extend(groups::after_round(mesh, tables, groups));
+                self.did(mesh.round(tables));
+            }
             kind::LINK_CHANGE => mesh.set_link(call.chip, call.link, call.up == 1),
             _ => self.registers.push(mesh.read_registers(call.chip)),
         }

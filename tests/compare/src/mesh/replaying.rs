@@ -13,13 +13,15 @@ use crate::trace_calls;
 impl Pair {
     /// `room` words of the log are lent.
     pub fn replay(&mut self, tally: &mut MeshTally, room: usize, trace: &[u8], tables: &LentTables) -> Played {
+        let tables = &self.lender.lend(tables);
         self.begin("replay", || format!("log {room:x}, {trace:x?}, {tables:x?}"));
         let begun = ReplayCase::begun(self.mesh.as_ref(), room, trace, tables);
         let phase = self.mesh.as_ref().map(|mesh| mesh.phase);
-        let (mut words, mut log) = (self.words.clone(), self.log.clone());
+        let (mut words, mut log, mut groups) = (self.words.clone(), self.log.clone(), self.lender.room().to_vec());
         let in_flight = account::in_flight(self.mesh.as_ref());
-        let played = replay(&mut self.mesh, room, trace, tables);
-        let answer = trace_calls::replay(&mut self.words[..self.lent], &mut self.log[..room], trace, tables);
+        let played = replay(&mut self.mesh, room, trace, tables, self.lender.expected());
+        let (lent, lent_log) = (&mut self.words[..self.lent], &mut self.log[..room]);
+        let answer = trace_calls::replay_in(lent, lent_log, trace, tables, self.lender.room());
         self.same("answer", &played.answer, &answer);
         self.logs(&played.done.records);
         if played.calls.is_empty() {
@@ -28,11 +30,17 @@ impl Pair {
             self.settle(0);
         }
         if answer.refusal != 0 {
-            let until = trace_calls::replay(&mut words[..self.lent], &mut log[..room], &trace[..answer.at], tables);
+            let (lent, lent_log) = (&mut words[..self.lent], &mut log[..room]);
+            let until = trace_calls::replay_in(lent, lent_log, &trace[..answer.at], tables, &mut groups);
             self.same("answer of the trace up to there", &Replayed { refusal: 0, place: 0, ..answer }, &until);
             self.same_words("buffer beside that of the trace up to there", &words, &self.words);
             self.same_words("log beside that of the trace up to there", &log, &self.log);
+            let left = self.lender.room().to_vec();
+            self.same_words("room for groups beside that of the trace up to there", &groups, &left);
         }
+        self.settle_room();
+        tally.rooms.lent(Call::Replay, tables, self.mesh.as_ref(), answer.refusal, room);
+        tally.rooms.built(Call::Replay, &played.built);
         self.settle_account(in_flight, &played.done);
         tally.refusal(Call::Replay, answer.refusal);
         let refused = Refused { number: answer.refusal, place: answer.place };

@@ -50,7 +50,8 @@ pub fn run(tally: &mut MeshTally, seed: u64, number: u64, prints: bool) {
     tally.largest += u64::from(width * height == 144);
 
     let name = format!("sequence {number} of seed {seed}");
-    let pair = new_pair(&mut random, name, prints, width, height);
+    let mut pair = new_pair(&mut random, name, prints, width, height);
+    pair.lender.lends_short = true;
     let keys = (0..1 + random.below(4)).map(|_| random.word()).collect();
     let weights = random_weights(&mut random);
     let mut sequence =

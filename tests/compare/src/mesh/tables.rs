@@ -25,7 +25,7 @@ enum Routes {
 
 impl Tables {
     pub fn lent(&self) -> LentTables<'_> {
-        LentTables { rows: &self.rows, starts: &self.starts, codes: &self.codes, fixed: &self.fixed }
+        LentTables { rows: &self.rows, starts: &self.starts, codes: &self.codes, fixed: &self.fixed, room: 0 }
     }
 
     /// Rows for these keys, with what matches more than one of them between.

@@ -5,6 +5,7 @@ use super::model::{Done, Mesh};
 use super::passing::MOST_UNITS;
 use super::place_tally::PlaceTallies;
 use super::replay_tally::ReplayTally;
+use super::room_tally::RoomTally;
 use crate::interface::{Packet, Registers};
 use crate::model::{kind, kind_of, LOCAL};
 use crate::tally::{print_line, PassTally};
@@ -28,17 +29,17 @@ pub enum Call {
 const CALLS: [(&str, &[u32]); 11] = [
     ("size", &[0, 7]),
     ("open", &[0, 7, 6, 8]),
-    ("inject", &[0, 8, 9, 15, 16, 17, 18, 11, 10, 2, 4]),
-    ("round", &[0, 8, 15, 16, 17, 18, 11, 10]),
+    ("inject", &[0, 8, 9, 15, 16, 17, 18, 11, 29, 10, 2, 4]),
+    ("round", &[0, 8, 15, 16, 17, 18, 11, 29, 10]),
     ("set link", &[0, 8, 9]),
     ("read registers", &[0, 8, 9]),
     ("read counter", &[0, 8, 9]),
     ("look at the mesh", &[0, 8]),
     ("look at link", &[0, 8, 9]),
     ("flight", &[0, 8, 9]),
-    ("replay", &[0, 12, 13, 14, 8, 9, 15, 16, 17, 18, 11, 10, 4]),
+    ("replay", &[0, 12, 13, 14, 8, 9, 15, 16, 17, 18, 11, 29, 10, 4]),
 ];
-const NUMBERS: usize = 19;
+const NUMBERS: usize = 30;
 
 #[derive(Default)]
 pub struct MeshTally {
@@ -78,6 +79,7 @@ pub struct MeshTally {
     most_fixed_in_flight: u64,
     pub places: PlaceTallies,
     pub replays: ReplayTally,
+    pub rooms: RoomTally,
 }
 
 impl MeshTally {
@@ -158,7 +160,7 @@ impl MeshTally {
         for (name, count) in self.events() {
             all &= print_line(&format!("mesh, {name}"), count);
         }
-        all &= self.places.print() & self.replays.print();
+        all &= self.places.print() & self.replays.print() & self.rooms.print();
         println!("{:>12}  mesh, most packets in flight", self.most_in_flight);
         println!("{:>12}  mesh, calls", self.refusals.iter().flatten().sum::<u64>());
         all

@@ -28,6 +28,7 @@ pub fn run(tally: &mut MeshTally, seed: u64, number: u64, prints: bool) {
     as_direct(tally, &mut random, &kept, &mut twin);
     one_word_short(tally, &kept, &mut twin);
     in_parts(tally, &mut random, &kept, &mut twin);
+    twin.lender.lends_short = true;
     for _ in 0..DAMAGED_TRACES {
         damaged(tally, &mut random, &kept, &mut twin);
     }

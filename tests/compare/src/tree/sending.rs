@@ -23,7 +23,7 @@ const LOCAL_MISSES: u32 = 9;
 pub fn send(random: &mut Random, grown: &Grown, rows: &[u32], starts: &[u32]) -> Sent {
     let call = &grown.call;
     let chips = (call.width * call.height) as usize;
-    let tables = LentTables { rows, starts, codes: &vec![6; chips * chips], fixed: &vec![0; chips] };
+    let tables = LentTables { rows, starts, codes: &vec![6; chips * chips], fixed: &vec![0; chips], room: 0 };
     let deep = grown.deep();
     let rounds_per_phase = deep.max(1) + if random.one_in(2) { 0 } else { random.below(40) };
     let mut words = vec![0; mesh_calls::size(call.width, call.height).words as usize];
