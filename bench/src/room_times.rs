@@ -1,4 +1,5 @@
-//! Rounds with room for groups beside the same without, and beside plain Rust of the same method.
+//! Rounds with room for groups beside the same without, and beside plain Rust of the same method. Keys are spread over the
+//! top byte or alike in it; the last number is how many rows fix no top byte.
 
 use crate::busy_mesh::BusyMesh;
 use crate::interface::Added;
@@ -17,10 +18,10 @@ pub fn all(turns: usize) {
     println!(" {:>14} {:>7} {:>14} {:>7}", "without", "ratio", "plain Rust", "ratio");
     for rows in [256, 1024] {
         for on_each in [1, 4, 7] {
-            for (spread, unfixed) in [(true, 8), (true, rows / 2), (false, 8), (false, rows / 2)] {
+            for (spread, unfixed) in [(true, 0), (true, 8), (true, rows / 2), (false, 8), (false, rows / 2)] {
                 let mesh = BusyMesh::grouped(SIDE, on_each, rows, unfixed, spread);
                 let keys = if spread { "spread" } else { "alike" };
-                let name = format!("groups, {rows} rows, {on_each} a link, {keys}, {unfixed}");
+                let name = format!("{rows} rows, {on_each} a link, {keys}, {unfixed}");
                 if rows == 1024 && on_each == 4 {
                     timing::line_from(&name, turns, &mesh, [WITH, WITHOUT, PLAIN]);
                 } else {

@@ -21,9 +21,11 @@ thread_local! {
     static TREE: TreeCall = tree_times::call(12, 144);
     /// The mesh that calls on a mesh are measured with, with detours and deliveries.
     static MESH: RefCell<BusyMesh> = RefCell::new(BusyMesh::mixed(12, 12, 4));
+    /// One for which groups are built.
+    static GROUPED: RefCell<BusyMesh> = RefCell::new(BusyMesh::grouped(2, 7, 1024, 0, true));
 }
 
-const CALLS: [(&str, extern "C" fn()); 20] = [
+const CALLS: [(&str, extern "C" fn()); 21] = [
     ("read", read),
     ("pack", pack),
     ("pass", pass),
@@ -31,6 +33,7 @@ const CALLS: [(&str, extern "C" fn()); 20] = [
     ("size", size),
     ("inject", inject),
     ("round", round),
+    ("round by groups", round_by_groups),
     ("set link", set_link),
     ("read registers", read_registers),
     ("read counter", read_counter),
@@ -50,6 +53,7 @@ const FEWER: &str = "fewer";
 
 pub fn print_use() {
     MESH.with(|_| ());
+    GROUPED.with(|_| ());
     TREE.with(|_| ());
     for (name, caller) in CALLS {
         let used = stack_use(caller);
@@ -101,6 +105,10 @@ extern "C" fn inject() {
 
 extern "C" fn round() {
     MESH.with_borrow_mut(|mesh| black_box(mesh.on(mesh_calls::round)));
+}
+
+extern "C" fn round_by_groups() {
+    GROUPED.with_borrow_mut(|mesh| black_box(mesh.in_room(mesh_calls::round_in)));
 }
 
 extern "C" fn set_link() {
