@@ -299,7 +299,7 @@ yb_found yagbolshen_find(const yb_row *rows, size_t rows_len, uint32_t key);
  * chip) is refused by 29, after 11. Answers, mesh and log are the same with room and without. A round builds the groups of a
  * chip, afresh and once for all packets that arrive there, where that pays: for many packets and rows, few of them without a
  * fixed top byte. What the room held before counts for nothing; what it holds after stands in docs/LAYOUT.md. A call that is
- * refused, an injection and a pass leave it as it came. */
+ * refused, an injection and a pass leave it as it came; a replay leaves it as the rounds that it made do. */
 
 /* The words that a mesh needs. Refuses 7. */
 yb_size yagbolshen_size(uint32_t width, uint32_t height);
