@@ -37,7 +37,7 @@ s = begun 2 1 1 0
 
 -- link 1 of chip 0, processor 3 of chip 1
 abbrev t : Tables
-t = tablesOf (5 ∷ 5 ∷ 2 ∷ 5 ∷ 5 ∷ 512 ∷ []) (0 ∷ 1 ∷ 2 ∷ []) (7 ∷ 0 ∷ 0 ∷ 7 ∷ []) (0 ∷ 0 ∷ [])
+t = tablesOf (5 ∷ 5 ∷ 2 ∷ 5 ∷ 5 ∷ 512 ∷ []) (0 ∷ 1 ∷ 2 ∷ []) (7 ∷ 0 ∷ 0 ∷ 7 ∷ []) (0 ∷ 0 ∷ []) 0
 
 -- 01 00 00 00 05
 abbrev bytes : List ℕ
