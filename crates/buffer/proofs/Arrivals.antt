@@ -1,7 +1,7 @@
 -- What was set aside, as it arrives: that passes leave it alone, and that some of it passed and then the next is more of it.
-use mathlib.Core.Path.{_≡_, sym, ap, _∙_, subst}
+use mathlib.Core.Path.{_≡_, refl, sym, ap, _∙_, subst}
 use mathlib.Core.List.{List, [], _∷_, _++_, map}
-use Prim.Native.Nat.{ℕ, suc, _+_, _-_, _*_, _≤_, _<_}
+use Prim.Native.Nat.{ℕ, zero, suc, _+_, _-_, _*_, _≤_, _<_}
 use native.Mathlib.Omega.{arith}
 use lib.Dec.{lit<}
 use lib.ListN.{length, getD, drop, length-append, length-map, List·getD-map}
@@ -13,13 +13,13 @@ use Rattle.links.specs.Across.{across, opposite}
 use Rattle.links.specs.Words.{asidePlace, packetIn, placesIn, asideIn}
 use Rattle.links.specs.LineWords.{still}
 use Rattle.buffer.specs.Layout.{chipsOf, wordsOf}
-use Rattle.mesh.specs.Steps.{Tables, Arrival}
+use Rattle.mesh.specs.Steps.{Arrival, Going}
 use Rattle.buffer.specs.ChipWords.{lineWords}
 use Rattle.buffer.specs.Passing.{chipWords}
 use Rattle.mesh.specs.Sound.{Arrives}
 use Rattle.buffer.specs.PassesInTurn.{arrival, asideFor, asideBy, asideFrom, AsideFew, Due, DueAside, Passed}
-use Rattle.lists.specs.Lists.{upTo}
-use Rattle.lists.proofs.Alls.{all-left}
+use Rattle.lists.specs.Lists.{All, upTo}
+use Rattle.lists.proofs.Alls.{all-any, all-append, all-left, all-map, all-nil, all-right}
 use Rattle.links.proofs.Places.{length-places}
 use Rattle.mesh.proofs.SoundArrivals.{across-there, opposite-there}
 use Rattle.buffer.proofs.LinkWords.{word-at, packet-there, places-at}
@@ -35,7 +35,7 @@ aside-still w w′ e =
     let read : (v : List ℕ) → asideIn v ≡ placesIn (getD (drop asideAt v) 0 0) (drop 1 (drop asideAt v)) = λ v. λ i. placesIn (sym (getD-drop asideAt v 0 0) i) (sym (drop-drop 1 asideAt v) i) in
     read w′ ∙ (λ i. placesIn (getD (same i) 0 0) (drop 1 (same i))) ∙ sym (read w)
 
-module _ (t : Tables) (xs : List (Arrival (Unit {0}))) (l log : List ℕ) (n : ℕ) (l₁ log₁ : List ℕ) (n₁ : ℕ) (p : Passed t xs l log n l₁ log₁ n₁) where
+module _ (step : Going (Unit {0}) → Arrival (Unit {0}) → Going (Unit {0})) (xs : List (Arrival (Unit {0}))) (l log : List ℕ) (n : ℕ) (l₁ log₁ : List ℕ) (n₁ : ℕ) (p : Passed step xs l log n l₁ log₁ n₁) where
   number : (i : ℕ) → i < 6 → getD l₁ i 0 ≡ getD l i 0
   number = head-same l l₁ (p .head)
 
@@ -51,30 +51,32 @@ module _ (t : Tables) (xs : List (Arrival (Unit {0}))) (l log : List ℕ) (n : �
       sym (getD-drop asideAt (lineWords j (chipWords c l₁)) 0 0) ∙ ap (λ (w : List ℕ). getD w heldAt 0) (p .still c j hj) ∙ getD-drop asideAt (lineWords j (chipWords c l)) 0 0 in
       subst (λ (k : ℕ). k ≤ 8) (sym e) (few c j (subst (λ (k : ℕ). c < k) (λ i. number heightAt (lit< tt) i * number widthAt (lit< tt) i) hc) hj)
 
+all-upto : (P : Arrival (Unit {0}) → Type 0) (f : ℕ → List (Arrival (Unit {0}))) (k m : ℕ) → k < m → All P (upTo f m) → All P (f k)
+all-upto P f k m h all = all-left P (f k) (rest f (suc k) (m - suc k)) (all-right P (upTo f k) (f k ++ rest f (suc k) (m - suc k)) (subst (All P) (upto-split f k m h) all))
+
 -- ---- what is due next
 
-due-first : (t : Tables) (xs ys : List (Arrival (Unit {0}))) (l log : List ℕ) (n : ℕ) → Due t (xs ++ ys) l log n → Due t xs l log n
-due-first t xs ys l log n d =
+due-first : (xs ys : List (Arrival (Unit {0}))) (l log : List ℕ) (n : ℕ) → Due (xs ++ ys) l log n → Due xs l log n
+due-first xs ys l log n d =
     record {
       head = d .head;
       long = d .long;
-      lent = d .lent;
       room = omega (arith, simp length-append at (d .room));
       each = all-left (Arrives (chipsOf l)) xs ys (d .each);
     }
 
-module _ (t : Tables) (f : ℕ → List (Arrival (Unit {0}))) (k m : ℕ) (h : k < m) (l log : List ℕ) (n : ℕ) (d : DueAside t (upTo f m) l log n) (l₁ log₁ : List ℕ) (n₁ : ℕ) (p : Passed t (upTo f k) l log n l₁ log₁ n₁) where
-  pub due-step : DueAside t (f k) l₁ log₁ n₁
+module _ (step : Going (Unit {0}) → Arrival (Unit {0}) → Going (Unit {0})) (f : ℕ → List (Arrival (Unit {0}))) (k m : ℕ) (h : k < m) (l log : List ℕ) (n : ℕ) (d : DueAside (upTo f m) l log n) (l₁ log₁ : List ℕ) (n₁ : ℕ) (p : Passed step (upTo f k) l log n l₁ log₁ n₁) where
+  pub due-step : DueAside (f k) l₁ log₁ n₁
   due-step =
       record {
-        due = due-first t (f k) (rest f (suc k) (m - suc k)) l₁ log₁ n₁
-            (due-next t (upTo f k) (f k ++ rest f (suc k) (m - suc k)) l log n l₁ log₁ n₁ p (subst (λ (xs : List (Arrival (Unit {0}))). Due t xs l log n) (upto-split f k m h) (d .due)));
-        few = few-same t (upTo f k) l log n l₁ log₁ n₁ p (d .few);
+        due = due-first (f k) (rest f (suc k) (m - suc k)) l₁ log₁ n₁
+            (due-next step (upTo f k) (f k ++ rest f (suc k) (m - suc k)) l log n l₁ log₁ n₁ p (subst (λ (xs : List (Arrival (Unit {0}))). Due xs l log n) (upto-split f k m h) (d .due)));
+        few = few-same step (upTo f k) l log n l₁ log₁ n₁ p (d .few);
       }
 
-  pub passed-step : (l₂ log₂ : List ℕ) (n₂ : ℕ) → Passed t (f k) l₁ log₁ n₁ l₂ log₂ n₂ → Passed t (upTo f (suc k)) l log n l₂ log₂ n₂
+  pub passed-step : (l₂ log₂ : List ℕ) (n₂ : ℕ) → Passed step (f k) l₁ log₁ n₁ l₂ log₂ n₂ → Passed step (upTo f (suc k)) l log n l₂ log₂ n₂
   unfolding upTo
-  passed-step = passed-append t (upTo f k) (f k) l log n l₁ log₁ n₁ p
+  passed-step = passed-append step (upTo f k) (f k) l log n l₁ log₁ n₁ p
 
 -- ---- the packets of one link
 
@@ -130,9 +132,9 @@ module _ (l : List ℕ) (chip source : ℕ) (fine : Head l) (enough : wordsOf l 
           ∙ ap (λ (m : ℕ). packetIn (drop m l)) (sym e))
 
   -- and after some passes they are as they were
-  pub packet-same : (t : Tables) (xs : List (Arrival (Unit {0}))) (log : List ℕ) (n : ℕ) (l₁ log₁ : List ℕ) (n₁ : ℕ) → Passed t xs l log n l₁ log₁ n₁ → (k : ℕ) → k < 8
+  pub packet-same : (step : Going (Unit {0}) → Arrival (Unit {0}) → Going (Unit {0})) (xs : List (Arrival (Unit {0}))) (log : List ℕ) (n : ℕ) (l₁ log₁ : List ℕ) (n₁ : ℕ) → Passed step xs l log n l₁ log₁ n₁ → (k : ℕ) → k < 8
       → packetIn (drop (asidePlace (getD l widthAt 0) (getD l heightAt 0) chip source + 1 + k * placeLong) l₁) ≡ packetIn (drop (asidePlace (getD l widthAt 0) (getD l heightAt 0) chip source + 1 + k * placeLong) l)
-  packet-same t xs log n l₁ log₁ n₁ p k h =
+  packet-same step xs log n l₁ log₁ n₁ p k h =
       let j = opposite source in
       let e : place + 1 + k * placeLong ≡ chipPlace from + linePlace j + (asidePlacesAt + k * placeLong) = omega arith in
       let shift : asidePlacesAt + k * placeLong ≡ asideAt + (1 + k * placeLong) = omega arith in
@@ -141,12 +143,12 @@ module _ (l : List ℕ) (chip source : ℕ) (fine : Head l) (enough : wordsOf l 
       ∙ ap packetIn (ap (λ (i : ℕ). drop i (lineWords j (chipWords from m))) shift ∙ sym (drop-drop (1 + k * placeLong) asideAt (lineWords j (chipWords from m)))) in
       there l₁ ∙ ap (λ (w : List ℕ). packetIn (drop (1 + k * placeLong) (drop 1 w))) (p .still from j (opposite-there source)) ∙ sym (there l)
 
-pub passed-begin : (t : Tables) (f : ℕ → List (Arrival (Unit {0}))) (l log : List ℕ) (n : ℕ) → Passed t (upTo f 0) l log n l log n
+pub passed-begin : (step : Going (Unit {0}) → Arrival (Unit {0}) → Going (Unit {0})) (f : ℕ → List (Arrival (Unit {0}))) (l log : List ℕ) (n : ℕ) → Passed step (upTo f 0) l log n l log n
 unfolding upTo
-passed-begin t f l log n = passed-none t l log n
+passed-begin step f l log n = passed-none step l log n
 
 -- what the code does with them, from its place for them: each is due, and makes one more; then all have passed
-module _ (t : Tables) (l : List ℕ) (chip source : ℕ) (log : List ℕ) (n : ℕ) (hs : source < 6) (d : DueAside t (asideBy l chip source) l log n) (at : ℕ) (e : at ≡ asidePlace (getD l widthAt 0) (getD l heightAt 0) chip source) where
+module _ (l : List ℕ) (chip source : ℕ) (log : List ℕ) (n : ℕ) (hs : source < 6) (d : DueAside (asideBy l chip source) l log n) (at : ℕ) (e : at ≡ asidePlace (getD l widthAt 0) (getD l heightAt 0) chip source) where
   fine : Head l
   fine = head-range l (d .due .head)
 
@@ -156,54 +158,72 @@ module _ (t : Tables) (l : List ℕ) (chip source : ℕ) (log : List ℕ) (n : �
   all-read : asideBy l chip source ≡ upTo (one l at chip source) (getD l at 0)
   all-read = rw e (aside-read l chip source fine (d .due .long) (d .few) hs)
 
-  pub link-end : (l₁ log₁ : List ℕ) (n₁ : ℕ) → Passed t (upTo (one l at chip source) (getD l at 0)) l log n l₁ log₁ n₁ → Passed t (asideBy l chip source) l log n l₁ log₁ n₁
-  link-end l₁ log₁ n₁ = subst (λ (xs : List (Arrival (Unit {0}))). Passed t xs l log n l₁ log₁ n₁) (sym all-read)
+  pub link-end : (step : Going (Unit {0}) → Arrival (Unit {0}) → Going (Unit {0})) (l₁ log₁ : List ℕ) (n₁ : ℕ) → Passed step (upTo (one l at chip source) (getD l at 0)) l log n l₁ log₁ n₁ → Passed step (asideBy l chip source) l log n l₁ log₁ n₁
+  link-end step l₁ log₁ n₁ = subst (λ (xs : List (Arrival (Unit {0}))). Passed step xs l log n l₁ log₁ n₁) (sym all-read)
 
-  module _ (k : ℕ) (h : k < getD l at 0) (l₁ log₁ : List ℕ) (n₁ : ℕ) (p : Passed t (upTo (one l at chip source) k) l log n l₁ log₁ n₁) (q : Packet) (r : q ≡ packetIn (drop (at + 1 + k * placeLong) l₁)) where
+  module _ (step : Going (Unit {0}) → Arrival (Unit {0}) → Going (Unit {0})) (k : ℕ) (h : k < getD l at 0) (l₁ log₁ : List ℕ) (n₁ : ℕ) (p : Passed step (upTo (one l at chip source) k) l log n l₁ log₁ n₁) (q : Packet) (r : q ≡ packetIn (drop (at + 1 + k * placeLong) l₁)) where
     same-packet : q ≡ packetIn (drop (at + 1 + k * placeLong) l)
     same-packet =
-        r ∙ rw e (packet-same l chip source fine (d .due .long) (d .few) hs t (upTo (one l at chip source) k) log n l₁ log₁ n₁ p k (omega (arith, place-few)))
+        r ∙ rw e (packet-same l chip source fine (d .due .long) (d .few) hs step (upTo (one l at chip source) k) log n l₁ log₁ n₁ p k (omega (arith, place-few)))
 
     same-one : one l at chip source k ≡ arrival chip source q ∷ []
     same-one = λ i. arrival chip source (sym same-packet i) ∷ []
 
-    aside-due : DueAside t (upTo (one l at chip source) (getD l at 0)) l log n
-    aside-due = subst (λ (xs : List (Arrival (Unit {0}))). DueAside t xs l log n) all-read d
+    aside-due : DueAside (upTo (one l at chip source) (getD l at 0)) l log n
+    aside-due = subst (λ (xs : List (Arrival (Unit {0}))). DueAside xs l log n) all-read d
 
-    pub link-due : Due t (arrival chip source q ∷ []) l₁ log₁ n₁
-    link-due = subst (λ (xs : List (Arrival (Unit {0}))). Due t xs l₁ log₁ n₁) same-one (due-step t (one l at chip source) k (getD l at 0) h l log n aside-due l₁ log₁ n₁ p .due)
+    pub link-due : Due (arrival chip source q ∷ []) l₁ log₁ n₁
+    link-due = subst (λ (xs : List (Arrival (Unit {0}))). Due xs l₁ log₁ n₁) same-one (due-step step (one l at chip source) k (getD l at 0) h l log n aside-due l₁ log₁ n₁ p .due)
 
-    pub link-step : (l₂ log₂ : List ℕ) (n₂ : ℕ) → Passed t (arrival chip source q ∷ []) l₁ log₁ n₁ l₂ log₂ n₂ → Passed t (upTo (one l at chip source) (suc k)) l log n l₂ log₂ n₂
+    pub link-step : (l₂ log₂ : List ℕ) (n₂ : ℕ) → Passed step (arrival chip source q ∷ []) l₁ log₁ n₁ l₂ log₂ n₂ → Passed step (upTo (one l at chip source) (suc k)) l log n l₂ log₂ n₂
     link-step l₂ log₂ n₂ s =
-        passed-step t (one l at chip source) k (getD l at 0) h l log n aside-due l₁ log₁ n₁ p l₂ log₂ n₂ (subst (λ (xs : List (Arrival (Unit {0}))). Passed t xs l₁ log₁ n₁ l₂ log₂ n₂) (sym same-one) s)
+        passed-step step (one l at chip source) k (getD l at 0) h l log n aside-due l₁ log₁ n₁ p l₂ log₂ n₂ (subst (λ (xs : List (Arrival (Unit {0}))). Passed step xs l₁ log₁ n₁ l₂ log₂ n₂) (sym same-one) s)
+
+    -- what holds of all that was set aside on the link holds of this one
+    pub link-each : (P : Arrival (Unit {0}) → Type 0) → All P (asideBy l chip source) → All P (arrival chip source q ∷ [])
+    link-each P all = subst (All P) same-one (all-upto P (one l at chip source) k (getD l at 0) h (subst (All P) all-read all))
 
 -- link after link, chip after chip: what is due of it is read from the words as they are then
-module _ (t : Tables) (l log : List ℕ) (n : ℕ) (l₁ log₁ : List ℕ) (n₁ : ℕ) where
-  pub chips-same : (xs : List (Arrival (Unit {0}))) → Passed t xs l log n l₁ log₁ n₁ → chipsOf l₁ ≡ chipsOf l
-  chips-same xs p = λ i. number t xs l log n l₁ log₁ n₁ p 1 (lit< tt) i * number t xs l log n l₁ log₁ n₁ p 0 (lit< tt) i
+module _ (step : Going (Unit {0}) → Arrival (Unit {0}) → Going (Unit {0})) (l log : List ℕ) (n : ℕ) (l₁ log₁ : List ℕ) (n₁ : ℕ) where
+  pub chips-same : (xs : List (Arrival (Unit {0}))) → Passed step xs l log n l₁ log₁ n₁ → chipsOf l₁ ≡ chipsOf l
+  chips-same xs p = λ i. number step xs l log n l₁ log₁ n₁ p 1 (lit< tt) i * number step xs l log n l₁ log₁ n₁ p 0 (lit< tt) i
 
   -- how many there are stands where it stood
-  pub place-same : (chip source : ℕ) (xs : List (Arrival (Unit {0}))) → Passed t xs l log n l₁ log₁ n₁ → asidePlace (getD l widthAt 0) (getD l heightAt 0) chip source ≡ asidePlace (getD l₁ widthAt 0) (getD l₁ heightAt 0) chip source
-  place-same chip source xs p = sym (λ i. asidePlace (number t xs l log n l₁ log₁ n₁ p 0 (lit< tt) i) (number t xs l log n l₁ log₁ n₁ p 1 (lit< tt) i) chip source)
+  pub place-same : (chip source : ℕ) (xs : List (Arrival (Unit {0}))) → Passed step xs l log n l₁ log₁ n₁ → asidePlace (getD l widthAt 0) (getD l heightAt 0) chip source ≡ asidePlace (getD l₁ widthAt 0) (getD l₁ heightAt 0) chip source
+  place-same chip source xs p = sym (λ i. asidePlace (number step xs l log n l₁ log₁ n₁ p 0 (lit< tt) i) (number step xs l log n l₁ log₁ n₁ p 1 (lit< tt) i) chip source)
 
-  module _ (chip k : ℕ) (h : k < 6) (d : DueAside t (asideFrom l chip) l log n) (p : Passed t (upTo (asideBy l chip) k) l log n l₁ log₁ n₁) where
-    pub links-due : DueAside t (asideBy l₁ chip k) l₁ log₁ n₁
+  module _ (chip k : ℕ) (h : k < 6) (d : DueAside (asideFrom l chip) l log n) (p : Passed step (upTo (asideBy l chip) k) l log n l₁ log₁ n₁) where
+    pub links-due : DueAside (asideBy l₁ chip k) l₁ log₁ n₁
     links-due =
-        subst (λ (xs : List (Arrival (Unit {0}))). DueAside t xs l₁ log₁ n₁) (sym (aside-same t (upTo (asideBy l chip) k) l log n l₁ log₁ n₁ p chip k))
-        (due-step t (asideBy l chip) k 6 h l log n d l₁ log₁ n₁ p)
+        subst (λ (xs : List (Arrival (Unit {0}))). DueAside xs l₁ log₁ n₁) (sym (aside-same step (upTo (asideBy l chip) k) l log n l₁ log₁ n₁ p chip k))
+        (due-step step (asideBy l chip) k 6 h l log n d l₁ log₁ n₁ p)
 
-    pub links-step : (l₂ log₂ : List ℕ) (n₂ : ℕ) → Passed t (asideBy l₁ chip k) l₁ log₁ n₁ l₂ log₂ n₂ → Passed t (upTo (asideBy l chip) (suc k)) l log n l₂ log₂ n₂
+    pub links-each : (P : Arrival (Unit {0}) → Type 0) → All P (asideFrom l chip) → All P (asideBy l₁ chip k)
+    links-each P all = subst (All P) (sym (aside-same step (upTo (asideBy l chip) k) l log n l₁ log₁ n₁ p chip k)) (all-upto P (asideBy l chip) k 6 h all)
+
+    pub links-step : (l₂ log₂ : List ℕ) (n₂ : ℕ) → Passed step (asideBy l₁ chip k) l₁ log₁ n₁ l₂ log₂ n₂ → Passed step (upTo (asideBy l chip) (suc k)) l log n l₂ log₂ n₂
     links-step l₂ log₂ n₂ q =
-        passed-step t (asideBy l chip) k 6 h l log n d l₁ log₁ n₁ p l₂ log₂ n₂
-        (subst (λ (xs : List (Arrival (Unit {0}))). Passed t xs l₁ log₁ n₁ l₂ log₂ n₂) (aside-same t (upTo (asideBy l chip) k) l log n l₁ log₁ n₁ p chip k) q)
+        passed-step step (asideBy l chip) k 6 h l log n d l₁ log₁ n₁ p l₂ log₂ n₂
+        (subst (λ (xs : List (Arrival (Unit {0}))). Passed step xs l₁ log₁ n₁ l₂ log₂ n₂) (aside-same step (upTo (asideBy l chip) k) l log n l₁ log₁ n₁ p chip k) q)
 
-  module _ (k m : ℕ) (h : k < m) (d : DueAside t (upTo (asideFrom l) m) l log n) (p : Passed t (upTo (asideFrom l) k) l log n l₁ log₁ n₁) where
+  module _ (k m : ℕ) (h : k < m) (d : DueAside (upTo (asideFrom l) m) l log n) (p : Passed step (upTo (asideFrom l) k) l log n l₁ log₁ n₁) where
     pub at-same : asideFrom l₁ k ≡ asideFrom l k
-    at-same = upto-same (asideBy l₁ k) (asideBy l k) 6 (λ s hs. aside-same t (upTo (asideFrom l) k) l log n l₁ log₁ n₁ p k s)
+    at-same = upto-same (asideBy l₁ k) (asideBy l k) 6 (λ s hs. aside-same step (upTo (asideFrom l) k) l log n l₁ log₁ n₁ p k s)
 
-    pub chips-due : DueAside t (asideFrom l₁ k) l₁ log₁ n₁
-    chips-due = subst (λ (xs : List (Arrival (Unit {0}))). DueAside t xs l₁ log₁ n₁) (sym at-same) (due-step t (asideFrom l) k m h l log n d l₁ log₁ n₁ p)
+    pub chips-due : DueAside (asideFrom l₁ k) l₁ log₁ n₁
+    chips-due = subst (λ (xs : List (Arrival (Unit {0}))). DueAside xs l₁ log₁ n₁) (sym at-same) (due-step step (asideFrom l) k m h l log n d l₁ log₁ n₁ p)
 
-    pub chips-step : (l₂ log₂ : List ℕ) (n₂ : ℕ) → Passed t (asideFrom l₁ k) l₁ log₁ n₁ l₂ log₂ n₂ → Passed t (upTo (asideFrom l) (suc k)) l log n l₂ log₂ n₂
+    pub chips-step : (l₂ log₂ : List ℕ) (n₂ : ℕ) → Passed step (asideFrom l₁ k) l₁ log₁ n₁ l₂ log₂ n₂ → Passed step (upTo (asideFrom l) (suc k)) l log n l₂ log₂ n₂
     chips-step l₂ log₂ n₂ q =
-        passed-step t (asideFrom l) k m h l log n d l₁ log₁ n₁ p l₂ log₂ n₂ (subst (λ (xs : List (Arrival (Unit {0}))). Passed t xs l₁ log₁ n₁ l₂ log₂ n₂) at-same q)
+        passed-step step (asideFrom l) k m h l log n d l₁ log₁ n₁ p l₂ log₂ n₂ (subst (λ (xs : List (Arrival (Unit {0}))). Passed step xs l₁ log₁ n₁ l₂ log₂ n₂) at-same q)
+
+-- all that was set aside for a chip arrives there
+at-the-links : (l : List ℕ) (chip k : ℕ) → All (λ (a : Arrival (Unit {0})). a .chip ≡ chip) (upTo (asideBy l chip) k)
+unfolding upTo
+at-the-links l chip zero = all-nil (λ (a : Arrival (Unit {0})). a .chip ≡ chip)
+at-the-links l chip (suc k) =
+    all-append (λ (a : Arrival (Unit {0})). a .chip ≡ chip) (upTo (asideBy l chip) k) (asideBy l chip k) (at-the-links l chip k)
+    (all-map (λ (a : Arrival (Unit {0})). a .chip ≡ chip) (λ (f : Flight (Unit {0})). record { chip = chip; source = k; flight = f }) (asideIn (asideFor l chip k)) (all-any (λ f. chip ≡ chip) (λ f. refl) (asideIn (asideFor l chip k))))
+
+pub at-the-chip : (l : List ℕ) (chip : ℕ) → All (λ (a : Arrival (Unit {0})). a .chip ≡ chip) (asideFrom l chip)
+at-the-chip l chip = at-the-links l chip 6

@@ -1,133 +1,77 @@
--- The room for groups in a round: a chip's rows are where the code takes them from, and no pass looks at the room's length.
+-- The room for groups in a round: enough for the rows that are cut out for a chip, and left as the definition says, chip by chip.
 use mathlib.Core.Path.{_≡_, refl, sym, ap, _∙_, subst}
-use mathlib.Core.Bool.{Bool, true, false, cond, not, _&&_}
-use mathlib.Core.List.{List, []}
+use mathlib.Core.Bool.{Bool, true, false, cond, _&&_}
+use mathlib.Core.List.{List, [], _∷_, _++_, map, append-assoc, append-nil}
 use Prim.Native.Nat.{ℕ, zero, suc, _+_, _-_, _*_, _/_, _≤_, _<_}
 use native.Mathlib.Omega.{arith}
-use borrow.Author.Tests.{ne-eqb, leb-true}
-use lib.Dec.{eqb, leb, ltb}
-use lib.ListN.{length, getD, take, drop, length-drop, length-append}
-use lib.Seq.{take-length, take-at, length-take-le}
-use Rattle.tables.specs.Rows.{Entry, rowsOf}
+use lib.Dec.{eqb}
+use lib.ListN.{length, getD, take, drop, set, length-drop, length-map, List·getD-map}
+use lib.Seq.{length-take-le, getD-drop, take-suc-set}
+use native.Mathlib.Numerals.{add-one}
+use Rattle.tables.specs.Rows.{rowsOf}
 use Rattle.tables.proofs.RowsByNumber.{rows-many}
-use Rattle.groups.specs.Groups.{groupsOf, roomAfter, roomFor, Grouped}
-use Rattle.groups.specs.Pays.{buildSteps, spared, pays}
+use Rattle.groups.specs.Groups.{topOf, marksOf, roomFor, GroupedFor}
+use Rattle.groups.specs.Pays.{worth, pays}
+use Rattle.groups.proofs.GroupsLeft.{group-there}
+use Rattle.groups.proofs.Sampling.{worth-few}
+use Rattle.groups.specs.Grouping.{groupsLeft}
 use Rattle.groups.specs.Room.{longest}
 use Rattle.groups.proofs.Longest.{longest-most}
-use Rattle.lists.specs.Lists.{upTo}
+use Rattle.lists.specs.Lists.{All, upTo}
+use Rattle.lists.proofs.UpTo.{upto-same}
 use Rattle.links.specs.Offsets.{widthAt, heightAt, placeLong, depth}
-use Rattle.links.specs.Words.{asidePlace}
+use Rattle.links.specs.Words.{asidePlace, packetIn}
 use Rattle.buffer.proofs.Headers.{Head, head-range}
-use Rattle.buffer.proofs.Goings.{rows-below, starts-long, rows-end}
-use Rattle.buffer.proofs.Arrivals.{count-at, count-few, places-there}
-use Rattle.mesh.specs.Steps.{tablesOf, rowsAt, Arrival}
-use Rattle.mesh.specs.Calls.{Lent}
-use Rattle.mesh.specs.Room.{roomAt, roomUpto}
-use Rattle.buffer.specs.PassesInTurn.{asideBy, asideFrom, Due, DueAside, Passed}
-use Rattle.buffer.specs.Grouping.{RowsThere, AsideThere, GroupedAt, RoomFits}
+use Rattle.buffer.proofs.Goings.{Cuts}
+use Rattle.buffer.proofs.Arrivals.{one, aside-read, count-at, count-few, places-there}
+use Rattle.mesh.specs.Steps.{Tables, tablesOf, rowsAt, Arrival}
+use Rattle.mesh.specs.Room.{keysOf, roomAt, roomUpto}
+use Rattle.buffer.specs.PassesInTurn.{arrival, asideBy, DueAside}
+use Rattle.buffer.specs.Grouping.{AsideThere, RoomFits}
 use Rattle.buffer.specs.Layout.{chipsOf}
 
--- ---- a table's groups
-
--- all of the room, once they are built
-pub grouped-built : (rows : List Entry) (room₀ room : List ℕ) → room ≡ roomAfter rows room₀ → Grouped rows (take (length room) room)
-grouped-built rows room₀ room e some = ap (take (length (groupsOf rows))) (take-length room ∙ e) ∙ take-at (groupsOf rows) (drop (length (groupsOf rows)) room₀) (length (groupsOf rows)) refl
-
--- groups pay for no table that is too long
-pub pays-few : (packets : ℕ) (words : List ℕ) → pays packets (rowsOf words) ≡ true → length words / 3 ≤ 1024
-pays-few packets words e =
-    let n = length (rowsOf words) in
-    subst (λ (k : ℕ). k ≤ 1024) (rows-many words) (leb-true n 1024 (middle (leb 64 n) (leb n 1024) (ltb (buildSteps (rowsOf words)) (packets * spared (rowsOf words))) e))
-  where
-    middle : (a b c : Bool) → (a && b && c) ≡ true → b ≡ true
-    middle true true c f = refl
-    middle true false c f = absurd (let z : _≡_ {A = ℕ} 0 1 = cc in omega arith)
-    middle false b c f = absurd (let z : _≡_ {A = ℕ} 0 1 = cc in omega arith)
-
--- ---- a chip's rows, with the places that the code works out
-
-module _ (rows starts : List ℕ) (chip first next : ℕ) (e₁ : first ≡ getD starts chip 0 * 3) (e₂ : next ≡ getD starts (chip + 1) 0 * 3) where
-  rows-places : take (next - first) (drop first rows) ≡ rowsAt (tablesOf rows starts [] [] 0) chip
-  rows-places =
-      let long : next - first ≡ (getD starts (chip + 1) 0 - getD starts chip 0) * 3 = omega (arith, e₁, e₂) in
-      λ i. take (long i) (drop (e₁ i) rows)
-
-  pub grouped-places : (room : List ℕ) → GroupedAt rows starts chip room → Grouped (rowsOf (take (next - first) (drop first rows))) room
-  grouped-places room = subst (λ (w : List ℕ). Grouped (rowsOf w) room) (sym rows-places)
-
-  pub grouped-there : (room : List ℕ) → Grouped (rowsOf (take (next - first) (drop first rows))) room → GroupedAt rows starts chip room
-  grouped-there room = subst (λ (w : List ℕ). Grouped (rowsOf w) room) rows-places
-
-  pub room-there : (packets many : ℕ) (room : List ℕ) → (length room ≡ 0 → ⊥) → packets ≡ many
-      → cond (pays packets (rowsOf (take (next - first) (drop first rows)))) (roomAfter (rowsOf (take (next - first) (drop first rows))) room) room
-      ≡ roomAt (tablesOf rows starts [] [] 0) many chip room
-  room-there packets many room some e =
-      let own = rowsOf (rowsAt (tablesOf rows starts [] [] 0) chip) in
-      (λ i. cond (pays (e i) (rowsOf (rows-places i))) (roomAfter (rowsOf (rows-places i)) room) room)
-      ∙ ap (λ (b : Bool). cond (not b && pays many own) (roomAfter own room) room) (sym (ne-eqb (length room) 0 some))
-
-  pub fits-places : RowsThere rows starts chip → (room : ℕ) → roomFor (getD starts (chip + 1) 0 - getD starts chip 0) ≤ room → roomFor (length (take (next - first) (drop first rows)) / 3) ≤ room
-  fits-places h room fits =
-      let long : length (take (next - first) (drop first rows)) ≡ next - first = length-take-le (next - first) (drop first rows) (simp length-drop (omega (arith, h .within, e₁, e₂))) in
-      omega (arith, long, e₁, e₂, h .below, fits)
-
--- what was set aside for a chip that is there, and its rows
-pub chip-there : (rows starts codes fixed : List ℕ) (a chip : ℕ) (xs : List (Arrival (Unit {0}))) (mesh log : List ℕ) (n : ℕ) → chip < chipsOf mesh → DueAside (tablesOf rows starts codes fixed a) xs mesh log n → AsideThere mesh chip × RowsThere rows starts chip
-chip-there rows starts codes fixed a chip xs mesh log n below d =
-    let t = tablesOf rows starts codes fixed a in
-    let lent = d .due .lent in (
-      record { there = below; head = d .due .head; long = d .due .long; few = d .few },
-      record {
-        small = omega (arith, below, head-range mesh (d .due .head) .few);
-        start = omega (arith, below, starts-long t (chipsOf mesh) chip lent below);
-        below = rows-below t (chipsOf mesh) chip lent below;
-        within = rows-end t (chipsOf mesh) chip lent below;
-      },
-    )
+-- what was set aside for a chip that is there
+pub chip-there : (chip : ℕ) (xs : List (Arrival (Unit {0}))) (mesh log : List ℕ) (n : ℕ) → chip < chipsOf mesh → DueAside xs mesh log n → AsideThere mesh chip
+chip-there chip xs mesh log n below d = record { there = below; head = d .due .head; long = d .due .long; few = d .few }
 
 -- room for the longest table is room for each
 pub fits-each : (starts : List ℕ) (count chip room : ℕ) → chip < count → RoomFits room (longest starts count) → RoomFits room (getD starts (chip + 1) 0 - getD starts chip 0)
 fits-each starts count chip room h fits some = omega (arith, fits some, longest-most starts count chip h)
 
--- ---- no pass looks at the room's length
+-- ---- a chip's rows, with the places that the code works out
 
-module _ (rows starts codes fixed : List ℕ) (a b : ℕ) where
-  lent-room : (chips : ℕ) → Lent (tablesOf rows starts codes fixed a) chips → Lent (tablesOf rows starts codes fixed b) chips
-  lent-room chips l = record { starts = l .starts; codes = l .codes; fixed = l .fixed }
+module _ (t : Tables) (chips chip first next : ℕ) (cut : Cuts t chips chip) (e₁ : first ≡ getD (t .starts) chip 0 * 3) (e₂ : next ≡ getD (t .starts) (chip + 1) 0 * 3) where
+  pub fits-cut : (room : ℕ) → RoomFits room (getD (t .starts) (chip + 1) 0 - getD (t .starts) chip 0) → RoomFits room (length (take (next - first) (drop first (t .rows))) / 3)
+  fits-cut room fits some =
+      let long : length (take (next - first) (drop first (t .rows))) ≡ next - first = length-take-le (next - first) (drop first (t .rows)) (simp length-drop (omega (arith, cut .row-end, e₁, e₂))) in
+      omega (arith, long, e₁, e₂, cut .row-below, fits some)
 
-  module _ (xs : List (Arrival (Unit {0}))) (mesh log : List ℕ) (n : ℕ) where
-    pub due-room : Due (tablesOf rows starts codes fixed a) xs mesh log n → Due (tablesOf rows starts codes fixed b) xs mesh log n
-    due-room d = record { head = d .head; long = d .long; lent = lent-room (chipsOf mesh) (d .lent); room = d .room; each = d .each }
-
-    pub aside-room : DueAside (tablesOf rows starts codes fixed a) xs mesh log n → DueAside (tablesOf rows starts codes fixed b) xs mesh log n
-    aside-room d = record { due = due-room (d .due); few = d .few }
-
-    pub passed-room : (mesh′ log′ : List ℕ) (n′ : ℕ) → Passed (tablesOf rows starts codes fixed a) xs mesh log n mesh′ log′ n′ → Passed (tablesOf rows starts codes fixed b) xs mesh log n mesh′ log′ n′
-    passed-room mesh′ log′ n′ p =
-        record {
-          long = p .long;
-          head = p .head;
-          going = p .going;
-          still = p .still;
-          past = p .past;
-          room = p .room;
-          behind = p .behind;
-          more = p .more;
-          few = p .few;
-        }
+  pub room-cut : (keys room : List ℕ) → cond (eqb (length room) 0) room (groupsLeft keys (rowsOf (take (next - first) (drop first (t .rows)))) room) ≡ roomAt t keys chip room
+  room-cut keys room =
+      let long : next - first ≡ (getD (t .starts) (chip + 1) 0 - getD (t .starts) chip 0) * 3 = omega (arith, e₁, e₂) in
+      λ i. cond (eqb (length room) 0) room (groupsLeft keys (rowsOf (take (long i) (drop (e₁ i) (t .rows)))) room)
 
 -- ---- the room chip by chip
 
-pub room-none : (rows starts codes fixed : List ℕ) (a : ℕ) (f : ℕ → ℕ) (room : List ℕ) → room ≡ roomUpto (tablesOf rows starts codes fixed a) f 0 room
+pub room-none : (rows starts codes fixed : List ℕ) (a : ℕ) (f : ℕ → List ℕ) (room : List ℕ) → room ≡ roomUpto (tablesOf rows starts codes fixed a) f 0 room
 unfolding roomUpto
 room-none rows starts codes fixed a f room = refl
 
-pub room-next : (rows starts codes fixed : List ℕ) (a : ℕ) (f : ℕ → ℕ) (chip many : ℕ) (room₀ room : List ℕ) → many ≡ f chip → room ≡ roomUpto (tablesOf rows starts codes fixed a) f chip room₀
-    → roomAt (tablesOf rows starts codes fixed 0) many chip room ≡ roomUpto (tablesOf rows starts codes fixed a) f (suc chip) room₀
+pub room-next : (rows starts codes fixed : List ℕ) (a : ℕ) (f : ℕ → List ℕ) (chip : ℕ) (keys room₀ room : List ℕ) → keys ≡ f chip → room ≡ roomUpto (tablesOf rows starts codes fixed a) f chip room₀
+    → roomAt (tablesOf rows starts codes fixed 0) keys chip room ≡ roomUpto (tablesOf rows starts codes fixed a) f (suc chip) room₀
 unfolding roomUpto
-room-next rows starts codes fixed a f chip many room₀ room e g = λ i. roomAt (tablesOf rows starts codes fixed a) (e i) chip (g i)
+room-next rows starts codes fixed a f chip keys room₀ room e g = λ i. roomAt (tablesOf rows starts codes fixed a) (e i) chip (g i)
 
--- ---- how many were set aside
+-- ---- the words of what was set aside
+
+map-append : {X : Type 0} (f : X → ℕ) (xs ys : List X) → map f (xs ++ ys) ≡ map f xs ++ map f ys
+map-append f [] ys = refl
+map-append f (x ∷ xs) ys = ap (λ (l : List ℕ). f x ∷ l) (map-append f xs ys)
+
+map-upto : {X : Type 0} (f : X → ℕ) (g : ℕ → List X) (n : ℕ) → map f (upTo g n) ≡ upTo (λ k. map f (g k)) n
+unfolding upTo
+map-upto f g zero = refl
+map-upto f g (suc n) = map-append f (upTo g n) (g n) ∙ ap (λ (l : List ℕ). l ++ map f (g n)) (map-upto f g n)
 
 module _ (l : List ℕ) (chip : ℕ) (h : AsideThere l chip) (source : ℕ) (hs : source < 6) (at : ℕ) (e : at ≡ asidePlace (getD l widthAt 0) (getD l heightAt 0) chip source) where
   fine : Head l
@@ -137,10 +81,60 @@ module _ (l : List ℕ) (chip : ℕ) (h : AsideThere l chip) (source : ℕ) (hs 
   place-counted =
       rw e (count-at l chip source fine (h .long) (h .few) hs, (count-few l chip source fine (h .long) (h .few) hs, places-there l chip source fine (h .long) (h .few) hs))
 
-pub none-aside : (l : List ℕ) (chip : ℕ) → 0 ≡ length (upTo (asideBy l chip) 0)
-unfolding upTo
-none-aside l chip = refl
+  -- their words as the code reads them
+  pub keys-read : keysOf (asideBy l chip source) ≡ upTo (λ k. getD l (at + 2 + k * placeLong) 0 ∷ []) (getD l at 0)
+  keys-read =
+      let read : asideBy l chip source ≡ upTo (one l at chip source) (getD l at 0) = rw e (aside-read l chip source fine (h .long) (h .few) hs) in
+      ap keysOf read
+      ∙ map-upto (λ (a : Arrival (Unit {0})). a .flight .packet .word) (one l at chip source) (getD l at 0)
+      ∙ upto-same (λ k. keysOf (one l at chip source k)) (λ k. getD l (at + 2 + k * placeLong) 0 ∷ []) (getD l at 0)
+      (λ k b. let z : at + 1 + k * placeLong + 1 ≡ at + 2 + k * placeLong = omega arith in ap (λ (w : ℕ). w ∷ []) (getD-drop (at + 1 + k * placeLong) l 1 0 ∙ ap (λ (j : ℕ). getD l j 0) z))
 
-pub more-aside : (l : List ℕ) (chip source sum count : ℕ) → sum ≡ length (upTo (asideBy l chip) source) → count ≡ length (asideBy l chip source) → sum + count ≡ length (upTo (asideBy l chip) (suc source))
+-- one word more behind those that are gathered
+pub key-put : (keys front : List ℕ) (f : ℕ → ℕ) (n i w : ℕ) → n + i < length keys → take (n + i) keys ≡ front ++ upTo (λ k. f k ∷ []) i → w ≡ f i → take (n + (i + 1)) (set keys (n + i) w) ≡ front ++ upTo (λ k. f k ∷ []) (i + 1)
 unfolding upTo
-more-aside l chip source sum count e f = simp length-append (λ i. e i + f i)
+key-put keys front f n i w h e z =
+    let next : n + (i + 1) ≡ suc (n + i) = omega arith in
+    ap (λ (m : ℕ). take m (set keys (n + i) w)) next
+    ∙ take-suc-set keys (n + i) w h
+    ∙ (λ j. e j ++ z j ∷ [])
+    ∙ append-assoc front (upTo (λ k. f k ∷ []) i) (f i ∷ [])
+    ∙ ap (λ (m : ℕ). front ++ upTo (λ k. f k ∷ []) m) (sym (add-one i))
+
+pub keys-none : (n : ℕ) (keys : List ℕ) (f : ℕ → ℕ) → take (n + 0) keys ≡ take n keys ++ upTo (λ k. f k ∷ []) 0
+unfolding upTo
+keys-none n keys f = let z : n + 0 ≡ n = omega arith in ap (λ (m : ℕ). take m keys) z ∙ sym (append-nil (take n keys))
+
+pub none-aside : (l : List ℕ) (chip : ℕ) (keys : List ℕ) → take 0 keys ≡ keysOf (upTo (asideBy l chip) 0)
+unfolding upTo
+none-aside l chip keys = refl
+
+pub more-aside : (l : List ℕ) (chip source : ℕ) (more gathered : List ℕ) → gathered ≡ keysOf (upTo (asideBy l chip) source) ++ more → more ≡ keysOf (asideBy l chip source) → gathered ≡ keysOf (upTo (asideBy l chip) (suc source))
+unfolding upTo
+more-aside l chip source more gathered e f = e ∙ ap (λ (m : List ℕ). keysOf (upTo (asideBy l chip) source) ++ m) f ∙ sym (map-append (λ (a : Arrival (Unit {0})). a .flight .packet .word) (upTo (asideBy l chip) source) (asideBy l chip source))
+
+-- ---- every packet that was set aside has its group where some are built
+
+all-each : {X : Type 0} (P : X → Type 0) (d : X) (xs : List X) → ((k : ℕ) → k < length xs → P (getD xs k d)) → All P xs
+unfolding All
+all-each P d [] each = tt
+all-each P d (x ∷ xs) each = (each 0 (omega arith), all-each P d xs (λ k h. each (suc k) (omega arith)))
+
+pub groups-there : (words room keys : List ℕ) (xs : List (Arrival (Unit {0}))) → keys ≡ keysOf xs → roomFor (length (rowsOf words)) ≤ length room
+    → (worth (length keys) (length (rowsOf words)) && pays (length keys) (marksOf keys) (rowsOf words)) ≡ true → (room′ : List ℕ) → room′ ≡ groupsLeft keys (rowsOf words) room
+    → (length words / 3 ≤ 1024) × All (λ a. topOf (a .flight .packet .word) < 256 → GroupedFor (rowsOf words) room′ (a .flight .packet .word)) xs
+groups-there words room keys xs e fits paid room′ left = (
+  subst (λ (n : ℕ). n ≤ 1024) (rows-many words) (worth-few (length keys) (length (rowsOf words)) (and-left (worth (length keys) (length (rowsOf words))) (pays (length keys) (marksOf keys) (rowsOf words)) paid)),
+  all-each (λ a. topOf (a .flight .packet .word) < 256 → GroupedFor (rowsOf words) room′ (a .flight .packet .word)) nowhere xs
+      (λ k h small.
+      let here : getD keys k 0 ≡ getD xs k nowhere .flight .packet .word = ap (λ (l : List ℕ). getD l k 0) e ∙ List·getD-map (λ (a : Arrival (Unit {0})). a .flight .packet .word) xs k nowhere in
+      subst (λ (w : ℕ). GroupedFor (rowsOf words) room′ w) here
+      (subst (λ (r : List ℕ). GroupedFor (rowsOf words) r (getD keys k 0)) (sym left) (group-there keys (rowsOf words) room k (omega (arith, ap length e ∙ length-map xs (λ (a : Arrival (Unit {0})). a .flight .packet .word))) (omega (arith, here)) fits paid))),
+)
+  where
+    nowhere : Arrival (Unit {0})
+    nowhere = arrival 0 0 (packetIn [])
+
+    and-left : (a b : Bool) → (a && b) ≡ true → a ≡ true
+    and-left true b z = refl
+    and-left false b z = z

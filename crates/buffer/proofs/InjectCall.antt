@@ -11,12 +11,12 @@ use Rattle.packet.specs.declared.Taken.{Taken}
 use Rattle.packet.specs.Bytes.{packetAt, takenOf}
 use Rattle.packet.specs.Refusal.{firstOf}
 use Rattle.buffer.specs.Layout.{meshOf, wordsFor, chipsOf, wordsOf}
-use Rattle.mesh.specs.Steps.{Tables, Going, injected, same}
+use Rattle.mesh.specs.Steps.{Tables, Going, injected, passAt, same}
 use Rattle.buffer.specs.Holding.{holdsMesh, StatesFine}
 use Rattle.lists.specs.Lists.{All}
 use Rattle.mesh.specs.Sound.{SoundMesh}
 use Rattle.buffer.specs.PassesInTurn.{arrival, Due, Passed}
-use Rattle.mesh.specs.Calls.{injectRefusals, placeIn}
+use Rattle.mesh.specs.Calls.{Lent, injectRefusals, placeIn}
 use Rattle.mesh.specs.declared.Added.{Added}
 use Rattle.buffer.specs.Leaving.{Moves, injectLeft}
 use Rattle.buffer.proofs.HoldsMesh.{holds-head, words-enough}
@@ -39,24 +39,26 @@ module _ (t : Tables) (l log : List ℕ) (chip : ℕ) (bytes : List ℕ) (none :
   go : InjectGoes (holdsMesh l) (chipsOf l) chip t (length log) bytes
   go = inject-goes (holdsMesh l) (chipsOf l) chip t (length log) bytes none
 
+  pub inject-lent : Lent t (chipsOf l) × (chip < chipsOf l)
+  inject-lent = (go .lent, go .there)
+
   -- the packet is the one that was taken from the bytes
   pub taken-packet : (r : Taken) → r ≡ takenOf bytes → r .packet ≡ packetAt bytes
   taken-packet r e =
       let taken : takenOf bytes ≡ record { refusal = 0; packet = packetAt bytes } = simp (go .whole) in
       ap (λ (x : Taken). x .packet) (e ∙ taken)
 
-  pub inject-due : Due t (arrival chip 7 (packetAt bytes) ∷ []) l log 0
+  pub inject-due : Due (arrival chip 7 (packetAt bytes) ∷ []) l log 0
   unfolding All
   inject-due =
       record {
         head = holds-head l (go .holds);
         long = words-enough l (go .holds);
-        lent = go .lent;
         room = omega (arith, go .room);
         each = (record { there = go .there; from = inr refl; passable = go .passable }, tt);
       }
 
-  module _ (l₁ log₁ : List ℕ) (n : ℕ) (p : Passed t (arrival chip 7 (packetAt bytes) ∷ []) l log 0 l₁ log₁ n) where
+  module _ (l₁ log₁ : List ℕ) (n : ℕ) (p : Passed (passAt t same) (arrival chip 7 (packetAt bytes) ∷ []) l log 0 l₁ log₁ n) where
     abbrev after : Going (Unit {0})
     after = injected t same (meshOf l) chip (record { packet = packetAt bytes; tag = tt })
 

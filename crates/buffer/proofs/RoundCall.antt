@@ -25,7 +25,7 @@ use Rattle.mesh.specs.declared.Added.{Added}
 use Rattle.buffer.specs.Leaving.{Moves, roundLeft, roundRoom, overWords}
 use Rattle.groups.specs.Room.{longest}
 use Rattle.groups.proofs.Longest.{room-enough}
-use Rattle.mesh.specs.Room.{roomUpto, roomAfterRound}
+use Rattle.mesh.specs.Room.{keysOf, roomUpto, roomAfterRound}
 use Rattle.buffer.specs.Grouping.{RoomFits}
 use Rattle.lists.proofs.Alls.{all-getD, all-weaken}
 use Rattle.lists.proofs.Totals.{total-ones, total-most}
@@ -102,14 +102,13 @@ module _ (t : Tables) (l log : List ℕ) (none : firstOf (roundRefusals (holdsMe
 
   -- ---- what is due once all is set aside
 
-  pub round-due : DueAside t (upTo (asideFrom l₁) (chipsOf l)) l₁ log 0
+  pub round-due : DueAside (upTo (asideFrom l₁) (chipsOf l)) l₁ log 0
   unfolding meshOf
   round-due =
       record {
         due = record {
           head = head-fine-same l l₁ (u .head) ∙ holds-head l (go .holds);
           long = subst (λ (k : ℕ). wordsOf l₁ ≤ k) (sym (u .long)) (subst (λ (k : ℕ). k ≤ length l) (λ i. wordsFor (sym (number widthAt (lit< tt)) i) (sym (number heightAt (lit< tt)) i)) (words-enough l (go .holds)));
-          lent = subst (Lent t) (sym chips-same) (go .lent);
           room = omega (arith, go .room, ap length all-aside ∙ held-count l (go .holds));
           each = subst (λ (k : ℕ). All (Arrives k) (upTo (asideFrom l₁) (chipsOf l))) (sym chips-same)
               (subst (All (Arrives (chipsOf l))) (sym all-aside) (sound-arrivals (held-sound l (go .holds))));
@@ -117,20 +116,23 @@ module _ (t : Tables) (l log : List ℕ) (none : firstOf (roundRefusals (holdsMe
         few = few-aside l l₁ u (held-head l (go .holds)) (held-few l (go .holds));
       }
 
+  pub round-lent : Lent t (chipsOf l₁)
+  round-lent = subst (Lent t) (sym chips-same) (go .lent)
+
   -- ---- the room for groups: enough for each table, and left as the definition says
 
   pub round-fits : RoomFits (t .room) (longest (t .starts) (chipsOf l))
   round-fits = room-enough (t .room) (longest (t .starts) (chipsOf l)) (go .enough)
 
-  pub round-room : (room room′ : List ℕ) → room′ ≡ roomUpto t (λ chip. length (asideFrom l₁ chip)) (chipsOf l) room → room′ ≡ roundRoom l t (length log) room
+  pub round-room : (room room′ : List ℕ) → room′ ≡ roomUpto t (λ chip. keysOf (asideFrom l₁ chip)) (chipsOf l) room → room′ ≡ roundRoom l t (length log) room
   unfolding meshOf
   round-room room room′ e =
-      e ∙ (λ i. roomUpto t (λ chip. length (at-aside l l₁ u (held-head l (go .holds)) chip i)) (chipsOf l) room)
+      e ∙ (λ i. roomUpto t (λ chip. keysOf (at-aside l l₁ u (held-head l (go .holds)) chip i)) (chipsOf l) room)
       ∙ ap (λ (b : Bool). cond b (roomAfterRound t (meshOf l) room) room) (sym (eq-eqb _ 0 none))
 
   -- ---- what is left
 
-  module _ (l₂ log₂ : List ℕ) (n : ℕ) (p : Passed t (upTo (asideFrom l₁) (chipsOf l)) l₁ log 0 l₂ log₂ n) where
+  module _ (l₂ log₂ : List ℕ) (n : ℕ) (p : Passed (passAt t same) (upTo (asideFrom l₁) (chipsOf l)) l₁ log 0 l₂ log₂ n) where
     going : goingIn l₂ log₂ n ≡ foldl (passAt t same) (record { mesh = setAside (meshOf l); log = [] }) (arrivals (meshOf l))
     going = p .going ∙ (λ i. foldl (passAt t same) (record { mesh = mesh-aside l l₁ u i; log = [] }) (all-aside i))
 

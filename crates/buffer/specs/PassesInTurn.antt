@@ -2,7 +2,7 @@
 use Prim.Native.Nat.{ℕ, _+_, _*_, _≤_, _<_}
 use mathlib.Core.Path.{_≡_}
 use mathlib.Core.Bool.{true}
-use mathlib.Core.List.{List, map, foldl}
+use mathlib.Core.List.{List, _++_, map, foldl}
 use lib.ListN.{length, getD, take, drop}
 use Rattle.packet.specs.declared.Packet.{Packet}
 use Rattle.links.specs.Offsets.{widthAt, heightAt, headerLong, asideAt}
@@ -11,13 +11,15 @@ use Rattle.links.specs.Across.{across, opposite}
 use Rattle.links.specs.Words.{asideIn}
 use Rattle.links.specs.LineWords.{still}
 use Rattle.buffer.specs.Layout.{meshOf, chipsOf, wordsOf}
-use Rattle.mesh.specs.Steps.{Tables, Arrival, Going, passAt, same}
+use Rattle.steps.specs.Deciding.{outcomeOf}
+use Rattle.tables.specs.Tables.{ChipTables}
+use Rattle.mesh.specs.Mesh.{fresh}
+use Rattle.mesh.specs.Steps.{Arrival, Going, settingAt, withChip, chipAfter, logOf, same}
 use Rattle.buffer.specs.ChipWords.{lineWords}
 use Rattle.buffer.specs.Passing.{chipWords}
 use Rattle.buffer.specs.Holding.{headFine}
 use Rattle.lists.specs.Lists.{All, upTo}
 use Rattle.mesh.specs.Sound.{Arrives}
-use Rattle.mesh.specs.Calls.{Lent}
 
 abbrev pub arrival : ℕ → ℕ → Packet → Arrival (Unit {0})
 arrival chip source p = record { chip = chip; source = source; flight = record { packet = p; tag = tt } }
@@ -41,24 +43,32 @@ AsideFew l = (c j : ℕ) → c < chipsOf l → j < 6 → getD (lineWords j (chip
 abbrev pub goingIn : List ℕ → List ℕ → ℕ → Going (Unit {0})
 goingIn mesh log n = record { mesh = meshOf mesh; log = take (n * 6) log }
 
+-- A pass at a chip by the chip's own tables.
+abbrev pub passBy : ChipTables → Going (Unit {0}) → Arrival (Unit {0}) → Going (Unit {0})
+passBy own g a =
+    let o = outcomeOf (a .flight .packet) (a .source) own (settingAt (g .mesh) (a .chip)) in
+    record {
+      mesh = withChip (g .mesh) (a .chip) (chipAfter o (same (a .flight .tag)) (getD (g .mesh .chips) (a .chip) fresh));
+      log = g .log ++ logOf (a .chip) o;
+    }
+
 -- What is known before some arrivals pass: the log has room for a record of each.
-pub record Due (t : Tables) (due : List (Arrival (Unit {0}))) (mesh log : List ℕ) (n : ℕ) : Type 0 where
+pub record Due (due : List (Arrival (Unit {0}))) (mesh log : List ℕ) (n : ℕ) : Type 0 where
   pub head : headFine mesh ≡ true
   pub long : wordsOf mesh ≤ length mesh
-  pub lent : Lent t (chipsOf mesh)
   pub room : n * 6 + length due * 6 ≤ length log
   pub each : All (Arrives (chipsOf mesh)) due
 
 -- The same where the arrivals are what was set aside.
-pub record DueAside (t : Tables) (aside : List (Arrival (Unit {0}))) (mesh log : List ℕ) (n : ℕ) : Type 0 where
-  pub due : Due t aside mesh log n
+pub record DueAside (aside : List (Arrival (Unit {0}))) (mesh log : List ℕ) (n : ℕ) : Type 0 where
+  pub due : Due aside mesh log n
   pub few : AsideFew mesh
 
--- Words and log before and after some arrivals have passed, in order.
-pub record Passed (t : Tables) (due : List (Arrival (Unit {0}))) (mesh log : List ℕ) (n : ℕ) (mesh′ log′ : List ℕ) (n′ : ℕ) : Type 0 where
+-- Words and log before and after some arrivals have passed, in order: by all tables that are lent, or by one chip's.
+pub record Passed (step : Going (Unit {0}) → Arrival (Unit {0}) → Going (Unit {0})) (due : List (Arrival (Unit {0}))) (mesh log : List ℕ) (n : ℕ) (mesh′ log′ : List ℕ) (n′ : ℕ) : Type 0 where
   pub long : length mesh′ ≡ length mesh
   pub head : take headerLong mesh′ ≡ take headerLong mesh
-  pub going : goingIn mesh′ log′ n′ ≡ foldl (passAt t same) (goingIn mesh log n) due
+  pub going : goingIn mesh′ log′ n′ ≡ foldl step (goingIn mesh log n) due
   pub still : (c j : ℕ) → j < 6 → still (lineWords j (chipWords c mesh′)) ≡ still (lineWords j (chipWords c mesh))
   pub past : drop (wordsOf mesh) mesh′ ≡ drop (wordsOf mesh) mesh
   pub room : length log′ ≡ length log

@@ -1,18 +1,19 @@
-// One pass and what goes with it: the chip's own tables out of all that are lent, and its record in the log.
+// One pass at a chip with its own tables, and its record in the log.
 use super::logging::write_record;
 use super::passing::pass_at;
-use links::offsets::HEIGHT;
-use links::offsets::WIDTH;
+use groups::searching::grouped_row;
 use packet::Packet;
-use tables::size::chips;
 ghost use mathlib.Core.Path.{_≡_};
 ghost use mathlib.Core.List.{[], _∷_};
-ghost use Prim.Native.Nat.{_*_};
-ghost use Rattle.mesh.specs.Steps.{tablesOf};
-ghost use Rattle.buffer.specs.PassesInTurn.{arrival, Due, Passed};
-ghost use Rattle.buffer.specs.Grouping.{GroupedAt};
+ghost use lib.ListN.{length};
+ghost use Prim.Native.Nat.{_*_, _/_, _≤_, _<_};
+ghost use Rattle.groups.specs.Groups.{topOf, GroupedFor};
+ghost use Rattle.tables.specs.Rows.{rowsOf};
+ghost use Rattle.tables.specs.Tables.{chipTables};
+ghost use Rattle.buffer.specs.Layout.{chipsOf};
+ghost use Rattle.buffer.specs.PassesInTurn.{arrival, passBy, Due, Passed};
 
-// One pass. The log has n records before; answers how many it has then. The room is empty, or holds the groups of the chip's rows.
+// One pass. The log has n records before; answers how many it has then.
 pub fn pass_one(
     mesh: &mut [u32],
     log: &mut [u32],
@@ -21,29 +22,48 @@ pub fn pass_one(
     source: u32,
     p: Packet,
     rows: &[u32],
-    starts: &[u32],
     codes: &[u8],
-    fixed: &[u32],
+    fixed: u32,
+) -> usize
+    requires { ⌜ Due (arrival chip source p ∷ []) (now mesh) (now log) n × (chipsOf (now mesh) ≤ length (now codes)) ⌝ }
+    ensures { λ r. ⌜ Passed (passBy (chipTables (now (rows .entry)) (now (codes .entry)) fixed)) (arrival chip source p ∷ []) (now (mesh .entry)) (now (log .entry)) n (now (mesh .exit)) (now (log .exit)) r ⌝ }
+{
+    let o = pass_at(mesh, chip, source, p, rows, codes, fixed);
+    write_record(log, n, chip, o)
+}
+
+// The same where the room holds the group that the packet's key asks for: the pass is lent the one row that is found there, or none.
+pub fn pass_found(
+    mesh: &mut [u32],
+    log: &mut [u32],
+    n: usize,
+    chip: usize,
+    source: u32,
+    p: Packet,
+    rows: &[u32],
+    codes: &[u8],
+    fixed: u32,
     room: &[u32],
 ) -> usize
-    requires { ⌜ Due (tablesOf (now rows) (now starts) (now codes) (now fixed) 0) (arrival chip source p ∷ []) (now mesh) (now log) n × GroupedAt (now rows) (now starts) chip (now room) ⌝ }
-    ensures { λ r. ⌜ Passed (tablesOf (now (rows .entry)) (now (starts .entry)) (now (codes .entry)) (now (fixed .entry)) 0) (arrival chip source p ∷ []) (now (mesh .entry)) (now (log .entry)) n (now (mesh .exit)) (now (log .exit)) r ⌝ }
+    requires { ⌜ (Due (arrival chip source p ∷ []) (now mesh) (now log) n × (chipsOf (now mesh) ≤ length (now codes))) × ((length (now rows) / 3 ≤ 1024) × (topOf (p .word) < 256 → GroupedFor (rowsOf (now rows)) (now room) (p .word))) ⌝ }
+    ensures { λ r. ⌜ Passed (passBy (chipTables (now (rows .entry)) (now (codes .entry)) fixed)) (arrival chip source p ∷ []) (now (mesh .entry)) (now (log .entry)) n (now (mesh .exit)) (now (log .exit)) r ⌝ }
 {
-    let first = row_place(starts[chip]);
-    let next = row_place(starts[chip + 1]);
-    let all = chips(mesh[WIDTH], mesh[HEIGHT]);
-    let at = chip * all;
-    let o = pass_at(
-        mesh,
-        chip,
-        source,
-        p,
-        &rows[first..next],
-        &codes[at..at + all],
-        fixed[chip],
-        room,
-    );
-    write_record(log, n, chip, o)
+    let row = grouped_row(rows, room, p.word);
+    if row < rows.len() / 3 {
+        let first = row * 3;
+        return pass_one(
+            mesh,
+            log,
+            n,
+            chip,
+            source,
+            p,
+            &rows[first..first + 3],
+            codes,
+            fixed,
+        );
+    }
+    pass_one(mesh, log, n, chip, source, p, &rows[..0], codes, fixed)
 }
 
 // Where a row starts, three numbers a row.

@@ -3,6 +3,7 @@
 use super::arriving::pass_chips;
 use super::aside::set_aside;
 use super::going::pass_one;
+use super::going::row_place;
 use super::refusing::inject_refusal;
 use super::refusing::place_told;
 use super::refusing::round_refusal;
@@ -15,12 +16,17 @@ use links::offsets::ROUNDS;
 use links::offsets::WIDTH;
 use links::phase::next_phase;
 use mesh::Added;
+use packet::Packet;
 use packet::bytes::take;
 use tables::size::chips;
 ghost use mathlib.Core.Path.{_≡_};
+ghost use mathlib.Core.List.{[], _∷_};
 ghost use lib.ListN.{length, getD};
 ghost use Prim.Native.Nat.{_≤_};
-ghost use Rattle.mesh.specs.Steps.{tablesOf};
+ghost use Rattle.mesh.specs.Steps.{tablesOf, passAt, same};
+ghost use Rattle.mesh.specs.Calls.{Lent};
+ghost use Rattle.buffer.specs.Layout.{chipsOf};
+ghost use Rattle.buffer.specs.PassesInTurn.{arrival, Due, Passed};
 ghost use Rattle.buffer.specs.Leaving.{Moves, injectLeft, roundLeft, roundRoom, overWords};
 ghost use Rattle.buffer.specs.Testing.{testedOf};
 ghost use Rattle.links.specs.Offsets.{elapsedAt, headerLong};
@@ -99,25 +105,44 @@ pub fn inject_tested(
     }
     let taken = take(bytes);
     let p = taken.packet;
-    let n = pass_one(
-        mesh,
-        log,
-        0,
-        chip as usize,
-        7,
-        p,
-        rows,
-        starts,
-        codes,
-        fixed,
-        &rows[..0],
-    );
+    let n = pass_there(mesh, log, chip as usize, p, rows, starts, codes, fixed);
     let added = n as u32;
     Added {
         refusal: 0,
         added,
         place: 0,
     }
+}
+
+// The pass of a local packet at a chip, with the chip's own tables.
+fn pass_there(
+    mesh: &mut [u32],
+    log: &mut [u32],
+    chip: usize,
+    p: Packet,
+    rows: &[u32],
+    starts: &[u32],
+    codes: &[u8],
+    fixed: &[u32],
+) -> usize
+    requires { ⌜ Due (arrival chip 7 p ∷ []) (now mesh) (now log) 0 × Lent (tablesOf (now rows) (now starts) (now codes) (now fixed) 0) (chipsOf (now mesh)) ⌝ }
+    ensures { λ r. ⌜ Passed (passAt (tablesOf (now (rows .entry)) (now (starts .entry)) (now (codes .entry)) (now (fixed .entry)) 0) same) (arrival chip 7 p ∷ []) (now (mesh .entry)) (now (log .entry)) 0 (now (mesh .exit)) (now (log .exit)) r ⌝ }
+{
+    let all = chips(mesh[WIDTH], mesh[HEIGHT]);
+    let at = chip * all;
+    let first = row_place(starts[chip]);
+    let next = row_place(starts[chip + 1]);
+    pass_one(
+        mesh,
+        log,
+        0,
+        chip,
+        7,
+        p,
+        &rows[first..next],
+        &codes[at..at + all],
+        fixed[chip],
+    )
 }
 
 // A round where buffer and tables were tested.

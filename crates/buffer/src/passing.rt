@@ -14,11 +14,8 @@ use steps::deciding::outcome_of;
 ghost use mathlib.Core.Path.{_≡_};
 ghost use Rattle.steps.specs.Deciding.{outcomeOf};
 ghost use Rattle.buffer.specs.Passing.{settingIn, CheckedAt, MeshStep};
-ghost use Rattle.groups.specs.Groups.{Grouped};
-ghost use Rattle.tables.specs.Rows.{rowsOf};
 ghost use Rattle.tables.specs.Tables.{chipTables};
 
-// The room is empty, or holds the groups of the rows.
 pub fn pass_at(
     mesh: &mut [u32],
     chip: usize,
@@ -27,9 +24,8 @@ pub fn pass_at(
     rows: &[u32],
     codes: &[u8],
     fixed: u32,
-    room: &[u32],
 ) -> Outcome
-    requires { ⌜ CheckedAt (now mesh) chip source p (now codes) × Grouped (rowsOf (now rows)) (now room) ⌝ }
+    requires { ⌜ CheckedAt (now mesh) chip source p (now codes) ⌝ }
     ensures { λ o. ⌜ o ≡ outcomeOf p source (chipTables (now (rows .entry)) (now (codes .entry)) fixed) (settingIn (now (mesh .entry)) chip) ⌝ }
     ensures { λ o. ⌜ MeshStep (now (mesh .entry)) (now (mesh .exit)) chip o ⌝ }
 {
@@ -42,7 +38,7 @@ pub fn pass_at(
         phase: mesh[PHASE],
         ready,
     };
-    let o = outcome_of(p, source, rows, codes, fixed, t, room);
+    let o = outcome_of(p, source, rows, codes, fixed, t);
     after(&mut mesh[at..at + CHIP], o);
     o
 }

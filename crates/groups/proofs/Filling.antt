@@ -1,58 +1,132 @@
--- Where every row number stands in its place, the room holds the groups and behind them what it held.
-use Prim.Native.Nat.{ℕ, zero, suc, _+_, _≤_, _<_}
+-- Where every row number stands in its place and all else is kept, the room holds what it is to hold.
+use Prim.Native.Nat.{ℕ, suc, _+_, _*_, _-_, _≤_, _<_}
 use mathlib.Core.Path.{_≡_, refl, sym, ap, _∙_}
-use mathlib.Core.List.{List, [], _∷_, _++_, append-assoc, append-nil}
+use mathlib.Core.Logic.{⊎-elim}
+use mathlib.Core.Bool.{Bool, true, false, cond}
+use mathlib.Core.List.{List, [], _∷_, _++_}
 use native.Mathlib.Omega.{arith}
-use native.Mathlib.Numerals.{add-one}
-use lib.ListN.{length, getD, take, drop, length-append, length-drop, take-append-drop}
-use lib.Seq.{take-suc, take-add, length-take-le, ext-getD, getD-take, getD-drop}
-use Rattle.lists.specs.Lists.{upTo}
+use lib.ListN.{length, getD, take, drop, length-append, length-drop, take-append-drop, List·getD-append}
+use lib.Seq.{length-take-le, ext-getD, getD-take, getD-drop, getD-append-add, take-add}
+use Rattle.lists.specs.Lists.{upTo, part}
+use Rattle.lists.proofs.Firsts.{lt-or-ge}
+use Rattle.lists.proofs.UpTo.{upto-same}
 use Rattle.tables.specs.Rows.{Entry}
-use Rattle.groups.specs.Groups.{groupOf, startOf, groupsOf, roomAfter}
-use Rattle.groups.specs.Placing.{Placed, Behind}
-use Rattle.groups.proofs.Starts.{start-next, start-apart, groups-long}
+use Rattle.groups.specs.Groups.{groupOf, isIn, asked, groupWord, blockOf, roomAfter, roomFor}
+use Rattle.groups.specs.Building.{sofar, Placed, Kept}
+use Rattle.groups.specs.Asking.{Asked}
+use Rattle.groups.proofs.InOrder.{from-most, sofar-none}
+use Rattle.groups.proofs.Blocks.{block-end, block-apart, take-ones, part-blocks}
+use Rattle.groups.proofs.Placing.{one-and-others}
 
--- lists that stand one behind the other, from a place on
-one-by-one : (f : ℕ → List ℕ) (a : ℕ) (front room : List ℕ) → take a room ≡ front
-    → (n : ℕ) → ((g : ℕ) → g < n → take (length (f g)) (drop (a + length (upTo f g)) room) ≡ f g) → take (a + length (upTo f n)) room ≡ front ++ upTo f n
-unfolding upTo
-one-by-one f a front room e zero each = let z : a + 0 ≡ a = omega arith in ap (λ (k : ℕ). take k room) z ∙ e ∙ sym (append-nil front)
-one-by-one f a front room e (suc n) each =
-    let m : ℕ = a + length (upTo f n) in
-    let z : a + length (upTo f n ++ f n) ≡ m + length (f n) = omega (arith, length-append (upTo f n) (f n)) in
-    ap (λ (k : ℕ). take k room) z
-    ∙ take-add m (length (f n)) room
-    ∙ (λ i. one-by-one f a front room e n (λ g h. each g (omega arith)) i ++ each n (omega arith) i)
-    ∙ append-assoc front (upTo f n) (f n)
+-- before the first row
+pub none-placed : (tops : List ℕ) (rows : List Entry) (room : List ℕ) → Asked (take 256 room) tops → Placed tops rows (sofar rows 0) room
+none-placed tops rows room a =
+    record {
+      words = λ g h. sym (getD-take 256 room g 0 h) ∙ a .bits g h ∙ ap (λ (n : ℕ). cond (isIn g tops) (suc n) 0) (sym (sofar-none rows g));
+      there = λ g k h e l. absurd (omega (arith, sofar-none rows g));
+    }
 
-module _ (rows : List Entry) (room : List ℕ) (p : Placed rows (λ g. length (groupOf rows g)) room) (long : length (groupsOf rows) ≤ length room) where
-  start-there : (g : ℕ) → g < 257 → getD room g 0 ≡ startOf rows g
-  unfolding upTo
-  start-there zero h = p .first
-  start-there (suc g) h =
-      ap (λ (k : ℕ). getD room k 0) (sym (add-one g)) ∙ p .cursor g (omega arith) ∙ sym (start-next rows g)
+part-long : (a n : ℕ) (l : List ℕ) → a + n ≤ length l → length (part a n l) ≡ n
+part-long a n l h = length-take-le n (drop a l) (omega (arith, length-drop a l))
 
-  starts-there : (g : ℕ) → g ≤ 257 → take g room ≡ upTo (λ (h : ℕ). startOf rows h ∷ []) g
-  unfolding upTo
-  starts-there zero h = refl
-  starts-there (suc g) h =
-      take-suc room g 0 (omega (arith, groups-long rows))
-      ∙ (λ i. starts-there g (omega arith) i ++ start-there g (omega arith) i ∷ [])
+part-at : (a n : ℕ) (l : List ℕ) (k : ℕ) → k < n → getD (part a n l) k 0 ≡ getD l (a + k) 0
+part-at a n l k h = getD-take n (drop a l) k 0 h ∙ getD-drop a l k 0
 
-  -- one group
-  group-there : (g : ℕ) → g < 256 → take (length (groupOf rows g)) (drop (257 + startOf rows g) room) ≡ groupOf rows g
-  group-there g h =
-      let n : ℕ = length (groupOf rows g) in
-      let rest : List ℕ = drop (257 + startOf rows g) room in
-      let many : length (take n rest) ≡ n =
-      length-take-le n rest (omega (arith, length-drop (257 + startOf rows g) room, groups-long rows, start-apart rows g 256 h)) in
-      ext-getD 0 (take n rest) (groupOf rows g) many
-      (λ k l.
-      let within : k < n = omega (arith, many) in
-      let at : 257 + startOf rows g + k ≡ 257 + (startOf rows g + k) = omega arith in
-      getD-take n rest k 0 within ∙ getD-drop (257 + startOf rows g) room k 0 ∙ ap (λ (j : ℕ). getD room j 0) at ∙ p .there g k h within)
+-- a list in four parts
+in-parts : (l : List ℕ) (n : ℕ) → l ≡ take 256 l ++ part 256 1 l ++ part 257 n l ++ drop (257 + n) l
+in-parts l n =
+    sym (take-append-drop (257 + n) l)
+    ∙ ap (λ (front : List ℕ). front ++ drop (257 + n) l) (take-add 257 n l ∙ ap (λ (front : List ℕ). front ++ part 257 n l) (take-add 256 1 l))
 
-  pub room-holds : (room₀ : List ℕ) → Behind rows room₀ room → room ≡ roomAfter rows room₀
-  room-holds room₀ b =
-      sym (take-append-drop (length (groupsOf rows)) room)
-      ∙ (λ i. (ap (λ (n : ℕ). take n room) (groups-long rows) ∙ one-by-one (groupOf rows) 257 (upTo (λ (h : ℕ). startOf rows h ∷ []) 257) room (starts-there 257 (omega arith)) 256 group-there) i ++ b i)
+module _ (marks tops : List ℕ) (rows : List Entry) (room₀ room : List ℕ)
+    (same : (g : ℕ) → g < 256 → asked marks g ≡ isIn g tops)
+    (p : Placed tops rows (λ g. length (groupOf rows g)) room)
+    (q : Kept tops (length rows) (λ g. length (groupOf rows g)) room₀ room)
+    (long : length room ≡ length room₀)
+    (fits : roomFor (length rows) ≤ length room₀)
+  where
+    apart : true ≡ false → ⊥
+    apart e = let z : _≡_ {A = ℕ} 0 1 = cc in omega arith
+
+    -- a word of a block behind the numbers of its group
+    kept-word : (g k : ℕ) → g < 256 → k < length rows → (isIn g tops ≡ true → length (groupOf rows g) ≤ k) → getD room (257 + g * length rows + k) 0 ≡ getD room₀ (257 + g * length rows + k) 0
+    kept-word g k s l past =
+        q .same (257 + g * length rows + k) (omega arith)
+        (λ h j t e m z.
+        one-and-others (λ (h : ℕ). isIn h tops ≡ true → j < length (groupOf rows h) → 257 + g * length rows + k ≡ 257 + h * length rows + j → ⊥) g
+        (λ e m z. omega (arith, past e))
+        (λ h n e m z. block-apart (length rows) g h j k n (omega (arith, from-most h 0 rows)) l (omega arith))
+        h e m z)
+
+    block-there : (g : ℕ) → g < 256 → part (257 + g * length rows) (length rows) room ≡ blockOf marks rows room₀ g
+    block-there g s = go (isIn g tops) refl
+      where
+        many : length (part (257 + g * length rows) (length rows) room) ≡ length rows
+        many = part-long (257 + g * length rows) (length rows) room (omega (arith, long, block-end (length rows) g 256 s))
+
+        many₀ : length (part (257 + g * length rows) (length rows) room₀) ≡ length rows
+        many₀ = part-long (257 + g * length rows) (length rows) room₀ (omega (arith, block-end (length rows) g 256 s))
+
+        go : (b : Bool) → isIn g tops ≡ b → part (257 + g * length rows) (length rows) room ≡ blockOf marks rows room₀ g
+        go true e =
+            let numbers : List ℕ = groupOf rows g in
+            let before : List ℕ = part (257 + g * length rows) (length rows) room₀ in
+            let there : asked marks g ≡ true = same g s ∙ e in
+            ext-getD 0 (part (257 + g * length rows) (length rows) room) (numbers ++ drop (length numbers) before)
+            (many ∙ omega (arith, length-append numbers (drop (length numbers) before), length-drop (length numbers) before, many₀, from-most g 0 rows))
+            (λ k l.
+            let within : k < length rows = omega (arith, many) in
+            part-at (257 + g * length rows) (length rows) room k within
+            ∙ ⊎-elim
+            (λ (m : k < length numbers). p .there g k s e m ∙ sym (List·getD-append numbers (drop (length numbers) before) 0 k m))
+            (λ (m : length numbers ≤ k).
+            let z : length numbers + (k - length numbers) ≡ k = omega arith in
+            kept-word g k s within (λ _. m)
+            ∙ sym (part-at (257 + g * length rows) (length rows) room₀ k within)
+            ∙ ap (λ (i : ℕ). getD before i 0) (sym z)
+            ∙ sym (getD-drop (length numbers) before (k - length numbers) 0)
+            ∙ sym (getD-append-add numbers (drop (length numbers) before) (k - length numbers) 0)
+            ∙ ap (λ (i : ℕ). getD (numbers ++ drop (length numbers) before) i 0) z)
+            (lt-or-ge k (length numbers)))
+            ∙ ap (λ (b : Bool). cond b (numbers ++ drop (length numbers) before) before) (sym there)
+        go false e =
+            let before : List ℕ = part (257 + g * length rows) (length rows) room₀ in
+            let none : asked marks g ≡ false = same g s ∙ e in
+            ext-getD 0 (part (257 + g * length rows) (length rows) room) before (many ∙ sym many₀)
+            (λ k l.
+            let within : k < length rows = omega (arith, many) in
+            part-at (257 + g * length rows) (length rows) room k within
+            ∙ kept-word g k s within (λ d. absurd (apart (sym d ∙ e)))
+            ∙ sym (part-at (257 + g * length rows) (length rows) room₀ k within))
+            ∙ ap (λ (b : Bool). cond b (groupOf rows g ++ drop (length (groupOf rows g)) before) before) (sym none)
+
+    words-there : take 256 room ≡ upTo (λ (g : ℕ). groupWord marks rows g ∷ []) 256
+    words-there =
+        take-ones room 256 (omega (arith, long))
+        ∙ upto-same (λ (g : ℕ). getD room g 0 ∷ []) (λ (g : ℕ). groupWord marks rows g ∷ []) 256
+        (λ g s. ap (λ (n : ℕ). n ∷ []) (p .words g s ∙ ap (λ (b : Bool). cond b (suc (length (groupOf rows g))) 0) (sym (same g s))))
+
+    one-there : part 256 1 room ≡ part 256 1 room₀
+    one-there =
+        let one : length (part 256 1 room) ≡ 1 = part-long 256 1 room (omega (arith, long)) in
+        ext-getD 0 (part 256 1 room) (part 256 1 room₀) (one ∙ sym (part-long 256 1 room₀ (omega arith)))
+        (λ k l.
+        let within : k < 1 = omega (arith, one) in
+        part-at 256 1 room k within ∙ q .same (256 + k) (omega arith) (λ g j s e m z. omega arith) ∙ sym (part-at 256 1 room₀ k within))
+
+    blocks-there : part 257 (256 * length rows) room ≡ upTo (blockOf marks rows room₀) 256
+    blocks-there = part-blocks room 257 (length rows) 256 ∙ upto-same (λ (g : ℕ). part (257 + g * length rows) (length rows) room) (blockOf marks rows room₀) 256 block-there
+
+    behind-there : drop (257 + 256 * length rows) room ≡ drop (257 + 256 * length rows) room₀
+    behind-there =
+        let a : ℕ = 257 + 256 * length rows in
+        ext-getD 0 (drop a room) (drop a room₀) (length-drop a room ∙ ap (λ (n : ℕ). n - a) long ∙ sym (length-drop a room₀))
+        (λ k l.
+        getD-drop a room k 0
+        ∙ q .same (a + k) (omega arith) (λ g j s e m z. omega (arith, block-end (length rows) g 256 s, from-most g 0 rows))
+        ∙ sym (getD-drop a room₀ k 0))
+
+    pub room-holds : room ≡ roomAfter marks rows room₀
+    room-holds =
+        in-parts room (256 * length rows)
+        ∙ (λ i. words-there i ++ one-there i ++ blocks-there i ++ behind-there i)

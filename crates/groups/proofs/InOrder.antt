@@ -10,7 +10,7 @@ use lib.Seq.{take-suc, take-length, split-at, length-take-le, getD-at}
 use borrow.Author.Tests.{eq-eqb, ne-eqb}
 use Rattle.tables.specs.Rows.{Entry, blankEntry}
 use Rattle.groups.specs.Groups.{topOf, fixesTop, inGroup, groupFrom, groupOf}
-use Rattle.groups.specs.Placing.{sofar}
+use Rattle.groups.specs.Building.{sofar}
 
 from-append : (g i : ℕ) (a b : List Entry) → groupFrom g i (a ++ b) ≡ groupFrom g i a ++ groupFrom g (i + length a) b
 unfolding groupFrom
@@ -97,6 +97,13 @@ module _ (rows : List Entry) (g : ℕ) where
 
     pub sofar-here : inGroup g (getD rows i blankEntry) ≡ true → sofar rows (i + 1) g ≡ suc (sofar rows i g)
     sofar-here e = sofar-next ∙ simp e
+
+    pub sofar-more : sofar rows i g ≤ sofar rows (i + 1) g
+    sofar-more = go (inGroup g (getD rows i blankEntry)) sofar-next
+      where
+        go : (t : Bool) → sofar rows (i + 1) g ≡ cond t (suc (sofar rows i g)) (sofar rows i g) → sofar rows i g ≤ sofar rows (i + 1) g
+        go true e = omega (arith, e)
+        go false e = omega (arith, e)
 
 -- before the first row and behind the last
 pub sofar-none : (rows : List Entry) (g : ℕ) → sofar rows 0 g ≡ 0

@@ -1,10 +1,13 @@
-pub mod Counting
+pub mod Asks
+pub mod Blocks
+pub mod Clearing
 pub mod Filling
 pub mod GroupWords
+pub mod GroupsLeft
 pub mod InOrder
+pub mod Listing
 pub mod Longest
 pub mod Placing
 pub mod RowByRow
 pub mod SameRow
-pub mod Starts
-pub mod Unfixed
+pub mod Sampling

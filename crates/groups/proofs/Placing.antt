@@ -1,20 +1,19 @@
--- One row number more at the end of its group so far: all that stood in the room still stands, because the parts of two groups are apart.
-use Prim.Native.Nat.{ℕ, suc, _+_, _≤_, _<_}
-use mathlib.Core.Path.{_≡_, sym, ap, _∙_, subst}
-use mathlib.Core.Logic.{_⊎_, ⊎-elim}
-use mathlib.Core.Bool.{cond}
+-- One row number more at the end of its group so far: all that stood in the room still stands, because two groups share no word.
+use Prim.Native.Nat.{ℕ, suc, _+_, _*_, _≤_, _<_}
+use mathlib.Core.Path.{_≡_, refl, sym, ap, _∙_, subst}
+use mathlib.Core.Logic.{⊎-elim}
+use mathlib.Core.Bool.{Bool, true, false, cond}
 use mathlib.Core.List.{List}
-use borrow.Author.Tests.{lt-ltb, le-ltb}
-use lib.Dec.{ltb}
 use native.Mathlib.Omega.{arith}
 use native.Mathlib.Nat.{le-antisymm}
+use borrow.Author.Tests.{eq-eqb, ne-eqb}
 use lib.ListN.{length, getD, set, length-set}
-use lib.Seq.{getD-set-same, getD-set-other, drop-set-lt}
+use lib.Seq.{getD-set-same, getD-set-other}
 use Rattle.lists.proofs.Firsts.{lt-or-ge}
 use Rattle.tables.specs.Rows.{Entry}
-use Rattle.groups.specs.Groups.{groupOf, startOf, groupsOf}
-use Rattle.groups.specs.Placing.{Placed, Behind}
-use Rattle.groups.proofs.Starts.{start-apart, groups-long}
+use Rattle.groups.specs.Groups.{groupOf, isIn, roomFor}
+use Rattle.groups.specs.Building.{Placed, Kept, PutFits, afterPut}
+use Rattle.groups.proofs.Blocks.{block-end, block-apart}
 
 -- of one number, and of all others
 pub one-and-others : (P : ℕ → Type 0) (g : ℕ) → P g → ((h : ℕ) → (h ≡ g → ⊥) → P h) → (h : ℕ) → P h
@@ -23,112 +22,124 @@ one-and-others P g here other h =
     (λ (l : g ≤ h). ⊎-elim (λ (m : g < h). other h (λ e. omega arith)) (λ (m : h ≤ g). subst P (le-antisymm l m) here) (lt-or-ge g h))
     (lt-or-ge h g)
 
--- one number more in each group before the g-th
-abbrev pub partly : (ℕ → ℕ) → ℕ → ℕ → ℕ
-partly many g h = cond (ltb h g) (suc (many h)) (many h)
-
-module _ (many : ℕ → ℕ) where
-  pub partly-none : (h : ℕ) → partly many 0 h ≡ many h
-  partly-none h = simp (le-ltb h 0 (omega arith))
-
-  pub partly-all : (h : ℕ) → h < 256 → partly many 256 h ≡ suc (many h)
-  partly-all h l = simp (lt-ltb h 256 l)
-
-  pub partly-before : (g : ℕ) → partly many g g ≡ many g
-  partly-before g = simp (le-ltb g g (omega arith))
-
-  pub partly-here : (g : ℕ) → partly many (g + 1) g ≡ suc (partly many g g)
-  partly-here g = simp (lt-ltb g (g + 1) (omega arith), le-ltb g g (omega arith))
-
-  pub partly-else : (g h : ℕ) → (h ≡ g → ⊥) → partly many (g + 1) h ≡ partly many g h
-  partly-else g h n =
-      ⊎-elim (λ (l : h < g). simp (lt-ltb h (g + 1) (omega arith), lt-ltb h g l))
-      (λ (l : g ≤ h).
-      let m : g < h = ⊎-elim (λ (d : g < h). d) (λ (d : h ≤ g). absurd (n (le-antisymm d l))) (lt-or-ge g h) in
-      simp (le-ltb h (g + 1) (omega arith), le-ltb h g l))
-      (lt-or-ge h g)
-
--- the count may be said in other words
-pub said-so : (rows : List Entry) (many many′ : ℕ → ℕ) (room : List ℕ) → ((g : ℕ) → g < 256 → many′ g ≡ many g) → Placed rows many room → Placed rows many′ room
-said-so rows many many′ room same p =
+-- the count of a group that is listed may be said in other words
+pub said-so : (tops : List ℕ) (rows : List Entry) (many many′ : ℕ → ℕ) (room : List ℕ) → ((g : ℕ) → g < 256 → isIn g tops ≡ true → many′ g ≡ many g)
+    → Placed tops rows many room → Placed tops rows many′ room
+said-so tops rows many many′ room same p =
     record {
-      first = p .first;
-      most = λ g h. omega (arith, same g h, p .most g h);
-      cursor = λ g h. p .cursor g h ∙ ap (λ (n : ℕ). startOf rows g + n) (sym (same g h));
-      there = λ g k h l. p .there g k h (omega (arith, same g h));
+      words = λ g h. p .words g h ∙ go g h (isIn g tops) refl;
+      there = λ g k h l m. p .there g k h l (omega (arith, same g h l));
     }
+  where
+    go : (g : ℕ) → g < 256 → (b : Bool) → isIn g tops ≡ b → cond b (suc (many g)) 0 ≡ cond b (suc (many′ g)) 0
+    go g h true e = ap suc (sym (same g h e))
+    go g h false e = refl
 
-module _ (rows : List Entry) (many : ℕ → ℕ) (room : List ℕ) (p : Placed rows many room) (long : length (groupsOf rows) ≤ length room) (g : ℕ) (small : g < 256) (more : many g < length (groupOf rows g)) where
-  -- where its group's next number goes
-  pub place-within : 257 + getD room (g + 1) 0 < length (groupsOf rows)
-  place-within = omega (arith, p .cursor g small, groups-long rows, start-apart rows g 256 small)
+-- where more is written, less is kept
+module _ (tops : List ℕ) (n : ℕ) where
+  pub kept-less : (many many′ : ℕ → ℕ) (room₀ room : List ℕ) → ((g : ℕ) → g < 256 → isIn g tops ≡ true → many g ≤ many′ g) → Kept tops n many room₀ room → Kept tops n many′ room₀ room
+  kept-less many many′ room₀ room most p = record { same = λ j h u. p .same j h (λ g k s l m e. u g k s l (omega (arith, most g s l)) e) }
 
-  module _ (number : ℕ) (next : getD (groupOf rows g) (many g) 0 ≡ number) where
-    after : List ℕ
-    after = set (set room (257 + getD room (g + 1) 0) number) (g + 1) (getD room (g + 1) 0 + 1)
+  pub kept-none : (many : ℕ → ℕ) (room : List ℕ) → Kept tops n many room room
+  kept-none many room = record { same = λ j h u. refl }
 
-    -- all but the two words that are written
-    elsewhere : (j : ℕ) → (j ≡ g + 1 → ⊥) → (j ≡ 257 + getD room (g + 1) 0 → ⊥) → getD after j 0 ≡ getD room j 0
-    unfolding after
-    elsewhere j a b =
-        getD-set-other (set room (257 + getD room (g + 1) 0) number) (g + 1) j (getD room (g + 1) 0 + 1) 0 a ∙ getD-set-other room (257 + getD room (g + 1) 0) j number 0 b
+  pub kept-both : (many : ℕ → ℕ) (a b c : List ℕ) → Kept tops n many a b → Kept tops n many b c → Kept tops n many a c
+  kept-both many a b c p q = record { same = λ j h u. q .same j h u ∙ p .same j h u }
 
-    written : getD after (257 + getD room (g + 1) 0) 0 ≡ number
-    unfolding after
-    written =
-        getD-set-other (set room (257 + getD room (g + 1) 0) number) (g + 1) (257 + getD room (g + 1) 0) (getD room (g + 1) 0 + 1) 0 (λ e. omega arith)
-        ∙ getD-set-same room (257 + getD room (g + 1) 0) number 0 (omega (arith, place-within))
+module _ (tops : List ℕ) (rows : List Entry) (many : ℕ → ℕ) (room : List ℕ) (p : Placed tops rows many room) (g : ℕ) (small : g < 256) where
+  unlisted : (number : ℕ) → isIn g tops ≡ false → afterPut room (length rows) g number ≡ room
+  unlisted number e =
+      let w : getD room g 0 ≡ 0 = p .words g small ∙ simp e in
+      simp (eq-eqb (getD room g 0) 0 w)
 
-    moved : getD after (g + 1) 0 ≡ getD room (g + 1) 0 + 1
-    unfolding after
-    moved =
-        getD-set-same (set room (257 + getD room (g + 1) 0) number) (g + 1) (getD room (g + 1) 0 + 1) 0
-        (omega (arith, place-within, length-set room (257 + getD room (g + 1) 0) number))
+  word-here : isIn g tops ≡ true → getD room g 0 ≡ suc (many g)
+  word-here e = p .words g small ∙ simp e
 
-    pub put-behind : Behind rows room (set (set room (257 + getD room (g + 1) 0) number) (g + 1) (getD room (g + 1) 0 + 1))
-    put-behind =
-        drop-set-lt (length (groupsOf rows)) (set room (257 + getD room (g + 1) 0) number) (g + 1) (getD room (g + 1) 0 + 1) (omega (arith, place-within))
-        ∙ drop-set-lt (length (groupsOf rows)) room (257 + getD room (g + 1) 0) number place-within
+  listed : (number : ℕ) → isIn g tops ≡ true
+      → afterPut room (length rows) g number ≡ set (set room (257 + g * length rows + many g) number) g (suc (suc (many g)))
+  listed number e =
+      let some : getD room g 0 ≡ 0 → ⊥ = λ z. omega (arith, word-here e) in
+      let at : 256 + g * length rows + getD room g 0 ≡ 257 + g * length rows + many g = omega (arith, word-here e) in
+      let next : getD room g 0 + 1 ≡ suc (suc (many g)) = omega (arith, word-here e) in
+      ap (λ (b : Bool). cond b room (set (set room (256 + g * length rows + getD room g 0) number) g (getD room g 0 + 1))) (ne-eqb (getD room g 0) 0 some)
+      ∙ (λ i. set (set room (at i) number) g (next i))
 
-    module _ (many′ : ℕ → ℕ) (one : many′ g ≡ suc (many g)) (others : (h : ℕ) → (h ≡ g → ⊥) → many′ h ≡ many h) where
-      there-here : (k : ℕ) → k < many′ g → getD after (257 + (startOf rows g + k)) 0 ≡ getD (groupOf rows g) k 0
-      there-here k l =
-          ⊎-elim
-          (λ (m : k < many g).
-          elsewhere (257 + (startOf rows g + k)) (λ e. omega arith) (λ e. omega (arith, p .cursor g small)) ∙ p .there g k small m)
-          (λ (m : many g ≤ k).
-          let last : many g ≡ k = omega arith in
-          let at : 257 + (startOf rows g + k) ≡ 257 + getD room (g + 1) 0 = omega (arith, p .cursor g small) in
-          ap (λ (j : ℕ). getD after j 0) at ∙ written ∙ sym next ∙ ap (λ (j : ℕ). getD (groupOf rows g) j 0) last)
-          (lt-or-ge k (many g))
+  module _ (more : many g < length rows) (few : length rows ≤ 1024) (fits : roomFor (length rows) ≤ length room) where
+    pub put-fits : PutFits room (length rows) g
+    put-fits = record { few = few; small = small; fits = fits; free = go (isIn g tops) refl }
+      where
+        go : (b : Bool) → isIn g tops ≡ b → getD room g 0 ≤ length rows
+        go true e = omega (arith, word-here e)
+        go false e = let w : getD room g 0 ≡ 0 = p .words g small ∙ simp e in omega arith
 
-      there-else : (h : ℕ) → (h ≡ g → ⊥) → (k : ℕ) → h < 256 → k < many′ h → getD after (257 + (startOf rows h + k)) 0 ≡ getD (groupOf rows h) k 0
-      there-else h n k s l =
-          let m : k < many h = omega (arith, others h n) in
-          let apart : 257 + (startOf rows h + k) ≡ 257 + getD room (g + 1) 0 → ⊥ =
-          λ e.
-          ⊎-elim (λ (b : h < g). omega (arith, p .cursor g small, start-apart rows h g b, p .most h s))
-          (λ (b : g ≤ h).
-          let c : g < h = ⊎-elim (λ (d : g < h). d) (λ (d : h ≤ g). absurd (n (le-antisymm d b))) (lt-or-ge g h) in
-          omega (arith, p .cursor g small, start-apart rows g h c))
-          (lt-or-ge h g) in
-          elsewhere (257 + (startOf rows h + k)) (λ e. omega arith) apart ∙ p .there h k s m
+    module _ (number : ℕ) (next : getD (groupOf rows g) (many g) 0 ≡ number) where
+      after : List ℕ
+      after = set (set room (257 + g * length rows + many g) number) g (suc (suc (many g)))
 
-      pub put-placed : Placed rows many′ (set (set room (257 + getD room (g + 1) 0) number) (g + 1) (getD room (g + 1) 0 + 1))
+      -- all but the two words that are written
+      elsewhere : (j : ℕ) → (j ≡ g → ⊥) → (j ≡ 257 + g * length rows + many g → ⊥) → getD after j 0 ≡ getD room j 0
       unfolding after
-      put-placed =
-          record {
-            first = elsewhere 0 (λ e. omega arith) (λ e. omega arith) ∙ p .first;
-            most =
-                one-and-others (λ (h : ℕ). h < 256 → many′ h ≤ length (groupOf rows h)) g (λ s. omega (arith, one)) (λ h n s. omega (arith, others h n, p .most h s));
-            cursor =
-                one-and-others (λ (h : ℕ). h < 256 → getD after (h + 1) 0 ≡ startOf rows h + many′ h) g
-                (λ s. moved ∙ omega (arith, p .cursor g small, one))
-                (λ h n s.
-                elsewhere (h + 1) (λ e. n (omega arith)) (λ e. omega arith) ∙ p .cursor h s ∙ ap (λ (m : ℕ). startOf rows h + m) (sym (others h n)));
-            there =
-                λ h k s l.
-                one-and-others (λ (h : ℕ). (k : ℕ) → h < 256 → k < many′ h → getD after (257 + (startOf rows h + k)) 0 ≡ getD (groupOf rows h) k 0) g
-                (λ k s l. there-here k l)
-                (λ h n k s l. there-else h n k s l) h k s l;
-          }
+      elsewhere j a b =
+          getD-set-other (set room (257 + g * length rows + many g) number) g j (suc (suc (many g))) 0 a
+          ∙ getD-set-other room (257 + g * length rows + many g) j number 0 b
+
+      written : getD after (257 + g * length rows + many g) 0 ≡ number
+      unfolding after
+      written =
+          getD-set-other (set room (257 + g * length rows + many g) number) g (257 + g * length rows + many g) (suc (suc (many g))) 0 (λ e. omega arith)
+          ∙ getD-set-same room (257 + g * length rows + many g) number 0 (omega (arith, block-end (length rows) g 256 small))
+
+      moved : getD after g 0 ≡ suc (suc (many g))
+      unfolding after
+      moved =
+          getD-set-same (set room (257 + g * length rows + many g) number) g (suc (suc (many g))) 0
+          (omega (arith, length-set room (257 + g * length rows + many g) number))
+
+      module _ (many′ : ℕ → ℕ) (one : many′ g ≡ suc (many g)) (others : (h : ℕ) → (h ≡ g → ⊥) → many′ h ≡ many h) (most : (h : ℕ) → many h ≤ length rows) where
+        there-here : (k : ℕ) → isIn g tops ≡ true → k < many′ g → getD after (257 + g * length rows + k) 0 ≡ getD (groupOf rows g) k 0
+        there-here k e l =
+            ⊎-elim
+            (λ (m : k < many g). elsewhere (257 + g * length rows + k) (λ z. omega arith) (λ z. omega arith) ∙ p .there g k small e m)
+            (λ (m : many g ≤ k).
+            let last : many g ≡ k = omega (arith, one) in
+            ap (λ (j : ℕ). getD after (257 + g * length rows + j) 0) (sym last) ∙ written ∙ sym next ∙ ap (λ (j : ℕ). getD (groupOf rows g) j 0) last)
+            (lt-or-ge k (many g))
+
+        there-else : (h : ℕ) → (h ≡ g → ⊥) → (k : ℕ) → h < 256 → isIn h tops ≡ true → k < many′ h → getD after (257 + h * length rows + k) 0 ≡ getD (groupOf rows h) k 0
+        there-else h n k s e l =
+            let m : k < many h = omega (arith, others h n) in
+            elsewhere (257 + h * length rows + k) (λ z. omega arith)
+            (λ z. block-apart (length rows) g h k (many g) n (omega (arith, most h)) more (omega arith))
+            ∙ p .there h k s e m
+
+        placed-listed : isIn g tops ≡ true → Placed tops rows many′ after
+        placed-listed e =
+            record {
+              words =
+                  one-and-others (λ (h : ℕ). h < 256 → getD after h 0 ≡ cond (isIn h tops) (suc (many′ h)) 0) g
+                  (λ s. moved ∙ ap suc (sym one) ∙ simp e)
+                  (λ h n s.
+                  elsewhere h n (λ z. omega arith) ∙ p .words h s ∙ ap (λ (m : ℕ). cond (isIn h tops) (suc m) 0) (sym (others h n)));
+              there =
+                  λ h k s d l.
+                  one-and-others (λ (h : ℕ). (k : ℕ) → h < 256 → isIn h tops ≡ true → k < many′ h → getD after (257 + h * length rows + k) 0 ≡ getD (groupOf rows h) k 0) g
+                  (λ k s d l. there-here k d l)
+                  (λ h n k s d l. there-else h n k s d l) h k s d l;
+            }
+
+        kept-listed : isIn g tops ≡ true → Kept tops (length rows) many′ room after
+        kept-listed e = record { same = λ j h u. elsewhere j (λ z. omega arith) (λ z. u g (many g) small e (omega (arith, one)) z) }
+
+        apart : true ≡ false → ⊥
+        apart e = let z : _≡_ {A = ℕ} 0 1 = cc in omega arith
+
+        pub put-placed : Placed tops rows many′ (afterPut room (length rows) g number) × Kept tops (length rows) many′ room (afterPut room (length rows) g number)
+        unfolding after
+        put-placed = go (isIn g tops) refl
+          where
+            go : (b : Bool) → isIn g tops ≡ b → Placed tops rows many′ (afterPut room (length rows) g number) × Kept tops (length rows) many′ room (afterPut room (length rows) g number)
+            go true e =
+                subst (λ (r : List ℕ). Placed tops rows many′ r × Kept tops (length rows) many′ room r) (sym (listed number e)) (placed-listed e, kept-listed e)
+            go false e =
+                subst (λ (r : List ℕ). Placed tops rows many′ r × Kept tops (length rows) many′ room r) (sym (unlisted number e))
+                (said-so tops rows many many′ room (λ h s d. others h (λ z. apart (sym d ∙ ap (λ (k : ℕ). isIn k tops) z ∙ e))) p, kept-none tops (length rows) many′ room)

@@ -1,5 +1,7 @@
+pub mod Asking
+pub mod Building
+pub mod Grouping
 pub mod Groups
 pub mod Pays
-pub mod Placing
 pub mod Promises
 pub mod Room

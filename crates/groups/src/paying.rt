@@ -1,52 +1,62 @@
 // Whether groups pay.
 use super::top::fixes_top;
+use super::top::top_of;
 ghost use mathlib.Core.Path.{_≡_};
 ghost use mathlib.Core.Bool.{cond};
-ghost use lib.ListN.{length, getD};
-ghost use Prim.Native.Nat.{_+_, _*_, _<_};
+ghost use lib.ListN.{length, getD, take};
+ghost use Prim.Native.Nat.{_*_, _+_, _/_, _≤_, _<_};
 ghost use Rattle.tables.specs.Rows.{rowsOf, blankEntry};
-ghost use Rattle.groups.specs.Groups.{fixesTop};
-ghost use Rattle.groups.specs.Pays.{unfixed, pays};
+ghost use Rattle.groups.specs.Pays.{worth, isTaken, taken, pays};
 
-// The rows that fix no top byte are counted only where it would pay without them.
-pub fn pays(packets: usize, rows: &[u32]) -> bool
-    ensures { λ r. ⌜ r ≡ pays packets (rowsOf (now (rows .entry))) ⌝ }
+// For so many packets and rows, before a row is looked at. It divides in the place of a product, because the packets may be any number.
+pub fn worth(packets: usize, rows: usize) -> bool
+    ensures { λ r. ⌜ r ≡ worth packets rows ⌝ }
 {
-    let n = rows.len() / 3;
-    if n < 64 {
+    if rows < 64 {
         return false;
     }
-    if n > 1024 {
+    if rows > 1024 {
         return false;
     }
-    let steps = n * 15 + 1400;
-    if packets <= steps / n {
-        return false;
-    }
-    let all = count_unfixed(rows);
-    if n <= all * 3 {
-        return false;
-    }
-    (steps + all * 1400) / (n - all * 3) < packets
+    (rows * 6 + 1600) / (rows - 40) < packets
 }
 
-// How many rows fix no top byte.
-fn count_unfixed(rows: &[u32]) -> usize
-    ensures { λ r. ⌜ r ≡ unfixed (rowsOf (now (rows .entry))) ⌝ }
+// With the marks of the groups that are asked for in the first words of the room.
+pub fn pays(packets: usize, rows: &[u32], room: &[u32]) -> bool
+    requires { ⌜ (length (now rows) / 3 ≤ 1024) × (256 ≤ length (now room)) ⌝ }
+    ensures { λ r. ⌜ r ≡ pays packets (take 256 (now (room .entry))) (rowsOf (now (rows .entry))) ⌝ }
 {
     let n = rows.len() / 3;
-    let mut all = 0;
-    let mut i = 0;
-    while i < n {
-        all += one_if_free(rows, i);
-        i += 1;
+    let many = sampled(rows, room);
+    let less = many * 40 + 40;
+    if n <= less {
+        return false;
     }
-    all
+    (n * 6 + many * 104 + 1600) / (n - less) < packets
 }
 
-fn one_if_free(rows: &[u32], i: usize) -> usize
-    requires { ⌜ i * 3 + 2 < length (now rows) ⌝ }
-    ensures { λ r. ⌜ r ≡ cond (fixesTop (getD (rowsOf (now (rows .entry))) i blankEntry)) 0 1 ⌝ }
+// How many of every thirteenth row go into a group.
+fn sampled(rows: &[u32], room: &[u32]) -> usize
+    requires { ⌜ (length (now rows) / 3 ≤ 1024) × (256 ≤ length (now room)) ⌝ }
+    ensures { λ r. ⌜ r ≡ taken (take 256 (now (room .entry))) (rowsOf (now (rows .entry))) ⌝ }
 {
-    if fixes_top(rows, i) { 0 } else { 1 }
+    let all = rows.len() / 3 / 13;
+    let mut many = 0;
+    let mut k = 0;
+    while k < all {
+        many += one_if_taken(rows, k * 13, room);
+        k += 1;
+    }
+    many
+}
+
+fn one_if_taken(rows: &[u32], i: usize, room: &[u32]) -> usize
+    requires { ⌜ (i * 3 + 2 < length (now rows)) × (256 ≤ length (now room)) ⌝ }
+    ensures { λ r. ⌜ r ≡ cond (isTaken (take 256 (now (room .entry))) (getD (rowsOf (now (rows .entry))) i blankEntry)) 1 0 ⌝ }
+{
+    if fixes_top(rows, i) {
+        if room[top_of(rows[i * 3])] == 0 { 0 } else { 1 }
+    } else {
+        1
+    }
 }

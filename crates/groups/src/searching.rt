@@ -1,29 +1,28 @@
 // The search through the group of a key's top byte.
-use super::building::NUMBERS;
 use super::top::top_of;
 use super::top::wide;
-use tables::Matched;
 use tables::search::matches_at;
-use tables::search::route_at;
 ghost use mathlib.Core.Path.{_≡_};
-ghost use lib.ListN.{length, take};
-ghost use Rattle.tables.specs.Rows.{rowsOf, routeFor};
-ghost use Rattle.groups.specs.Groups.{groupsOf};
+ghost use lib.ListN.{length};
+ghost use Prim.Native.Nat.{_/_, _≤_, _<_};
+ghost use Rattle.tables.specs.Rows.{rowsOf, firstMatch, foundAt};
+ghost use Rattle.groups.specs.Groups.{topOf, GroupedFor};
 
-// The route of the first row that matches the key, of those in its group: what the plain search gives.
-pub fn grouped_route(rows: &[u32], room: &[u32], key: u32) -> Matched
-    requires { ⌜ take (length (groupsOf (rowsOf (now rows)))) (now room) ≡ groupsOf (rowsOf (now rows)) ⌝ }
-    ensures { λ r. ⌜ r ≡ routeFor key (rowsOf (now (rows .entry))) ⌝ }
+// The number of the first row that matches the key, of those in its group, or the number of rows: what the plain search gives.
+pub fn grouped_row(rows: &[u32], room: &[u32], key: u32) -> usize
+    requires { ⌜ (length (now rows) / 3 ≤ 1024) × (topOf key < 256 → GroupedFor (rowsOf (now rows)) (now room) key) ⌝ }
+    ensures { λ r. ⌜ (foundAt (length (now (rows .entry)) / 3) r ≡ firstMatch key (rowsOf (now (rows .entry)))) × (r ≤ length (now (rows .entry)) / 3) ⌝ }
 {
+    let n = rows.len() / 3;
     let g = top_of(key);
-    let mut k = wide(room[g]);
-    let end = wide(room[g + 1]);
+    let end = 256 + g * n + wide(room[g]);
+    let mut k = 257 + g * n;
     while k < end {
-        let n = wide(room[NUMBERS + k]);
-        if matches_at(rows, n, key) {
-            return Matched::Route(route_at(rows, n));
+        let i = wide(room[k]);
+        if matches_at(rows, i, key) {
+            return i;
         }
         k += 1;
     }
-    Matched::Missed
+    n
 }

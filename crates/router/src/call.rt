@@ -75,7 +75,7 @@ fn outcome_unless(
         let errors = errors_of(p, source, t.phase);
         let stamped = stamped_of(p, source, errors, t.phase);
         let goes = by_rows(errors, p.control);
-        let found = looked_up(goes, p.word, rows, &rows[..0]);
+        let found = looked_up(goes, p.word, rows);
         let wanted = wanted_given(errors, p, source, found, codes, fixed, t);
         decide(errors, stamped, source, t.phase, wanted, t.ready)
     } else {

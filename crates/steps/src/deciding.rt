@@ -19,13 +19,11 @@ use packet::control::mark_of;
 use packet::parity::with_mark;
 ghost use mathlib.Core.Path.{_≡_};
 ghost use Prim.Native.Nat.{_<_};
-ghost use Rattle.tables.specs.Rows.{rowsOf};
 ghost use Rattle.tables.specs.Tables.{chipTables};
-ghost use Rattle.groups.specs.Groups.{Grouped};
 ghost use Rattle.steps.specs.Links.{has};
 ghost use Rattle.steps.specs.Deciding.{hasLeg, legSet, decided, noOutcome, outcomeOf, markOn, packetOn, legPacket, Checked};
 
-// The pass itself, for inputs that have been checked. The room is empty, or holds the groups of the rows.
+// The pass itself, for inputs that have been checked.
 pub fn outcome_of(
     p: Packet,
     source: u32,
@@ -33,15 +31,14 @@ pub fn outcome_of(
     codes: &[u8],
     fixed: u32,
     t: Setting,
-    room: &[u32],
 ) -> Outcome
-    requires { ⌜ Checked p source (chipTables (now rows) (now codes) fixed) t × Grouped (rowsOf (now rows)) (now room) ⌝ }
+    requires { ⌜ Checked p source (chipTables (now rows) (now codes) fixed) t ⌝ }
     ensures { λ r. ⌜ r ≡ outcomeOf p source (chipTables (now (rows .entry)) (now (codes .entry)) fixed) t ⌝ }
 {
     let errors = errors_of(p, source, t.phase);
     let stamped = stamped_of(p, source, errors, t.phase);
     let goes = by_rows(errors, p.control);
-    let found = looked_up(goes, p.word, rows, room);
+    let found = looked_up(goes, p.word, rows);
     let wanted = wanted_given(errors, p, source, found, codes, fixed, t);
     decide(errors, stamped, source, t.phase, wanted, t.ready)
 }

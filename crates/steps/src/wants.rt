@@ -1,7 +1,6 @@
 // The wanted set of a packet: by type, then by mark and NN route.
 use super::Setting;
 use super::Wanted;
-use groups::searching::grouped_route;
 use packet::Packet;
 use packet::control::is_mc;
 use packet::control::kind_of;
@@ -17,7 +16,6 @@ ghost use Rattle.steps.specs.Links.{monitorBit};
 ghost use mathlib.Core.Bool.{cond};
 ghost use Rattle.tables.specs.declared.Matched.the-variants.{Missed};
 ghost use Rattle.tables.specs.Rows.{rowsOf, routeFor};
-ghost use Rattle.groups.specs.Groups.{Grouped};
 ghost use Rattle.steps.specs.Wants.{wants, missWanted, matchWanted, markWanted, numberWanted, p2pWanted, nnWanted, fixedWanted, wantedGiven, byRows};
 
 // Whether a packet goes by the rows.
@@ -29,17 +27,11 @@ pub fn by_rows(errors: u32, control: u32) -> bool
 
 // What the rows say to a key, where it is to be looked up. It is a step of its own, and small, so that the compiler puts it in
 // place in both passes, the one-router call's and the mesh's, and keeps their numbers out of memory.
-// The plain search where no room is lent, else the one through the groups that it holds.
-pub fn looked_up(goes: bool, key: u32, rows: &[u32], room: &[u32]) -> Matched
-    requires { ⌜ Grouped (rowsOf (now rows)) (now room) ⌝ }
+pub fn looked_up(goes: bool, key: u32, rows: &[u32]) -> Matched
     ensures { λ r. ⌜ r ≡ cond goes (routeFor key (rowsOf (now (rows .entry)))) Missed ⌝ }
 {
     if goes {
-        if room.len() == 0 {
-            route_for(rows, key)
-        } else {
-            grouped_route(rows, room, key)
-        }
+        route_for(rows, key)
     } else {
         Matched::Missed
     }

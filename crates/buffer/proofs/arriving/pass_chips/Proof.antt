@@ -5,8 +5,9 @@ use native.Mathlib.Numerals.{add-one}
 use Prim.Native.Nat.{ℕ, _+_, _-_, _≤_, _<_}
 use native.Mathlib.Nat.{lt-of-lt-of-le}
 use lib.ListN.{length, getD}
-use Rattle.mesh.specs.Steps.{tablesOf}
-use Rattle.mesh.specs.Room.{roomUpto}
+use Rattle.mesh.specs.Calls.{Lent}
+use Rattle.mesh.specs.Steps.{tablesOf, passAt, same}
+use Rattle.mesh.specs.Room.{keysOf, roomUpto}
 use Rattle.lists.specs.Lists.{upTo}
 use Rattle.buffer.specs.PassesInTurn.{asideFrom, Passed}
 use Rattle.buffer.specs.Grouping.{RoomFits}
@@ -18,8 +19,8 @@ use Rattle.buffer.proofs.arriving.pass_chips.Tie as tie
 abbrev Inv-loop : tie.InvT-loop
 Inv-loop mesh₀ log₀ count rows starts codes fixed room₀ n₀ chip₀ mesh log room n chip =
     (chip ≤ count)
-    × (Passed (tablesOf rows starts codes fixed 0) (upTo (asideFrom mesh₀) chip) mesh₀ log₀ 0 mesh log n
-    × ((length room ≡ length room₀) × (room ≡ roomUpto (tablesOf rows starts codes fixed (length room₀)) (λ chip. length (asideFrom mesh₀ chip)) chip room₀)))
+    × (Passed (passAt (tablesOf rows starts codes fixed 0) same) (upTo (asideFrom mesh₀) chip) mesh₀ log₀ 0 mesh log n
+    × ((length room ≡ length room₀) × (room ≡ roomUpto (tablesOf rows starts codes fixed (length room₀)) (λ chip. keysOf (asideFrom mesh₀ chip)) chip room₀)))
 
 abbrev μ-loop : tie.MeasureT-loop
 μ-loop mesh₀ log₀ count rows starts codes fixed room₀ n₀ chip₀ mesh log room n chip = count - chip
@@ -27,7 +28,7 @@ abbrev μ-loop : tie.MeasureT-loop
 loop-holds : tie.Need-loop-holds Inv-loop μ-loop
 loop-holds c =
     let a = c .before .before .before .before .before .before .before .args in
-    (omega arith, (arrivals.passed-begin _ _ _ _ _, (refl, room-none (a .rows .now) (a .starts .now) (a .codes .now) (a .fixed .now) (length (a .room .now)) (λ chip. length (asideFrom (a .mesh .now) chip)) (a .room .now))))
+    (omega arith, (arrivals.passed-begin _ _ _ _ _, (refl, room-none (a .rows .now) (a .starts .now) (a .codes .now) (a .fixed .now) (length (a .room .now)) (λ chip. keysOf (asideFrom (a .mesh .now) chip)) (a .room .now))))
 
 pass-chip-requires : tie.Need-pass-chip-requires Inv-loop μ-loop
 pass-chip-requires c κs =
@@ -35,7 +36,7 @@ pass-chip-requires c κs =
     let a = c .before .before .before .before .before .before .before .before .before .before .before .before .args in
     let hi : at .chip < a .count = c .before .before .before .loop-test .taken in
     let pre = c .before .before .before .before .before .before .before .before .before .before .before .before .pre in (
-      (subst (λ (k : ℕ). at .chip < k) (sym (arrivals.chips-same _ _ _ _ _ _ _ _ (at .inv .1 .0))) (lt-of-lt-of-le hi (pre .0)), arrivals.chips-due _ _ _ _ _ _ _ (at .chip) (a .count) hi (pre .1 .0) (at .inv .1 .0)),
+      (subst (λ (k : ℕ). at .chip < k) (sym (arrivals.chips-same _ _ _ _ _ _ _ _ (at .inv .1 .0))) (lt-of-lt-of-le hi (pre .0)), (arrivals.chips-due _ _ _ _ _ _ _ (at .chip) (a .count) hi (pre .1 .0 .0) (at .inv .1 .0), subst (Lent (tablesOf (a .rows .now) (a .starts .now) (a .codes .now) (a .fixed .now) 0)) (sym (arrivals.chips-same _ _ _ _ _ _ _ _ (at .inv .1 .0))) (pre .1 .0 .1))),
       subst (λ (k : ℕ). RoomFits k (getD (a .starts .now) (at .chip + 1) 0 - getD (a .starts .now) (at .chip) 0)) (sym (at .inv .1 .1 .0)) (fits-each (a .starts .now) (a .count) (at .chip) (length (a .room .now)) hi (pre .1 .1)),
     )
 
@@ -52,13 +53,13 @@ loop-again c =
     let hi : at .chip < a .count = c .before .before .before .before .before .before .before .before .before .before .loop-test .taken in
     let pre = c .before .before .before .before .before .before .before .before .before .before .before .before .before .before .before .before .before .before .before .pre in
     let passed = c .before .before .before .before .before .before .pass-chip in
-    let same = ap length (arrivals.at-same _ _ _ _ _ _ _ (at .chip) (a .count) hi (pre .1 .0) (at .inv .1 .0)) in (
+    let alike = ap keysOf (arrivals.at-same _ _ _ _ _ _ _ (at .chip) (a .count) hi (pre .1 .0 .0) (at .inv .1 .0)) in (
       omega arith,
       (
-        rw add-one (arrivals.chips-step _ _ _ _ _ _ _ (at .chip) (a .count) hi (pre .1 .0) (at .inv .1 .0) _ _ _ (passed .ensures .0)),
+        rw add-one (arrivals.chips-step _ _ _ _ _ _ _ (at .chip) (a .count) hi (pre .1 .0 .0) (at .inv .1 .0) _ _ _ (passed .ensures .0)),
         (
           passed .kept .1 .1 .1 .1 .1 .1 .1 .1 .0 ∙ at .inv .1 .1 .0,
-          rw add-one (passed .ensures .1 ∙ room-next (a .rows .now) (a .starts .now) (a .codes .now) (a .fixed .now) (length (a .room .now)) (λ chip. length (asideFrom (a .mesh .now) chip)) (at .chip) _ (a .room .now) (at .room) same (at .inv .1 .1 .1)),
+          rw add-one (passed .ensures .1 ∙ room-next (a .rows .now) (a .starts .now) (a .codes .now) (a .fixed .now) (length (a .room .now)) (λ chip. keysOf (asideFrom (a .mesh .now) chip)) (at .chip) _ (a .room .now) (at .room) alike (at .inv .1 .1 .1)),
         ),
       ),
     )

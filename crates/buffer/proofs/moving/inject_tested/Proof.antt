@@ -4,8 +4,8 @@ use lib.ListN.{length}
 use Rattle.mesh.specs.Steps.{tablesOf}
 use Rattle.buffer.specs.declared.testing.Tested.{Tested}
 use Rattle.buffer.proofs.Refusals.{inject-number, inject-place}
-use Rattle.buffer.proofs.GroupsBuilt.{due-room, passed-room}
-use Rattle.buffer.proofs.InjectCall.{inject-refused, taken-packet, inject-due, inject-leaves}
+use Rattle.buffer.proofs.Goings.{lent-room}
+use Rattle.buffer.proofs.InjectCall.{inject-refused, inject-lent, taken-packet, inject-due, inject-leaves}
 use Rattle.buffer.proofs.moving.inject_tested.Statement.{statement}
 use Rattle.buffer.proofs.moving.inject_tested.Tie as tie
 
@@ -27,15 +27,13 @@ returns c =
 take-requires : tie.Need-take-requires
 take-requires c κs = search needs
 
-slice-aggregate-pass-one : tie.Need-slice-aggregate-pass-one
-slice-aggregate-pass-one c = search needs
-
-pass-one-requires : tie.Need-pass-one-requires
-pass-one-requires c κs =
-    let s = c .before .before .before .before .before .before .before .before .before .before .before .before .before .before .before in
+pass-there-requires : tie.Need-pass-there-requires
+pass-there-requires c κs =
+    let s = c .before .before .before .before .before .before .before .before .before .before .before .before .before .before in
     let t = tablesOf (s .args .rows .now) (s .args .starts .now) (s .args .codes .now) (s .args .fixed .now) (s .args .room) in
-    let whole = taken-packet t (s .args .mesh .now) (s .args .log .now) (s .args .chip) (s .args .bytes .now) (sym (c .before .before .before .before .before .before .inject-refusal .ensures ∙ inject-number (s .args .mesh .now) t (s .args .tested) (s .pre) (s .args .chip) (length (s .args .log .now)) (s .args .bytes .now)) ∙ c .before .before .before .before .before .if1 .left) (c .before .before .before .before .take .result) (c .before .before .before .before .take .ensures) in
-    (due-room (s .args .rows .now) (s .args .starts .now) (s .args .codes .now) (s .args .fixed .now) (s .args .room) 0 _ _ _ _ (rw whole (inject-due t (s .args .mesh .now) (s .args .log .now) (s .args .chip) (s .args .bytes .now) (sym (c .before .before .before .before .before .before .inject-refusal .ensures ∙ inject-number (s .args .mesh .now) t (s .args .tested) (s .pre) (s .args .chip) (length (s .args .log .now)) (s .args .bytes .now)) ∙ c .before .before .before .before .before .if1 .left))), λ some. absurd (some refl))
+    let none = (sym (c .before .before .before .before .before .inject-refusal .ensures ∙ inject-number (s .args .mesh .now) t (s .args .tested) (s .pre) (s .args .chip) (length (s .args .log .now)) (s .args .bytes .now)) ∙ c .before .before .before .before .if1 .left) in
+    let whole = taken-packet t (s .args .mesh .now) (s .args .log .now) (s .args .chip) (s .args .bytes .now) none (c .before .before .before .take .result) (c .before .before .before .take .ensures) in
+    (rw whole (inject-due t (s .args .mesh .now) (s .args .log .now) (s .args .chip) (s .args .bytes .now) none), lent-room (s .args .rows .now) (s .args .starts .now) (s .args .codes .now) (s .args .fixed .now) (s .args .room) 0 _ (inject-lent t (s .args .mesh .now) (s .args .log .now) (s .args .chip) (s .args .bytes .now) none .0))
 
 cast-added : tie.Need-cast-added
 cast-added c = search needs
@@ -48,10 +46,11 @@ same-length-3 c = search needs
 
 returns-2 : tie.Need-returns-2
 returns-2 c =
-    let s = c .before .before .before .before .before .before .before .before .before .before .before .before .before .before .before .before .before .before .before .before in
+    let s = c .before .before .before .before .before .before .before .before .before .before .before .before .before .before .before .before .before .before .before in
     let t = tablesOf (s .args .rows .now) (s .args .starts .now) (s .args .codes .now) (s .args .fixed .now) (s .args .room) in
-    let whole = taken-packet t (s .args .mesh .now) (s .args .log .now) (s .args .chip) (s .args .bytes .now) (sym (c .before .before .before .before .before .before .before .before .before .before .before .inject-refusal .ensures ∙ inject-number (s .args .mesh .now) t (s .args .tested) (s .pre) (s .args .chip) (length (s .args .log .now)) (s .args .bytes .now)) ∙ c .before .before .before .before .before .before .before .before .before .before .if1 .left) (c .before .before .before .before .before .before .before .before .before .take .result) (c .before .before .before .before .before .before .before .before .before .take .ensures) in
-    inject-leaves t (s .args .mesh .now) (s .args .log .now) (s .args .chip) (s .args .bytes .now) (sym (c .before .before .before .before .before .before .before .before .before .before .before .inject-refusal .ensures ∙ inject-number (s .args .mesh .now) t (s .args .tested) (s .pre) (s .args .chip) (length (s .args .log .now)) (s .args .bytes .now)) ∙ c .before .before .before .before .before .before .before .before .before .before .if1 .left) _ _ _ (passed-room (s .args .rows .now) (s .args .starts .now) (s .args .codes .now) (s .args .fixed .now) 0 (s .args .room) _ _ _ _ _ _ _ (rw whole at (c .before .before .before .before .pass-one .ensures)))
+    let none = (sym (c .before .before .before .before .before .before .before .before .before .before .inject-refusal .ensures ∙ inject-number (s .args .mesh .now) t (s .args .tested) (s .pre) (s .args .chip) (length (s .args .log .now)) (s .args .bytes .now)) ∙ c .before .before .before .before .before .before .before .before .before .if1 .left) in
+    let whole = taken-packet t (s .args .mesh .now) (s .args .log .now) (s .args .chip) (s .args .bytes .now) none (c .before .before .before .before .before .before .before .before .take .result) (c .before .before .before .before .before .before .before .before .take .ensures) in
+    inject-leaves t (s .args .mesh .now) (s .args .log .now) (s .args .chip) (s .args .bytes .now) none _ _ _ (rw whole at (c .before .before .before .before .pass-there .ensures))
 
 pub inject-tested-spec : {M : Type 1} → statement M
 inject-tested-spec =
@@ -62,8 +61,7 @@ inject-tested-spec =
     same-length
     returns
     take-requires
-    slice-aggregate-pass-one
-    pass-one-requires
+    pass-there-requires
     cast-added
     same-length-2
     same-length-3

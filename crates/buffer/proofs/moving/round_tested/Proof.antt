@@ -7,8 +7,8 @@ use Rattle.buffer.specs.declared.testing.Tested.{Tested}
 use Rattle.buffer.proofs.Refusals.{round-number, round-place}
 use Rattle.buffer.proofs.HoldsMesh.{holds-size, words-enough, few-held}
 use Rattle.buffer.proofs.Headers.{chips-kept}
-use Rattle.buffer.proofs.GroupsBuilt.{aside-room, passed-room}
-use Rattle.buffer.proofs.RoundCall.{round-room-refused, round-fits, round-room, round-holds, round-refused, round-due, over-requires, count-small, round-leaves}
+use Rattle.buffer.proofs.Goings.{lent-room}
+use Rattle.buffer.proofs.RoundCall.{round-room-refused, round-fits, round-room, round-holds, round-lent, round-refused, round-due, over-requires, count-small, round-leaves}
 use Rattle.buffer.proofs.moving.round_tested.Statement.{statement}
 use Rattle.buffer.proofs.moving.round_tested.Tie as tie
 
@@ -57,19 +57,19 @@ pass-chips-requires c κs =
     let t = tablesOf (s .args .rows .now) (s .args .starts .now) (s .args .codes .now) (s .args .fixed .now) (length (s .args .room .now)) in
     let a = s .args in
     let u = rw (c .before .before .before .before .before .before .before .chips .ensures) at (c .before .before .before .before .before .set-aside .ensures) in
-    rw (c .before .before .before .before .before .before .before .chips .ensures) (chips-kept (a .mesh .now) (c .before .before .before .before .before .set-aside .last .0) (u .head), (aside-room (s .args .rows .now) (s .args .starts .now) (s .args .codes .now) (s .args .fixed .now) (length (s .args .room .now)) 0 _ _ _ _ (round-due t (s .args .mesh .now) (s .args .log .now) (sym (c .before .before .before .before .before .before .before .before .before .before .before .round-refusal .ensures ∙ round-number (s .args .mesh .now) t (s .args .tested) (s .pre) (length (s .args .log .now))) ∙ c .before .before .before .before .before .before .before .before .before .before .if1 .left) _ u), round-fits t (s .args .mesh .now) (s .args .log .now) (sym (c .before .before .before .before .before .before .before .before .before .before .before .round-refusal .ensures ∙ round-number (s .args .mesh .now) t (s .args .tested) (s .pre) (length (s .args .log .now))) ∙ c .before .before .before .before .before .before .before .before .before .before .if1 .left) _ u))
+    rw (c .before .before .before .before .before .before .before .chips .ensures) (chips-kept (a .mesh .now) (c .before .before .before .before .before .set-aside .last .0) (u .head), ((round-due t (s .args .mesh .now) (s .args .log .now) (sym (c .before .before .before .before .before .before .before .before .before .before .before .round-refusal .ensures ∙ round-number (s .args .mesh .now) t (s .args .tested) (s .pre) (length (s .args .log .now))) ∙ c .before .before .before .before .before .before .before .before .before .before .if1 .left) _ u, lent-room (a .rows .now) (a .starts .now) (a .codes .now) (a .fixed .now) (length (a .room .now)) 0 _ (round-lent t (s .args .mesh .now) (s .args .log .now) (sym (c .before .before .before .before .before .before .before .before .before .before .before .round-refusal .ensures ∙ round-number (s .args .mesh .now) t (s .args .tested) (s .pre) (length (s .args .log .now))) ∙ c .before .before .before .before .before .before .before .before .before .before .if1 .left) _ u)), round-fits t (s .args .mesh .now) (s .args .log .now) (sym (c .before .before .before .before .before .before .before .before .before .before .before .round-refusal .ensures ∙ round-number (s .args .mesh .now) t (s .args .tested) (s .pre) (length (s .args .log .now))) ∙ c .before .before .before .before .before .before .before .before .before .before .if1 .left) _ u))
 
 round-over-requires : tie.Need-round-over-requires
 round-over-requires c κs =
     let s = c .before .before .before .before .before .before .before .before .before .before .before .before .before .before .before .before .before .before .before .before .before .before .before .before .before .before .before .before in
     let t = tablesOf (s .args .rows .now) (s .args .starts .now) (s .args .codes .now) (s .args .fixed .now) (length (s .args .room .now)) in
-    over-requires t (s .args .mesh .now) (s .args .log .now) (sym (c .before .before .before .before .before .before .before .before .before .before .before .before .before .before .before .before .before .before .before .round-refusal .ensures ∙ round-number (s .args .mesh .now) t (s .args .tested) (s .pre) (length (s .args .log .now))) ∙ c .before .before .before .before .before .before .before .before .before .before .before .before .before .before .before .before .before .before .if1 .left) _ (rw (c .before .before .before .before .before .before .before .before .before .before .before .before .before .before .before .chips .ensures) at (c .before .before .before .before .before .before .before .before .before .before .before .before .before .set-aside .ensures)) _ _ _ (passed-room (s .args .rows .now) (s .args .starts .now) (s .args .codes .now) (s .args .fixed .now) 0 (length (s .args .room .now)) _ _ _ _ _ _ _ (rw (c .before .before .before .before .before .before .before .before .before .before .before .before .before .before .before .chips .ensures) at (c .before .before .before .before .before .before .before .pass-chips .ensures .0)))
+    over-requires t (s .args .mesh .now) (s .args .log .now) (sym (c .before .before .before .before .before .before .before .before .before .before .before .before .before .before .before .before .before .before .before .round-refusal .ensures ∙ round-number (s .args .mesh .now) t (s .args .tested) (s .pre) (length (s .args .log .now))) ∙ c .before .before .before .before .before .before .before .before .before .before .before .before .before .before .before .before .before .before .if1 .left) _ (rw (c .before .before .before .before .before .before .before .before .before .before .before .before .before .before .before .chips .ensures) at (c .before .before .before .before .before .before .before .before .before .before .before .before .before .set-aside .ensures)) _ _ _ (rw (c .before .before .before .before .before .before .before .before .before .before .before .before .before .before .before .chips .ensures) at (c .before .before .before .before .before .before .before .pass-chips .ensures .0))
 
 cast-added : tie.Need-cast-added
 cast-added c =
     let s = c .before .before .before .before .before .before .before .before .before .before .before .before .before .before .before .before .before .before .before .before .before .before .before .before .before .before .before .before .before .before .before in
     let t = tablesOf (s .args .rows .now) (s .args .starts .now) (s .args .codes .now) (s .args .fixed .now) (length (s .args .room .now)) in
-    omega (arith, count-small t (s .args .mesh .now) (s .args .log .now) (sym (c .before .before .before .before .before .before .before .before .before .before .before .before .before .before .before .before .before .before .before .before .before .before .round-refusal .ensures ∙ round-number (s .args .mesh .now) t (s .args .tested) (s .pre) (length (s .args .log .now))) ∙ c .before .before .before .before .before .before .before .before .before .before .before .before .before .before .before .before .before .before .before .before .before .if1 .left) _ (rw (c .before .before .before .before .before .before .before .before .before .before .before .before .before .before .before .before .before .before .chips .ensures) at (c .before .before .before .before .before .before .before .before .before .before .before .before .before .before .before .before .set-aside .ensures)) _ _ _ (passed-room (s .args .rows .now) (s .args .starts .now) (s .args .codes .now) (s .args .fixed .now) 0 (length (s .args .room .now)) _ _ _ _ _ _ _ (rw (c .before .before .before .before .before .before .before .before .before .before .before .before .before .before .before .before .before .before .chips .ensures) at (c .before .before .before .before .before .before .before .before .before .before .pass-chips .ensures .0))))
+    omega (arith, count-small t (s .args .mesh .now) (s .args .log .now) (sym (c .before .before .before .before .before .before .before .before .before .before .before .before .before .before .before .before .before .before .before .before .before .before .round-refusal .ensures ∙ round-number (s .args .mesh .now) t (s .args .tested) (s .pre) (length (s .args .log .now))) ∙ c .before .before .before .before .before .before .before .before .before .before .before .before .before .before .before .before .before .before .before .before .before .if1 .left) _ (rw (c .before .before .before .before .before .before .before .before .before .before .before .before .before .before .before .before .before .before .chips .ensures) at (c .before .before .before .before .before .before .before .before .before .before .before .before .before .before .before .before .set-aside .ensures)) _ _ _ (rw (c .before .before .before .before .before .before .before .before .before .before .before .before .before .before .before .before .before .before .chips .ensures) at (c .before .before .before .before .before .before .before .before .before .before .pass-chips .ensures .0)))
 
 same-length-2 : tie.Need-same-length-2
 same-length-2 c = search needs
@@ -84,7 +84,7 @@ returns-2 : tie.Need-returns-2
 returns-2 c =
     let s = c .before .before .before .before .before .before .before .before .before .before .before .before .before .before .before .before .before .before .before .before .before .before .before .before .before .before .before .before .before .before .before in
     let t = tablesOf (s .args .rows .now) (s .args .starts .now) (s .args .codes .now) (s .args .fixed .now) (length (s .args .room .now)) in
-    (rw (c .before .before .round-over .ensures) (round-leaves t (s .args .mesh .now) (s .args .log .now) (sym (c .before .before .before .before .before .before .before .before .before .before .before .before .before .before .before .before .before .before .before .before .before .before .round-refusal .ensures ∙ round-number (s .args .mesh .now) t (s .args .tested) (s .pre) (length (s .args .log .now))) ∙ c .before .before .before .before .before .before .before .before .before .before .before .before .before .before .before .before .before .before .before .before .before .if1 .left) _ (rw (c .before .before .before .before .before .before .before .before .before .before .before .before .before .before .before .before .before .before .chips .ensures) at (c .before .before .before .before .before .before .before .before .before .before .before .before .before .before .before .before .set-aside .ensures)) _ _ _ (passed-room (s .args .rows .now) (s .args .starts .now) (s .args .codes .now) (s .args .fixed .now) 0 (length (s .args .room .now)) _ _ _ _ _ _ _ (rw (c .before .before .before .before .before .before .before .before .before .before .before .before .before .before .before .before .before .before .chips .ensures) at (c .before .before .before .before .before .before .before .before .before .before .pass-chips .ensures .0)))), round-room t (s .args .mesh .now) (s .args .log .now) (sym (c .before .before .before .before .before .before .before .before .before .before .before .before .before .before .before .before .before .before .before .before .before .before .round-refusal .ensures ∙ round-number (s .args .mesh .now) t (s .args .tested) (s .pre) (length (s .args .log .now))) ∙ c .before .before .before .before .before .before .before .before .before .before .before .before .before .before .before .before .before .before .before .before .before .if1 .left) _ (rw (c .before .before .before .before .before .before .before .before .before .before .before .before .before .before .before .before .before .before .chips .ensures) at (c .before .before .before .before .before .before .before .before .before .before .before .before .before .before .before .before .set-aside .ensures)) (s .args .room .now) _ (rw (c .before .before .before .before .before .before .before .before .before .before .before .before .before .before .before .before .before .before .chips .ensures) at (c .before .before .before .before .before .before .before .before .before .before .pass-chips .ensures .1)))
+    (rw (c .before .before .round-over .ensures) (round-leaves t (s .args .mesh .now) (s .args .log .now) (sym (c .before .before .before .before .before .before .before .before .before .before .before .before .before .before .before .before .before .before .before .before .before .before .round-refusal .ensures ∙ round-number (s .args .mesh .now) t (s .args .tested) (s .pre) (length (s .args .log .now))) ∙ c .before .before .before .before .before .before .before .before .before .before .before .before .before .before .before .before .before .before .before .before .before .if1 .left) _ (rw (c .before .before .before .before .before .before .before .before .before .before .before .before .before .before .before .before .before .before .chips .ensures) at (c .before .before .before .before .before .before .before .before .before .before .before .before .before .before .before .before .set-aside .ensures)) _ _ _ (rw (c .before .before .before .before .before .before .before .before .before .before .before .before .before .before .before .before .before .before .chips .ensures) at (c .before .before .before .before .before .before .before .before .before .before .pass-chips .ensures .0))), round-room t (s .args .mesh .now) (s .args .log .now) (sym (c .before .before .before .before .before .before .before .before .before .before .before .before .before .before .before .before .before .before .before .before .before .before .round-refusal .ensures ∙ round-number (s .args .mesh .now) t (s .args .tested) (s .pre) (length (s .args .log .now))) ∙ c .before .before .before .before .before .before .before .before .before .before .before .before .before .before .before .before .before .before .before .before .before .if1 .left) _ (rw (c .before .before .before .before .before .before .before .before .before .before .before .before .before .before .before .before .before .before .chips .ensures) at (c .before .before .before .before .before .before .before .before .before .before .before .before .before .before .before .before .set-aside .ensures)) (s .args .room .now) _ (rw (c .before .before .before .before .before .before .before .before .before .before .before .before .before .before .before .before .before .before .chips .ensures) at (c .before .before .before .before .before .before .before .before .before .before .pass-chips .ensures .1)))
 
 pub round-tested-spec : {M : Type 1} → statement M
 round-tested-spec =

@@ -39,27 +39,27 @@ part-ready-of-end c = search needs
 ready-of-requires : tie.Need-ready-of-requires
 ready-of-requires c κs = search needs
 
-slice-read-t20 : tie.Need-slice-read-t20
-slice-read-t20 c = search needs
+slice-read-t19 : tie.Need-slice-read-t19
+slice-read-t19 c = search needs
 
-slice-read-t22 : tie.Need-slice-read-t22
-slice-read-t22 c = search needs
+slice-read-t21 : tie.Need-slice-read-t21
+slice-read-t21 c = search needs
 
-slice-read-t24 : tie.Need-slice-read-t24
-slice-read-t24 c = search needs
+slice-read-t23 : tie.Need-slice-read-t23
+slice-read-t23 c = search needs
 
-slice-read-t26 : tie.Need-slice-read-t26
-slice-read-t26 c = search needs
+slice-read-t25 : tie.Need-slice-read-t25
+slice-read-t25 c = search needs
 
 outcome-of-requires : tie.Need-outcome-of-requires
 outcome-of-requires c κs =
-    let a = c .before .before .before .before .before .before .before .before .before .before .before .args in
-    let r = c .before .before .before .before .before .before .before .before .before .before .before .pre .0 in
+    let a = c .before .before .before .before .before .before .before .before .before .before .args in
+    let r = c .before .before .before .before .before .before .before .before .before .before .pre in
     let l = a .mesh .now in
     let at = headerLong + a .chip * chipLong in
     let set : c .before .before .before .before .ready-of .result ≡ readyLinks (chipIn (chipWords (a .chip) l) .lines) = rw (add-sub-cancel-left at chipLong) at (c .before .before .before .before .ready-of .ensures) in
     let fine : Checked (a .p) (a .source) (chipTables (a .rows .now) (a .codes .now) (a .fixed)) (settingIn l (a .chip)) = checked-at l (a .chip) (a .source) (a .p) (chipTables (a .rows .now) (a .codes .now) (a .fixed)) r (source-near (a .source) (r .from)) in
-    (rw set fine, c .before .before .before .before .before .before .before .before .before .before .before .pre .1)
+    rw set fine
 
 add-after : tie.Need-add-after
 add-after c = search needs
@@ -78,8 +78,8 @@ part-after-end c = search needs
 
 after-requires : tie.Need-after-requires
 after-requires c κs =
-    let a = c .before .before .before .before .before .before .before .before .before .before .before .before .before .args in
-    let r = c .before .before .before .before .before .before .before .before .before .before .before .before .before .pre .0 in
+    let a = c .before .before .before .before .before .before .before .before .before .before .before .before .args in
+    let r = c .before .before .before .before .before .before .before .before .before .before .before .before .pre in
     let l = a .mesh .now in
     let at = headerLong + a .chip * chipLong in
     let set : c .before .before .before .before .before .before .ready-of .result ≡ readyLinks (chipIn (chipWords (a .chip) l) .lines) = rw (add-sub-cancel-left at chipLong) at (c .before .before .before .before .before .before .ready-of .ensures) in
@@ -93,8 +93,8 @@ same-length c = search needs
 
 returns : tie.Need-returns
 returns c =
-    let a = c .before .before .before .before .before .before .before .before .before .before .before .before .before .before .before .before .args in
-    let r = c .before .before .before .before .before .before .before .before .before .before .before .before .before .before .before .before .pre .0 in
+    let a = c .before .before .before .before .before .before .before .before .before .before .before .before .before .before .before .args in
+    let r = c .before .before .before .before .before .before .before .before .before .before .before .before .before .before .before .pre in
     let l = a .mesh .now in
     let at = headerLong + a .chip * chipLong in
     let set : c .before .before .before .before .before .before .before .before .before .ready-of .result ≡ readyLinks (chipIn (chipWords (a .chip) l) .lines) = rw (add-sub-cancel-left at chipLong) at (c .before .before .before .before .before .before .before .before .before .ready-of .ensures) in
@@ -115,10 +115,10 @@ pass-at-spec =
     part-ready-of-start
     part-ready-of-end
     ready-of-requires
-    slice-read-t20
-    slice-read-t22
-    slice-read-t24
-    slice-read-t26
+    slice-read-t19
+    slice-read-t21
+    slice-read-t23
+    slice-read-t25
     outcome-of-requires
     add-after
     mul-after

@@ -1,34 +1,105 @@
--- `building::build` meets its contract.
-use Prim.Native.Nat.{_≤_}
-use mathlib.Core.Path.{_∙_}
+-- `building::build` meets its contract. The loop's invariant: the numbers of the rows before i stand in their places. The measure is what is left of the rows.
+use Prim.Native.Nat.{_+_, _<_, _≤_, _/_, _-_}
+use mathlib.Core.Path.{_≡_, refl, sym, _∙_}
 use native.Mathlib.Omega.{arith}
-use lib.ListN.{length}
+use lib.ListN.{length, take}
 use Rattle.tables.specs.Rows.{rowsOf}
 use Rattle.tables.proofs.RowsByNumber.{rows-many}
-use Rattle.groups.specs.Groups.{groupsOf}
-use Rattle.groups.proofs.Starts.{groups-fit}
-use Rattle.groups.proofs.Filling.{room-holds}
-use borrow.Author.Needs.{needs}
+use Rattle.groups.specs.Groups.{groupOf, isIn}
+use Rattle.groups.specs.Building.{sofar, Placed, Kept}
+use Rattle.groups.proofs.InOrder.{sofar-all, sofar-more}
+use Rattle.groups.proofs.Listing.{bit-asked}
+use Rattle.groups.proofs.Placing.{said-so, kept-less, kept-none, kept-both}
+use Rattle.groups.proofs.Filling.{none-placed, room-holds}
 use Rattle.groups.proofs.building.build.Statement.{statement}
 use Rattle.groups.proofs.building.build.Tie as tie
 
-write-starts-requires : tie.Need-write-starts-requires
-write-starts-requires c κs = search needs
+abbrev Inv-loop : tie.InvT-loop
+Inv-loop rows tops room₀ n i₀ room i =
+    (n ≡ length rows / 3)
+    × ((i ≤ n)
+    × ((length room ≡ length room₀)
+    × (Placed tops (rowsOf rows) (sofar (rowsOf rows) i) room × Kept tops (length (rowsOf rows)) (sofar (rowsOf rows) i) room₀ room)))
 
-fill-requires : tie.Need-fill-requires
-fill-requires c κs = search needs
+abbrev μ-loop : tie.MeasureT-loop
+μ-loop rows tops room₀ n i₀ room i = n - i
 
-same-length : tie.Need-same-length
-same-length c = search needs
+loop-holds : tie.Need-loop-holds Inv-loop μ-loop
+loop-holds c =
+    let s = c .before .before .before in
+    let rows = rowsOf (s .args .rows .now) in
+    let tops = s .args .tops .now in
+    let room = s .args .room .now in
+    (refl, (omega arith, (refl, (none-placed tops rows room (s .pre .1), kept-none tops (length rows) (sofar rows 0) room))))
 
-returns : tie.Need-returns
-returns c =
-    let fill = c .before .before .fill in
-    let starts = c .before .before .before .before .before .before .write-starts in
-    let s = c .before .before .before .before .before .before .before .before .before .before in
+place-requires : tie.Need-place-requires Inv-loop μ-loop
+place-requires c κs =
+    let at = c .before .before in
+    let s = at .before .before .before .before in (
+      (s .pre .0 .0, omega (arith, s .pre .0 .1, at .loop .inv .1 .1 .0)),
+      (omega arith, (record { small = s .pre .1 .small; once = s .pre .1 .once }, at .loop .inv .1 .1 .1 .0)),
+    )
+
+add-i : tie.Need-add-i Inv-loop μ-loop
+add-i c = omega arith
+
+loop-less : tie.Need-loop-less Inv-loop μ-loop
+loop-less c = omega arith
+
+loop-again : tie.Need-loop-again Inv-loop μ-loop
+loop-again c =
+    let call = c .before .before in
+    let at = call .before .before .before in
+    let s = at .before .before .before .before in
     let words = s .args .rows .now in
-    let long : length (groupsOf (rowsOf words)) ≤ length (fill .last .1 .0) = omega (arith, groups-fit (rowsOf words), rows-many words, s .pre, fill .kept .1 .0, starts .kept .1 .0) in
-    room-holds (rowsOf words) (fill .last .1 .0) (fill .ensures .0) long (s .args .room .now) (fill .ensures .1 ∙ starts .ensures .1)
+    let rows = rowsOf words in
+    let tops = s .args .tops .now in
+    let i = at .loop .i in
+    let here : i < length rows = omega (arith, rows-many words) in
+    let kept = kept-less tops (length rows) (sofar rows i) (sofar rows (i + 1)) (s .args .room .now) (at .loop .room) (λ g h e. sofar-more rows g i here) (at .loop .inv .1 .1 .1 .1) in (
+      refl,
+      (
+        omega arith,
+        (
+          call .place .kept .1 .1 .0 ∙ at .loop .inv .1 .1 .0,
+          (
+            call .place .ensures .0,
+            kept-both tops (length rows) (sofar rows (i + 1)) (s .args .room .now) (at .loop .room) (call .place .last .1 .1 .0) kept (call .place .ensures .1),
+          ),
+        ),
+      ),
+    )
+
+same-length : tie.Need-same-length Inv-loop μ-loop
+same-length c = c .before .loop .inv .1 .1 .0
+
+returns : tie.Need-returns Inv-loop μ-loop
+returns c =
+    let at = c .before in
+    let s = at .before .before .before .before in
+    let words = s .args .rows .now in
+    let rows = rowsOf words in
+    let tops = s .args .tops .now in
+    let room₀ = s .args .room .now in
+    let room = at .loop .room in
+    let all : at .loop .i ≡ length rows = omega (arith, rows-many words) in
+    room-holds (take 256 room₀) tops rows room₀ room
+    (λ g h. bit-asked (take 256 room₀) g (isIn g tops) (s .pre .1 .bits g h))
+    (said-so tops rows (sofar rows (length rows)) (λ g. length (groupOf rows g)) room (λ g h e. sym (sofar-all rows g)) (rw all at (at .loop .inv .1 .1 .1 .0)))
+    (kept-less tops (length rows) (sofar rows (length rows)) (λ g. length (groupOf rows g)) room₀ room (λ g h e. omega (arith, sofar-all rows g)) (rw all at (at .loop .inv .1 .1 .1 .1)))
+    (at .loop .inv .1 .1 .0)
+    (omega (arith, s .pre .0 .1, rows-many words))
 
 pub build-spec : {M : Type 1} → statement M
-build-spec = tie.close (tie.spec write-starts-requires fill-requires same-length returns)
+build-spec =
+    tie.close
+    (tie.spec
+    Inv-loop
+    μ-loop
+    loop-holds
+    place-requires
+    add-i
+    loop-less
+    loop-again
+    same-length
+    returns)

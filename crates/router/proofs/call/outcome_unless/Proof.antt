@@ -1,4 +1,4 @@
-use mathlib.Core.Path.{refl, _∙_}
+use mathlib.Core.Path.{_∙_}
 use borrow.Author.Tests.{eq-eqb, ne-eqb}
 use Rattle.steps.specs.Deciding.{outcomeOf}
 use Rattle.steps.proofs.ByRows.{wanted-by-rows}
@@ -16,17 +16,14 @@ stamped-of-requires c κs = search needs
 by-rows-requires : tie.Need-by-rows-requires
 by-rows-requires c κs = search needs
 
-slice-aggregate-looked-up : tie.Need-slice-aggregate-looked-up
-slice-aggregate-looked-up c = search needs
-
 looked-up-requires : tie.Need-looked-up-requires
-looked-up-requires c κs = λ some. absurd (some refl)
+looked-up-requires c κs = search needs
 
 wanted-given-requires : tie.Need-wanted-given-requires
-wanted-given-requires c κs = let h = c .before .before .before .before .before .before .before .before .pre (c .before .before .before .before .before .if1 .taken) in (h .from, (h .monitor, (h .width, (h .height, h .enough))))
+wanted-given-requires c κs = let h = c .before .before .before .before .before .before .before .pre (c .before .before .before .before .if1 .taken) in (h .from, (h .monitor, (h .width, (h .height, h .enough))))
 
 decide-requires : tie.Need-decide-requires
-decide-requires c κs = let h = c .before .before .before .before .before .before .before .before .before .pre (c .before .before .before .before .before .before .if1 .taken) in (h .from, h .ready)
+decide-requires c κs = let h = c .before .before .before .before .before .before .before .before .pre (c .before .before .before .before .before .if1 .taken) in (h .from, h .ready)
 
 no-outcome-requires : tie.Need-no-outcome-requires
 no-outcome-requires c κs = search needs
@@ -34,13 +31,13 @@ no-outcome-requires c κs = search needs
 returns : tie.Need-returns
 unfolding outcomeOf
 returns c =
-    let a = c .before .before .before .before .before .before .before .before .before .before .args in
-    let errors = c .before .before .before .before .before .before .errors-of .result in
+    let a = c .before .before .before .before .before .before .before .before .before .args in
+    let errors = c .before .before .before .before .before .errors-of .result in
     let wanted =
     c .before .wanted-given .ensures
-    ∙ wanted-by-rows errors (a .p) (a .source) (chipTables (a .rows .now) (a .codes .now) (a .fixed)) (a .t) _ _ (c .before .before .before .before .by-rows .ensures) (c .before .before .looked-up .ensures) in
+    ∙ wanted-by-rows errors (a .p) (a .source) (chipTables (a .rows .now) (a .codes .now) (a .fixed)) (a .t) _ _ (c .before .before .before .by-rows .ensures) (c .before .before .looked-up .ensures) in
     c .decide .ensures
-    ∙ simp (wanted, c .before .before .before .before .before .stamped-of .ensures, c .before .before .before .before .before .before .errors-of .ensures .0, eq-eqb _ _ (c .before .before .before .before .before .before .before .if1 .taken))
+    ∙ simp (wanted, c .before .before .before .before .stamped-of .ensures, c .before .before .before .before .before .errors-of .ensures .0, eq-eqb _ _ (c .before .before .before .before .before .before .if1 .taken))
 
 returns-2 : tie.Need-returns-2
 returns-2 c = c .no-outcome .ensures ∙ simp (ne-eqb _ _ (c .before .if1 .left))
@@ -52,7 +49,6 @@ outcome-unless-spec =
     errors-of-requires
     stamped-of-requires
     by-rows-requires
-    slice-aggregate-looked-up
     looked-up-requires
     wanted-given-requires
     decide-requires

@@ -27,7 +27,7 @@ decide-requires c κs = search needs
 returns : tie.Need-returns
 unfolding outcomeOf
 returns c =
-    let a = c .before .before .before .before .before .before .before .before .before .args in
+    let a = c .before .before .before .before .before .before .before .before .args in
     let errors = c .before .before .before .before .before .errors-of .result in
     let wanted =
     c .before .wanted-given .ensures

@@ -6,17 +6,11 @@ use Rattle.steps.proofs.wants.looked_up.Tie as tie
 route-for-requires : tie.Need-route-for-requires
 route-for-requires c κs = search needs
 
-grouped-route-requires : tie.Need-grouped-route-requires
-grouped-route-requires c κs = c .before .before .before .before .pre (c .if2 .left)
-
 returns : tie.Need-returns
-returns c = c .route-for .ensures ∙ simp (c .before .before .if1 .taken)
+returns c = c .route-for .ensures ∙ simp (c .before .if1 .taken)
 
 returns-2 : tie.Need-returns-2
-returns-2 c = c .grouped-route .ensures ∙ simp (c .before .before .if1 .taken)
-
-returns-3 : tie.Need-returns-3
-returns-3 c = search needs
+returns-2 c = search needs
 
 pub looked-up-spec : {M : Type 1} → statement M
-looked-up-spec = tie.close (tie.spec route-for-requires grouped-route-requires returns returns-2 returns-3)
+looked-up-spec = tie.close (tie.spec route-for-requires returns returns-2)
