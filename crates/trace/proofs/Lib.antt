@@ -9,6 +9,8 @@ pub mod MadeCalls
 pub mod ReadRecords
 pub mod ReadThenWritten
 pub mod Replays
+pub mod Rooms
+pub mod RoomSoFar
 pub mod SoFar
 pub mod Stops
 pub mod Traces

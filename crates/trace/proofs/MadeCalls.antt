@@ -37,7 +37,7 @@ module _ {A : Type 0} (n p : ℕ) (m : Mesh A) (g : Going A) where
       go true = refl
       go false = sym e
 
-  unless-number : unless n p m g .refusal ≡ n
+  pub unless-number : unless n p m g .refusal ≡ n
   unless-number = go (eqb n 0) refl
     where
       go : (b : Bool) → eqb n 0 ≡ b → cond {A = Left A} b (record { refusal = 0; place = 0; mesh = g .mesh; log = g .log }) (record { refusal = n; place = p; mesh = m; log = [] }) .refusal ≡ n

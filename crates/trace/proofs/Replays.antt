@@ -1,5 +1,6 @@
 -- The turns of a replay: one record more, the first that is refused, the end.
 use mathlib.Core.Path.{_≡_, refl, sym, ap, _∙_, subst}
+use mathlib.Core.Bool.{Bool}
 use mathlib.Core.List.{List, [], _++_, append-nil, append-assoc}
 use Prim.Native.Nat.{ℕ, _+_, _-_, _*_, _/_, _≤_, _<_}
 use native.Mathlib.Nat.{add-zero}
@@ -14,7 +15,7 @@ use Rattle.mesh.specs.Calls.{Left, loggedOn}
 use Rattle.trace.specs.declared.Replayed.{Replayed}
 use Rattle.trace.specs.declared.replaying.Done.{Done}
 use Rattle.trace.specs.Records.{recordRead}
-use Rattle.trace.specs.Replay.{traceOf, stopped, behind, replaying, replayOf, Replays, oneLeft, OneDone}
+use Rattle.trace.specs.Replay.{Trace, traceOf, stopped, behind, replaying, replayOf, Replays, oneLeft, OneDone}
 use Rattle.trace.proofs.KeptSizes.{Keeps}
 use Rattle.trace.proofs.Traces.{read-within, trace-over}
 use Rattle.trace.proofs.SoFar.{onward, accepted-record, keeps-one, onward-step, onward-stop, SoFar}
@@ -27,7 +28,7 @@ back-in : (log : List ℕ) (k : ℕ) (w : List ℕ) → backIn log k w ≡ take 
 back-in log k w = ap (λ (r : List ℕ). take k log ++ (w ++ r)) (drop-of-length-le (drop k log) {i = length log - k} (simp length-drop (omega arith))) ∙ ap (λ (r : List ℕ). take k log ++ r) (append-nil w)
 
 -- all that is left of a list, as a part of it
-part-rest : (k : ℕ) (l : List ℕ) → take (length l - k) (drop k l) ≡ drop k l
+pub part-rest : (k : ℕ) (l : List ℕ) → take (length l - k) (drop k l) ≡ drop k l
 part-rest k l = take-all (length l - k) (drop k l) (simp length-drop (omega arith))
 
 module _ (t : Tables) (s l₀ log₀ l log : List ℕ) (at added : ℕ) (h : SoFar t s l₀ log₀ l log at added) where
@@ -75,7 +76,7 @@ module _ (t : Tables) (s l₀ log₀ l log : List ℕ) (at added : ℕ) (h : SoF
 
   module _ (more : at < length s) (l₁ w₁ : List ℕ) (done : Done)
       (lent : OneDone t (take (length s - at) (drop at s)) l (take (length log - added * 6) (drop (added * 6) log)) l₁ w₁ done) where
-    d : OneDone t (drop at s) l (drop (added * 6) log) l₁ w₁ done
+    pub d : OneDone t (drop at s) l (drop (added * 6) log) l₁ w₁ done
     d = lent-rest l₁ w₁ done lent
 
     abbrev here : List ℕ
@@ -87,7 +88,7 @@ module _ (t : Tables) (s l₀ log₀ l log : List ℕ) (at added : ℕ) (h : SoF
     abbrev x : Left (Unit {0})
     x = oneLeft t (drop at s) l (length (drop (added * 6) log))
 
-    some-left : 0 < length (drop at s)
+    pub some-left : 0 < length (drop at s)
     some-left = simp length-drop (omega arith)
 
     keeps : Keeps (holdsMesh l) (meshOf l) (oneLeft t (drop at s) l (length (drop (added * 6) log)))
@@ -110,7 +111,7 @@ module _ (t : Tables) (s l₀ log₀ l log : List ℕ) (at added : ℕ) (h : SoF
       kept : length w₁ ≡ length (drop (added * 6) log)
       kept = rest-kept w₁ same
 
-      fine : x .refusal ≡ 0
+      pub fine : x .refusal ≡ 0
       fine = sym (d .refusal) ∙ none
 
       bytes : done .length ≡ recordRead (drop at s) .length
@@ -161,14 +162,16 @@ module _ (t : Tables) (s l₀ log₀ l log : List ℕ) (at added : ℕ) (h : SoF
       mesh-left : meshOf l₁ ≡ x .mesh
       mesh-left = d .buffer .mesh fine
 
-      onward-left : replaying (holdsMesh l) t (x .mesh) (length (drop (added * 6) log) - length (x .log)) (traceOf (drop (recordRead (drop at s) .length) (drop at s)))
-          ≡ onward t l₁ (length (drop ((added + done .added) * 6) (backIn log (added * 6) w₁))) (drop (at + done .length) s)
-      onward-left =
+      -- what follows is asked of what this record left, whatever is asked
+      pub onward-left : {X : Type 0} (f : Bool → Mesh (Unit {0}) → ℕ → Trace → X)
+          → f (holdsMesh l) (x .mesh) (length (drop (added * 6) log) - length (x .log)) (traceOf (drop (recordRead (drop at s) .length) (drop at s)))
+          ≡ f (holdsMesh l₁) (meshOf l₁) (length (drop ((added + done .added) * 6) (backIn log (added * 6) w₁))) (traceOf (drop (at + done .length) s))
+      onward-left f =
           let held : holdsMesh l ≡ holdsMesh l₁ = keeps .there fine ∙ sym (d .buffer .holds fine) in
           let room : length rest - length (x .log) ≡ length (drop ((added + done .added) * 6) (backIn log (added * 6) w₁)) = sym (ap length still-untold ∙ length-drop (length (x .log)) rest) in
           let trace : drop (recordRead here .length) here ≡ drop (at + done .length) s = drop-drop (recordRead here .length) at s ∙ ap (λ (k : ℕ). drop (at + k) s) (sym bytes) in
           let mesh : x .mesh ≡ meshOf l₁ = sym mesh-left in
-          λ i. replaying (held i) t (mesh i) (room i) (traceOf (trace i))
+          λ i. f (held i) (mesh i) (room i) (traceOf (trace i))
 
       left-now : behind at (take (added * 6) log) (onward t l (length (drop (added * 6) log)) (drop at s))
           ≡ behind (at + done .length) (take ((added + done .added) * 6) (backIn log (added * 6) w₁)) (onward t l₁ (length (drop ((added + done .added) * 6) (backIn log (added * 6) w₁))) (drop (at + done .length) s))
@@ -178,7 +181,7 @@ module _ (t : Tables) (s l₀ log₀ l log : List ℕ) (at added : ℕ) (h : SoF
           let place : at + (n + r .at) ≡ at + done .length + r .at = omega (arith, bytes) in
           let joined : take (added * 6) log ++ (x .log ++ r .log) ≡ take ((added + done .added) * 6) (backIn log (added * 6) w₁) ++ r .log =
           sym (append-assoc (take (added * 6) log) (x .log) (r .log)) ∙ ap (λ (f : List ℕ). f ++ r .log) (sym told) in
-          ap (behind at (take (added * 6) log)) (onward-step t here l (length rest) some-left fine ∙ ap (behind n (x .log)) onward-left)
+          ap (behind at (take (added * 6) log)) (onward-step t here l (length rest) some-left fine ∙ onward-left (λ held m room tr. behind n (x .log) (replaying held t m room tr)))
           ∙ (λ i. record { refusal = r .refusal; place = r .place; at = place i; mesh = r .mesh; log = joined i })
 
       pub one-more : SoFar t s l₀ log₀ l₁ (backIn log (added * 6) w₁) (at + done .length) (added + done .added)

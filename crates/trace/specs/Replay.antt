@@ -9,6 +9,7 @@ use Rattle.mesh.specs.Mesh.{Mesh}
 use Rattle.buffer.specs.Layout.{meshOf, wordsOf}
 use Rattle.buffer.specs.Holding.{holdsMesh}
 use Rattle.mesh.specs.Steps.{Tables, same}
+use Rattle.mesh.specs.Room.{roomAfterRound}
 use Rattle.mesh.specs.Calls.{Left, injecting, rounding, linking, emptying, loggedOn}
 use Rattle.buffer.specs.Leaving.{Leaves}
 use Rattle.trace.specs.declared.Call.{Call}
@@ -91,6 +92,23 @@ pub record Replays (before after log written : List ℕ) (answer : Replayed) (r 
   pub long : length after ≡ length before
   pub past : drop (wordsOf before) after ≡ drop (wordsOf before) before
 
+-- ---- the room for groups
+
+-- What an accepted call leaves in the room for groups: a round what a round leaves, every other call what was there.
+abbrev pub roomMade : Tables → Mesh (Unit {0}) → Call → List ℕ → List ℕ
+roomMade t m c room = byKind (c .kind) room (roomAfterRound t m room) room room
+
+-- What it holds after a replay: what its rounds leave there, one after another. The call that is refused leaves it as it came.
+unfoldable pub roomReplaying : Bool → Tables → Mesh (Unit {0}) → ℕ → Trace → List ℕ → List ℕ
+roomReplaying holds t m log over room = room
+roomReplaying holds t m log (refused n) room = room
+roomReplaying holds t m log (then c n rest) room =
+    let r = making holds t same tt m log c in
+    cond (eqb (r .refusal) 0) (roomReplaying holds t (r .mesh) (log - length (r .log)) rest (roomMade t m c room)) room
+
+abbrev pub replayRoom : List ℕ → Tables → ℕ → List ℕ → List ℕ → List ℕ
+replayRoom l t log s room = roomReplaying (holdsMesh l) t (meshOf l) log (traceOf s) room
+
 -- ---- one record, as the code takes it
 
 -- What the record at the start of s leaves.
@@ -106,3 +124,10 @@ pub record OneDone (t : Tables) (s before log after written : List ℕ) (done : 
   pub place : done .place ≡ oneLeft t s before (length log) .place
   pub buffer : Leaves before after (oneLeft t s before (length log))
   pub logged : written ≡ loggedOn (oneLeft t s before (length log) .log) log
+
+-- What a call, and the record at the start of s, leave in the room for groups: where one is refused it stays as it came.
+abbrev pub madeRoom : List ℕ → Tables → ℕ → Call → List ℕ → List ℕ
+madeRoom l t log c room = cond (eqb (madeLeft l t log c .refusal) 0) (roomMade t (meshOf l) c room) room
+
+abbrev pub oneRoom : Tables → List ℕ → List ℕ → ℕ → List ℕ → List ℕ
+oneRoom t s l log room = cond (eqb (oneLeft t s l log .refusal) 0) (roomMade t (meshOf l) (recordRead s .call) room) room

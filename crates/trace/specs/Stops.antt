@@ -8,7 +8,7 @@ use lib.ListN.{length, drop}
 use Rattle.mesh.specs.Mesh.{Mesh}
 use Rattle.mesh.specs.Steps.{Tables, same}
 use Rattle.trace.specs.Records.{recordRead}
-use Rattle.trace.specs.Replay.{traceOf, making, Replay, replaying}
+use Rattle.trace.specs.Replay.{traceOf, making, Replay, replaying, replayOf, replayRoom}
 
 -- What the record at the start of s is refused with, or 0: its own number first, then its call's.
 abbrev pub numberAt : Bool → Tables → Mesh (Unit {0}) → ℕ → List ℕ → ℕ
@@ -23,3 +23,7 @@ pub record StoppedRight (holds : Bool) (t : Tables) (room : ℕ) (s : List ℕ) 
 
 abbrev pub Stops : Type 0
 Stops = (holds : Bool) (t : Tables) (m : Mesh (Unit {0})) (room : ℕ) (s : List ℕ) → StoppedRight holds t room s (replaying holds t m room (traceOf s))
+
+-- A replay that stopped at its first record leaves the room for groups as it came; so does one of no bytes.
+abbrev pub RoomAsItCame : Type 0
+RoomAsItCame = (t : Tables) (s l : List ℕ) (log : ℕ) (room : List ℕ) → replayOf l t log s .at ≡ 0 → replayRoom l t log s room ≡ room

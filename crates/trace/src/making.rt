@@ -12,7 +12,7 @@ ghost use Prim.Native.Nat.{_≤_};
 ghost use Rattle.mesh.specs.Steps.{tablesOf};
 ghost use Rattle.buffer.specs.Leaving.{Moves};
 ghost use Rattle.buffer.specs.Testing.{testedOf};
-ghost use Rattle.trace.specs.Replay.{madeLeft};
+ghost use Rattle.trace.specs.Replay.{madeLeft, madeRoom};
 
 pub fn make(
     mesh: &mut [u32],
@@ -27,6 +27,7 @@ pub fn make(
 ) -> Added
     requires { ⌜ (call .length ≤ 9) × (tested ≡ testedOf (now mesh) (tablesOf (now rows) (now starts) (now codes) (now fixed) (length (now room)))) ⌝ }
     ensures { λ r. ⌜ Moves (now (mesh .entry)) (now (log .entry)) (madeLeft (now (mesh .entry)) (tablesOf (now (rows .entry)) (now (starts .entry)) (now (codes .entry)) (now (fixed .entry)) (length (now (room .entry)))) (length (now (log .entry))) call) r (now (mesh .exit)) (now (log .exit)) ⌝ }
+    ensures { λ _. ⌜ now (room .exit) ≡ madeRoom (now (mesh .entry)) (tablesOf (now (rows .entry)) (now (starts .entry)) (now (codes .entry)) (now (fixed .entry)) (length (now (room .entry)))) (length (now (log .entry))) call (now (room .entry)) ⌝ }
 {
     let kind = call.kind;
     match kind {

@@ -8,7 +8,7 @@ ghost use mathlib.Core.Path.{_≡_};
 ghost use lib.ListN.{length};
 ghost use Rattle.mesh.specs.Steps.{tablesOf};
 ghost use Rattle.buffer.specs.Testing.{testedOf};
-ghost use Rattle.trace.specs.Replay.{replayOf, Replays, OneDone};
+ghost use Rattle.trace.specs.Replay.{replayOf, Replays, replayRoom, OneDone, oneRoom};
 
 // Replays a trace up to its end or to the first refusal, a record's or a call's; what earlier records did stands. Buffer and tables are tested
 // once: no accepted call makes them worse.
@@ -23,6 +23,7 @@ pub fn replay(
     room: &mut [u32],
 ) -> Replayed
     ensures { λ r. ⌜ Replays (now (mesh .entry)) (now (mesh .exit)) (now (log .entry)) (now (log .exit)) r (replayOf (now (mesh .entry)) (tablesOf (now (rows .entry)) (now (starts .entry)) (now (codes .entry)) (now (fixed .entry)) (length (now (room .entry)))) (length (now (log .entry))) (now (trace .entry))) ⌝ }
+    ensures { λ _. ⌜ now (room .exit) ≡ replayRoom (now (mesh .entry)) (tablesOf (now (rows .entry)) (now (starts .entry)) (now (codes .entry)) (now (fixed .entry)) (length (now (room .entry)))) (length (now (log .entry))) (now (trace .entry)) (now (room .entry)) ⌝ }
 {
     let tested = test(mesh, rows, starts, codes, fixed, room.len());
     let mut at = 0;
@@ -80,6 +81,7 @@ fn replay_one(
 ) -> Done
     requires { ⌜ tested ≡ testedOf (now mesh) (tablesOf (now rows) (now starts) (now codes) (now fixed) (length (now room))) ⌝ }
     ensures { λ r. ⌜ OneDone (tablesOf (now (rows .entry)) (now (starts .entry)) (now (codes .entry)) (now (fixed .entry)) (length (now (room .entry)))) (now (trace .entry)) (now (mesh .entry)) (now (log .entry)) (now (mesh .exit)) (now (log .exit)) r ⌝ }
+    ensures { λ _. ⌜ now (room .exit) ≡ oneRoom (tablesOf (now (rows .entry)) (now (starts .entry)) (now (codes .entry)) (now (fixed .entry)) (length (now (room .entry)))) (now (trace .entry)) (now (mesh .entry)) (length (now (log .entry))) (now (room .entry)) ⌝ }
 {
     let record = read_record(trace);
     if record.refusal != 0 {

@@ -6,6 +6,7 @@ use lib.ListN.{length}
 use Rattle.mesh.specs.Steps.{tablesOf}
 use Rattle.trace.specs.Records.{nineOf}
 use Rattle.trace.proofs.MadeCalls.{made-injection, made-round, made-change, made-read}
+use Rattle.trace.proofs.Rooms.{room-injection, room-round, room-change, room-read}
 use Rattle.trace.proofs.making.make.Statement.{statement}
 use Rattle.trace.proofs.making.make.Tie as tie
 
@@ -67,7 +68,7 @@ returns : tie.Need-returns
 returns c =
     let s = c .before .before .before .before .before .before .before .before .before .before .before .before .before .before .before .before .before .before in
     let t = tablesOf (s .args .rows .now) (s .args .starts .now) (s .args .codes .now) (s .args .fixed .now) (length (s .args .room .now)) in
-    made-injection t (s .args .mesh .now) (s .args .log .now) (s .args .call) _ _ _ (c .before .before .before .before .before .before .before .before .before .before .match .keys1) (c .before .before .before .before .inject-tested .ensures)
+    (made-injection t (s .args .mesh .now) (s .args .log .now) (s .args .call) _ _ _ (c .before .before .before .before .before .before .before .before .before .before .match .keys1) (c .before .before .before .before .inject-tested .ensures), room-injection t (s .args .mesh .now) (length (s .args .log .now)) (s .args .call) (s .args .room .now) (c .before .before .before .before .before .before .before .before .before .before .match .keys1))
 
 same-length-3 : tie.Need-same-length-3
 same-length-3 c = search needs
@@ -79,7 +80,7 @@ returns-2 : tie.Need-returns-2
 returns-2 c =
     let s = c .before .before .before .before .before .before .before .before .before .before .before .before .before .before .before .before .before .before in
     let t = tablesOf (s .args .rows .now) (s .args .starts .now) (s .args .codes .now) (s .args .fixed .now) (length (s .args .room .now)) in
-    made-round t (s .args .mesh .now) (s .args .log .now) (s .args .call) _ _ _ (c .before .before .before .before .before .before .before .before .before .before .match .keys2) (c .before .before .before .before .before .before .round-tested .ensures .0)
+    (made-round t (s .args .mesh .now) (s .args .log .now) (s .args .call) _ _ _ (c .before .before .before .before .before .before .before .before .before .before .match .keys2) (c .before .before .before .before .before .before .round-tested .ensures .0), room-round t (s .args .mesh .now) (length (s .args .log .now)) (s .args .call) (s .args .room .now) (c .before .before .before .before .before .before .before .before .before .before .match .keys2) _ (c .before .before .before .before .before .before .round-tested .ensures .1))
 
 same-length-5 : tie.Need-same-length-5
 same-length-5 c = search needs
@@ -88,7 +89,7 @@ returns-3 : tie.Need-returns-3
 returns-3 c =
     let s = c .before .before .before .before .before .before .before .before .before .before .before .before .before in
     let t = tablesOf (s .args .rows .now) (s .args .starts .now) (s .args .codes .now) (s .args .fixed .now) (length (s .args .room .now)) in
-    made-change t (s .args .mesh .now) (s .args .log .now) (s .args .call) _ (c .before .before .before .before .before .match .keys3) _ (c .before .before .set-link-tested .ensures .0) (c .before .before .set-link-tested .ensures .1)
+    (made-change t (s .args .mesh .now) (s .args .log .now) (s .args .call) _ (c .before .before .before .before .before .match .keys3) _ (c .before .before .set-link-tested .ensures .0) (c .before .before .set-link-tested .ensures .1), room-change t (s .args .mesh .now) (length (s .args .log .now)) (s .args .call) (s .args .room .now) (c .before .before .before .before .before .match .keys3))
 
 same-length-6 : tie.Need-same-length-6
 same-length-6 c = search needs
@@ -100,7 +101,7 @@ returns-4 : tie.Need-returns-4
 returns-4 c =
     let s = c .before .before .before .before .before .before .before .before .before .before .before .before in
     let t = tablesOf (s .args .rows .now) (s .args .starts .now) (s .args .codes .now) (s .args .fixed .now) (length (s .args .room .now)) in
-    made-read t (s .args .mesh .now) (s .args .log .now) (s .args .call) _ (c .before .before .before .before .match .rest .0 .0 .1) (c .before .before .before .before .match .rest .0 .1) (c .before .before .before .before .match .rest .1) _ (c .before .before .read-registers-tested .ensures .0) (c .before .before .read-registers-tested .ensures .1)
+    (made-read t (s .args .mesh .now) (s .args .log .now) (s .args .call) _ (c .before .before .before .before .match .rest .0 .0 .1) (c .before .before .before .before .match .rest .0 .1) (c .before .before .before .before .match .rest .1) _ (c .before .before .read-registers-tested .ensures .0) (c .before .before .read-registers-tested .ensures .1), room-read t (s .args .mesh .now) (length (s .args .log .now)) (s .args .call) (s .args .room .now) (c .before .before .before .before .match .rest .0 .0 .1) (c .before .before .before .before .match .rest .0 .1) (c .before .before .before .before .match .rest .1))
 
 pub make-spec : {M : Type 1} → statement M
 make-spec =

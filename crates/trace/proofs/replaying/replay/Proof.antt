@@ -1,4 +1,4 @@
-use mathlib.Core.Path.{_≡_, refl, _∙_}
+use mathlib.Core.Path.{_≡_, _∙_}
 use Prim.Native.Nat.{_-_}
 use native.Mathlib.Omega.{arith}
 use lib.ListN.{length}
@@ -6,12 +6,14 @@ use Rattle.mesh.specs.Steps.{tablesOf}
 use Rattle.buffer.specs.Testing.{testedOf}
 use Rattle.trace.proofs.SoFar.{SoFar, begun, tested-still}
 use Rattle.trace.proofs.Replays.{log-kept, at-the-end, stopped-here, some-bytes, bytes-within, added-within, one-more}
+use Rattle.trace.proofs.RoomSoFar.{RoomSoFar, room-begun, room-at-the-end, room-stopped, room-more}
 use Rattle.trace.proofs.replaying.replay.Statement.{statement}
 use Rattle.trace.proofs.replaying.replay.Tie as tie
 
 abbrev Inv-loop : tie.InvT-loop
 Inv-loop mesh₀ log₀ trace rows starts codes fixed room₀ tested at₀ added₀ mesh log room at added =
-    ((tested ≡ testedOf mesh₀ (tablesOf rows starts codes fixed (length room₀))) × (length room ≡ length room₀)) × SoFar (tablesOf rows starts codes fixed (length room₀)) trace mesh₀ log₀ mesh log at added
+    let t = tablesOf rows starts codes fixed (length room₀) in
+    ((tested ≡ testedOf mesh₀ t) × RoomSoFar t trace mesh₀ log₀ room₀ mesh log room at added) × SoFar t trace mesh₀ log₀ mesh log at added
 
 abbrev μ-loop : tie.MeasureT-loop
 μ-loop mesh₀ log₀ trace rows starts codes fixed room₀ tested at₀ added₀ mesh log room at added = length trace - at
@@ -22,7 +24,8 @@ test-requires c κs = tt
 loop-holds : tie.Need-loop-holds Inv-loop μ-loop
 loop-holds c =
     let s = c .before .before .before .before .before .before .before .before .before .before .args in
-    ((c .test .ensures, refl), begun (tablesOf (s .rows .now) (s .starts .now) (s .codes .now) (s .fixed .now) (length (s .room .now))) (s .trace .now) (s .mesh .now) (s .log .now))
+    let t = tablesOf (s .rows .now) (s .starts .now) (s .codes .now) (s .fixed .now) (length (s .room .now)) in
+    ((c .test .ensures, room-begun t (s .trace .now) (s .mesh .now) (s .log .now) (s .room .now)), begun t (s .trace .now) (s .mesh .now) (s .log .now))
 
 mul-from : tie.Need-mul-from Inv-loop μ-loop
 mul-from c = omega (arith, c .before .loop .inv .1 .room, c .before .loop .inv .1 .log-long)
@@ -53,10 +56,10 @@ replay-one-requires c κs =
     let s = c .before .before .before .before .before .before .before .before .before .before .before .before .before .before .before .before .args in
     let now = c .before .before .before .before .before .loop in
     let t = tablesOf (s .rows .now) (s .starts .now) (s .codes .now) (s .fixed .now) (length (s .room .now)) in
-    rw (now .inv .0 .1) (now .inv .0 .0 ∙ tested-still t (s .trace .now) (s .mesh .now) (s .log .now) (now .mesh) (now .log) (now .at) (now .added) (now .inv .1))
+    rw (now .inv .0 .1 .long) (now .inv .0 .0 ∙ tested-still t (s .trace .now) (s .mesh .now) (s .log .now) (now .mesh) (now .log) (now .at) (now .added) (now .inv .1))
 
 same-length : tie.Need-same-length Inv-loop μ-loop
-same-length c = c .before .before .before .before .before .before .before .before .replay-one .ensures .buffer .long ∙ c .before .before .before .before .before .before .before .before .before .before .before .before .before .before .loop .inv .1 .long
+same-length c = c .before .before .before .before .before .before .before .before .replay-one .ensures .0 .buffer .long ∙ c .before .before .before .before .before .before .before .before .before .before .before .before .before .before .loop .inv .1 .long
 
 same-length-2 : tie.Need-same-length-2 Inv-loop μ-loop
 same-length-2 c =
@@ -66,7 +69,7 @@ same-length-2 c =
     log-kept t (s .trace .now) (s .mesh .now) (s .log .now) (now .mesh) (now .log) (now .at) (now .added) (now .inv .1) (c .before .before .before .before .before .before .before .before .replay-one .last .1 .0) (c .before .before .before .before .before .before .before .before .replay-one .kept .1 .0)
 
 same-length-3 : tie.Need-same-length-3 Inv-loop μ-loop
-same-length-3 c = c .before .before .before .before .before .before .before .before .replay-one .kept .1 .1 .1 .1 .1 .1 .1 .0 ∙ c .before .before .before .before .before .before .before .before .before .before .before .before .before .before .loop .inv .0 .1
+same-length-3 c = c .before .before .before .before .before .before .before .before .replay-one .kept .1 .1 .1 .1 .1 .1 .1 .0 ∙ c .before .before .before .before .before .before .before .before .before .before .before .before .before .before .loop .inv .0 .1 .long
 
 returns : tie.Need-returns Inv-loop μ-loop
 returns c =
@@ -74,7 +77,7 @@ returns c =
     let now = c .before .before .before .before .before .before .before .before .before .before .before .before .before .before .loop in
     let t = tablesOf (s .rows .now) (s .starts .now) (s .codes .now) (s .fixed .now) (length (s .room .now)) in
     let one = c .before .before .before .before .before .before .before .before .replay-one in
-    stopped-here t (s .trace .now) (s .mesh .now) (s .log .now) (now .mesh) (now .log) (now .at) (now .added) (now .inv .1) (c .before .before .before .before .before .before .before .before .before .before .before .before .before .loop-test .taken) (one .last .0) (one .last .1 .0) (one .result) (rw (now .inv .0 .1) at (one .ensures)) (c .if1 .taken)
+    (stopped-here t (s .trace .now) (s .mesh .now) (s .log .now) (now .mesh) (now .log) (now .at) (now .added) (now .inv .1) (c .before .before .before .before .before .before .before .before .before .before .before .before .before .loop-test .taken) (one .last .0) (one .last .1 .0) (one .result) (rw (now .inv .0 .1 .long) at (one .ensures .0)) (c .if1 .taken), room-stopped t (s .trace .now) (s .mesh .now) (s .log .now) (s .room .now) (now .mesh) (now .log) (now .room) (now .at) (now .added) (now .inv .1) (now .inv .0 .1) (c .before .before .before .before .before .before .before .before .before .before .before .before .before .loop-test .taken) (one .last .0) (one .last .1 .0) (one .result) (rw (now .inv .0 .1 .long) at (one .ensures .0)) _ (rw (now .inv .0 .1 .long) at (one .ensures .1)) (c .if1 .taken))
 
 add-at : tie.Need-add-at Inv-loop μ-loop
 add-at c =
@@ -82,7 +85,7 @@ add-at c =
     let now = c .before .before .before .before .before .before .before .before .before .before .before .before .before .before .before .loop in
     let t = tablesOf (s .rows .now) (s .starts .now) (s .codes .now) (s .fixed .now) (length (s .room .now)) in
     let one = c .before .before .before .before .before .before .before .before .before .replay-one in
-    omega (arith, bytes-within t (s .trace .now) (s .mesh .now) (s .log .now) (now .mesh) (now .log) (now .at) (now .added) (now .inv .1) (c .before .before .before .before .before .before .before .before .before .before .before .before .before .before .loop-test .taken) (one .last .0) (one .last .1 .0) (one .result) (rw (now .inv .0 .1) at (one .ensures)) (c .before .if1 .left) (one .kept .1 .0), c .before .before .before .before .before .before .before .before .before .before .before .before .before .before .before .before .before .before .before .before .before .before .before .before .before .before .good .1 .1 .0)
+    omega (arith, bytes-within t (s .trace .now) (s .mesh .now) (s .log .now) (now .mesh) (now .log) (now .at) (now .added) (now .inv .1) (c .before .before .before .before .before .before .before .before .before .before .before .before .before .before .loop-test .taken) (one .last .0) (one .last .1 .0) (one .result) (rw (now .inv .0 .1 .long) at (one .ensures .0)) (c .before .if1 .left) (one .kept .1 .0), c .before .before .before .before .before .before .before .before .before .before .before .before .before .before .before .before .before .before .before .before .before .before .before .before .before .before .good .1 .1 .0)
 
 cast-added : tie.Need-cast-added Inv-loop μ-loop
 cast-added c = omega (arith, c .struct-known3 .given .1 .1 .0)
@@ -93,7 +96,7 @@ add-added c =
     let now = c .before .before .before .before .before .before .before .before .before .before .before .before .before .before .before .before .loop in
     let t = tablesOf (s .rows .now) (s .starts .now) (s .codes .now) (s .fixed .now) (length (s .room .now)) in
     let one = c .before .before .before .before .before .before .before .before .before .before .replay-one in
-    omega (arith, added-within t (s .trace .now) (s .mesh .now) (s .log .now) (now .mesh) (now .log) (now .at) (now .added) (now .inv .1) (c .before .before .before .before .before .before .before .before .before .before .before .before .before .before .before .loop-test .taken) (one .last .0) (one .last .1 .0) (one .result) (rw (now .inv .0 .1) at (one .ensures)) (c .before .before .if1 .left) (one .kept .1 .0), c .before .before .before .before .before .before .before .before .before .before .before .before .before .before .before .before .before .before .before .before .before .before .before .before .before .before .before .good .1 .0 .0)
+    omega (arith, added-within t (s .trace .now) (s .mesh .now) (s .log .now) (now .mesh) (now .log) (now .at) (now .added) (now .inv .1) (c .before .before .before .before .before .before .before .before .before .before .before .before .before .before .before .loop-test .taken) (one .last .0) (one .last .1 .0) (one .result) (rw (now .inv .0 .1 .long) at (one .ensures .0)) (c .before .before .if1 .left) (one .kept .1 .0), c .before .before .before .before .before .before .before .before .before .before .before .before .before .before .before .before .before .before .before .before .before .before .before .before .before .before .before .good .1 .0 .0)
 
 loop-less : tie.Need-loop-less Inv-loop μ-loop
 loop-less c =
@@ -101,7 +104,7 @@ loop-less c =
     let now = c .before .before .before .before .before .before .before .before .before .before .before .before .before .before .before .before .loop in
     let t = tablesOf (s .rows .now) (s .starts .now) (s .codes .now) (s .fixed .now) (length (s .room .now)) in
     let one = c .before .before .before .before .before .before .before .before .before .before .replay-one in
-    omega (arith, some-bytes t (s .trace .now) (s .mesh .now) (s .log .now) (now .mesh) (now .log) (now .at) (now .added) (now .inv .1) (c .before .before .before .before .before .before .before .before .before .before .before .before .before .before .before .loop-test .taken) (one .last .0) (one .last .1 .0) (one .result) (rw (now .inv .0 .1) at (one .ensures)) (c .before .before .if1 .left) (one .kept .1 .0), bytes-within t (s .trace .now) (s .mesh .now) (s .log .now) (now .mesh) (now .log) (now .at) (now .added) (now .inv .1) (c .before .before .before .before .before .before .before .before .before .before .before .before .before .before .before .loop-test .taken) (one .last .0) (one .last .1 .0) (one .result) (rw (now .inv .0 .1) at (one .ensures)) (c .before .before .if1 .left) (one .kept .1 .0))
+    omega (arith, some-bytes t (s .trace .now) (s .mesh .now) (s .log .now) (now .mesh) (now .log) (now .at) (now .added) (now .inv .1) (c .before .before .before .before .before .before .before .before .before .before .before .before .before .before .before .loop-test .taken) (one .last .0) (one .last .1 .0) (one .result) (rw (now .inv .0 .1 .long) at (one .ensures .0)) (c .before .before .if1 .left) (one .kept .1 .0), bytes-within t (s .trace .now) (s .mesh .now) (s .log .now) (now .mesh) (now .log) (now .at) (now .added) (now .inv .1) (c .before .before .before .before .before .before .before .before .before .before .before .before .before .before .before .loop-test .taken) (one .last .0) (one .last .1 .0) (one .result) (rw (now .inv .0 .1 .long) at (one .ensures .0)) (c .before .before .if1 .left) (one .kept .1 .0))
 
 loop-again : tie.Need-loop-again Inv-loop μ-loop
 loop-again c =
@@ -109,7 +112,7 @@ loop-again c =
     let now = c .before .before .before .before .before .before .before .before .before .before .before .before .before .before .before .before .loop in
     let t = tablesOf (s .rows .now) (s .starts .now) (s .codes .now) (s .fixed .now) (length (s .room .now)) in
     let one = c .before .before .before .before .before .before .before .before .before .before .replay-one in
-    ((now .inv .0 .0, one .kept .1 .1 .1 .1 .1 .1 .1 .0 ∙ now .inv .0 .1), one-more t (s .trace .now) (s .mesh .now) (s .log .now) (now .mesh) (now .log) (now .at) (now .added) (now .inv .1) (c .before .before .before .before .before .before .before .before .before .before .before .before .before .before .before .loop-test .taken) (one .last .0) (one .last .1 .0) (one .result) (rw (now .inv .0 .1) at (one .ensures)) (c .before .before .if1 .left) (one .kept .1 .0))
+    ((now .inv .0 .0, room-more t (s .trace .now) (s .mesh .now) (s .log .now) (s .room .now) (now .mesh) (now .log) (now .room) (now .at) (now .added) (now .inv .1) (now .inv .0 .1) (c .before .before .before .before .before .before .before .before .before .before .before .before .before .before .before .loop-test .taken) (one .last .0) (one .last .1 .0) (one .result) (rw (now .inv .0 .1 .long) at (one .ensures .0)) _ (rw (now .inv .0 .1 .long) at (one .ensures .1)) (c .before .before .if1 .left) (one .kept .1 .0) (one .kept .1 .1 .1 .1 .1 .1 .1 .0)), one-more t (s .trace .now) (s .mesh .now) (s .log .now) (now .mesh) (now .log) (now .at) (now .added) (now .inv .1) (c .before .before .before .before .before .before .before .before .before .before .before .before .before .before .before .loop-test .taken) (one .last .0) (one .last .1 .0) (one .result) (rw (now .inv .0 .1 .long) at (one .ensures .0)) (c .before .before .if1 .left) (one .kept .1 .0))
 
 same-length-4 : tie.Need-same-length-4 Inv-loop μ-loop
 same-length-4 c = c .before .loop .inv .1 .long
@@ -118,14 +121,14 @@ same-length-5 : tie.Need-same-length-5 Inv-loop μ-loop
 same-length-5 c = c .before .loop .inv .1 .log-long
 
 same-length-6 : tie.Need-same-length-6 Inv-loop μ-loop
-same-length-6 c = c .before .loop .inv .0 .1
+same-length-6 c = c .before .loop .inv .0 .1 .long
 
 returns-2 : tie.Need-returns-2 Inv-loop μ-loop
 returns-2 c =
     let s = c .before .before .before .before .before .before .before .before .before .before .before .before .args in
     let now = c .before .loop in
     let t = tablesOf (s .rows .now) (s .starts .now) (s .codes .now) (s .fixed .now) (length (s .room .now)) in
-    at-the-end t (s .trace .now) (s .mesh .now) (s .log .now) (now .mesh) (now .log) (now .at) (now .added) (now .inv .1) (c .loop-test .left)
+    (at-the-end t (s .trace .now) (s .mesh .now) (s .log .now) (now .mesh) (now .log) (now .at) (now .added) (now .inv .1) (c .loop-test .left), room-at-the-end t (s .trace .now) (s .mesh .now) (s .log .now) (s .room .now) (now .mesh) (now .log) (now .room) (now .at) (now .added) (now .inv .1) (now .inv .0 .1) (c .loop-test .left))
 
 pub replay-spec : {M : Type 1} → statement M
 replay-spec =

@@ -1,7 +1,9 @@
 use borrow.Author.Needs.{needs}
+use mathlib.Core.Path.{_∙_}
 use lib.ListN.{length}
 use Rattle.mesh.specs.Steps.{tablesOf}
 use Rattle.trace.proofs.DoneRecords.{read-packet, record-refused, record-made}
+use Rattle.trace.proofs.Rooms.{room-refused, room-made}
 use Rattle.trace.proofs.replaying.replay_one.Statement.{statement}
 use Rattle.trace.proofs.replaying.replay_one.Tie as tie
 
@@ -12,7 +14,8 @@ returns : tie.Need-returns
 returns c =
     let s = c .before .before .before .before .before .before .before .before .before .before .before in
     let t = tablesOf (s .args .rows .now) (s .args .starts .now) (s .args .codes .now) (s .args .fixed .now) (length (s .args .room .now)) in
-    record-refused t (s .args .trace .now) (s .args .mesh .now) (s .args .log .now) (c .before .before .read-record .result) (c .before .before .read-record .ensures) (c .if1 .taken)
+    let refused = record-refused t (s .args .trace .now) (s .args .mesh .now) (s .args .log .now) (c .before .before .read-record .result) (c .before .before .read-record .ensures) (c .if1 .taken) in
+    (refused, room-refused t (s .args .trace .now) (s .args .mesh .now) (length (s .args .log .now)) (s .args .room .now) (λ z. c .if1 .taken (refused .refusal ∙ z)))
 
 make-requires : tie.Need-make-requires
 make-requires c κs =
@@ -32,7 +35,7 @@ returns-2 : tie.Need-returns-2
 returns-2 c =
     let s = c .before .before .before .before .before .before .before .before .before .before .before .before .before .before .before .before .before .before .before .before .before .before in
     let t = tablesOf (s .args .rows .now) (s .args .starts .now) (s .args .codes .now) (s .args .fixed .now) (length (s .args .room .now)) in
-    record-made t (s .args .trace .now) (s .args .mesh .now) (s .args .log .now) (c .before .before .before .before .before .before .before .before .before .before .before .before .before .read-record .result) (c .before .before .before .before .before .before .before .before .before .before .before .before .before .read-record .ensures) (c .before .before .before .before .before .before .before .before .before .before .before .if1 .left) (c .before .before .before .before .before .before .make .result) _ _ (c .before .before .before .before .before .before .make .ensures)
+    (record-made t (s .args .trace .now) (s .args .mesh .now) (s .args .log .now) (c .before .before .before .before .before .before .before .before .before .before .before .before .before .read-record .result) (c .before .before .before .before .before .before .before .before .before .before .before .before .before .read-record .ensures) (c .before .before .before .before .before .before .before .before .before .before .before .if1 .left) (c .before .before .before .before .before .before .make .result) _ _ (c .before .before .before .before .before .before .make .ensures .0), room-made t (s .args .trace .now) (s .args .mesh .now) (length (s .args .log .now)) (s .args .room .now) (c .before .before .before .before .before .before .before .before .before .before .before .before .before .read-record .result) (c .before .before .before .before .before .before .before .before .before .before .before .before .before .read-record .ensures) (c .before .before .before .before .before .before .before .before .before .before .before .if1 .left) _ (c .before .before .before .before .before .before .make .ensures .1))
 
 pub replay-one-spec : {M : Type 1} → statement M
 replay-one-spec =
