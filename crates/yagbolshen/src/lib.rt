@@ -36,7 +36,7 @@ ghost use Rattle.buffer.specs.Leaving.{Leaves, Moves, injectLeft, roundLeft, ro
 ghost use Rattle.tree.specs.Call.{treeOf, rowsAfter, startsAfter};
 ghost use Rattle.fewer.specs.Call.{fewerOf, leftAfter, goneAfter};
 ghost use Rattle.trace.specs.Records.{recordRead, writtenOf, writtenOn};
-ghost use Rattle.trace.specs.Replay.{replayOf, Replays};
+ghost use Rattle.trace.specs.Replay.{replayOf, Replays, replayRoom};
 ghost use Rattle.flood.specs.Codes.{floodRefusal, flooded};
 ghost use Rattle.yagbolshen.specs.Settings.{settingOf};
 
@@ -241,6 +241,7 @@ pub extern "C" fn yagbolshen_replay(
     room: &mut [u32],
 ) -> Replayed
     ensures { λ r. ⌜ Replays (now (mesh .entry)) (now (mesh .exit)) (now (log .entry)) (now (log .exit)) r (replayOf (now (mesh .entry)) (tablesOf (now (rows .entry)) (now (starts .entry)) (now (codes .entry)) (now (fixed .entry)) (length (now (room .entry)))) (length (now (log .entry))) (now (trace .entry))) ⌝ }
+    ensures { λ _. ⌜ now (room .exit) ≡ replayRoom (now (mesh .entry)) (tablesOf (now (rows .entry)) (now (starts .entry)) (now (codes .entry)) (now (fixed .entry)) (length (now (room .entry)))) (length (now (log .entry))) (now (trace .entry)) (now (room .entry)) ⌝ }
 {
     trace::replaying::replay(mesh, log, trace, rows, starts, codes, fixed, room)
 }
