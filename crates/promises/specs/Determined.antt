@@ -26,12 +26,14 @@ use Rattle.buffer.specs.Layout.{meshOf, wordsFor, wordsOf}
 use Rattle.buffer.specs.Opening.{sizeOf, openRefusals, opening}
 use Rattle.buffer.specs.Holding.{holdsMesh}
 use Rattle.mesh.specs.Sound.{SoundLine}
+use Rattle.mesh.specs.Steps.{Tables}
 use Rattle.mesh.specs.Calls.{Left, many, chipOf, lineOf, registersRead, countRead, meshRead, linkRead, flightRead}
 use Rattle.buffer.specs.Leaving.{Leaves, Moves, linkLeft}
 use Rattle.trace.specs.declared.Call.{Call}
 use Rattle.trace.specs.declared.Written.{Written}
 use Rattle.trace.specs.declared.Record.{Record}
 use Rattle.trace.specs.Records.{writtenOf, writtenOn, recordRead}
+use Rattle.trace.specs.Replay.{replayRoom}
 use Rattle.trace.specs.Directly.{OneReplay}
 use Rattle.trace.proofs.Directly.{one-replay}
 use Rattle.lists.proofs.Alls.{all-getD}
@@ -114,6 +116,10 @@ read-record-determined s = determined
 -- A replay: its answer, its log, the mesh; and every word where it stopped at its first record.
 pub replay-determined : OneReplay
 replay-determined = one-replay
+
+-- And every word of the room for groups.
+pub replay-room-determined : (l : List ℕ) (t : Tables) (log : ℕ) (s room a b : List ℕ) → a ≡ replayRoom l t log s room → b ≡ replayRoom l t log s room → a ≡ b
+replay-room-determined l t log s room = determined
 
 -- "Every directed link holds at most 8 packets", in every buffer that holds a mesh, as opening and every accepted call leave one.
 pub no-link-above-8 : (l : List ℕ) → holdsMesh l ≡ true → (chip link : ℕ) → chip < many (meshOf l) → link < 6 → length (lineOf (meshOf l) chip link .held) ≤ 8

@@ -36,13 +36,13 @@ module _ (t : Tables) (l : List ℕ) (log : ℕ) (c : Call) (room : List ℕ) wh
   stays e = either-way (eqb (madeLeft l t log c .refusal) 0) (roomMade t (meshOf l) c room) room e
 
   pub room-injection : c .kind ≡ 1 → room ≡ madeRoom l t log c room
-  room-injection k = stays (by-1 room (roomAfterRound t (meshOf l) room) room room (c .kind) k)
+  room-injection k = stays (by-1 room _ room room (c .kind) k)
 
   pub room-change : c .kind ≡ 3 → room ≡ madeRoom l t log c room
-  room-change k = stays (by-3 room (roomAfterRound t (meshOf l) room) room room (c .kind) k)
+  room-change k = stays (by-3 room _ room room (c .kind) k)
 
   pub room-read : (c .kind ≡ 1 → ⊥) → (c .kind ≡ 2 → ⊥) → (c .kind ≡ 3 → ⊥) → room ≡ madeRoom l t log c room
-  room-read x y z = stays (by-else room (roomAfterRound t (meshOf l) room) room room (c .kind) x y z)
+  room-read x y z = stays (by-else room _ room room (c .kind) x y z)
 
   pub room-round : c .kind ≡ 2 → (room₁ : List ℕ) → room₁ ≡ roundRoom l t log room → room₁ ≡ madeRoom l t log c room
   unfolding meshOf
@@ -51,7 +51,8 @@ module _ (t : Tables) (l : List ℕ) (log : ℕ) (c : Call) (room : List ℕ) wh
       let number : madeLeft l t log c .refusal ≡ n =
       ap (λ (x : Left (Unit {0})). x .refusal) (by-2 (injectLeft l t log (c .chip) (packetOf c)) (roundLeft l t log) (linkLeft l (c .chip) (c .link) (eqb (c .up) 1)) (registersLeft l (c .chip)) (c .kind) k)
       ∙ unless-number n (placeIn t (many (meshOf l)) n) (meshOf l) (rounded t same (meshOf l)) in
-      e ∙ (λ i. cond (eqb (sym number i) 0) (sym (by-2 room (roomAfterRound t (meshOf l) room) room room (c .kind) k) i) room)
+      let made : roomMade t (meshOf l) c room ≡ roomAfterRound t (meshOf l) room = by-2 room _ room room (c .kind) k in
+      e ∙ (λ i. cond (eqb (sym number i) 0) (sym made i) room)
 
 -- ---- a record
 
