@@ -361,7 +361,7 @@ yb_record yagbolshen_read_record(const uint8_t *trace, size_t trace_len);
 
 /* Reads the records of a trace one after another and makes their calls on the mesh, each with the rest of the log,
  * and stops at the first refusal. What earlier records did stands, and the call that was refused changes neither
- * mesh nor log. Refuses a record by 12, 13, 14, the first that applies, and then by what its call refuses, in the call's
+ * mesh nor log nor room. Refuses a record by 12, 13, 14, the first that applies, and then by what its call refuses, in the call's
  * own order: an injection 8, 9, 15, 16, 17, 18, 11, 29, 10, 4, a round 8, 15, 16, 17, 18, 11, 29, 10, a link change and a
  * read of registers 8, 9. Tables and room are looked at by records that pass packets alone. A trace of no bytes makes no call
  * and is accepted, whatever is lent with it. Registers that a replay reads are emptied, and handed to nobody. */
