@@ -1,13 +1,18 @@
-//! A round that goes by groups where that pays, in plain Rust: the same groups, rule and checks as the library's.
+//! A round that goes by groups where that pays, in plain Rust: the same groups, rules and checks as the library's. The groups
+//! that a chip's packets ask for are built, each in a block of its own, in one walk over the rows.
 
-use super::{accepted, arrival_at, checks, chips_of, end_round, pass_chip, place_of, set_aside, ASIDE};
+use super::{accepted, arrival_at, checks, chips_of, end_round, pass_chip, place_of, set_aside, ASIDE, PLACE};
 use crate::interface::{Added, LentTables};
 use crate::model::{first_match, LINKS, MOST_ROWS};
 
 const GROUPS: usize = 256;
-/// Where the row numbers begin, behind the starts of the groups and the end of the last.
-const NUMBERS: usize = GROUPS + 1;
+/// Where the blocks begin.
+const BLOCKS: usize = GROUPS + 1;
 const ROW: usize = 3;
+/// Of so many rows the first is looked at before groups are built.
+const SAMPLE: usize = 13;
+/// The most packets that come to a chip in a round.
+const MOST_PACKETS: usize = 48;
 
 pub fn round_in<const JOINED: bool>(mesh: &mut [u32], log: &mut [u32], tables: &LentTables, room: &mut [u32]) -> Added {
     if let Err(refusal) = checks::round::<JOINED>(mesh, log, tables) {
@@ -17,8 +22,7 @@ pub fn round_in<const JOINED: bool>(mesh: &mut [u32], log: &mut [u32], tables: &
     let mut records = 0;
     for chip in 0..chips_of(mesh) {
         let rows = &tables.rows[ROW * tables.starts[chip] as usize..ROW * tables.starts[chip + 1] as usize];
-        records = if !room.is_empty() && pays(arriving(mesh, chip), rows) {
-            build(rows, room);
+        records = if group(mesh, chip, rows, room) {
             let groups = &*room;
             pass_chip(mesh, log, records, chip, tables, |rows, key| grouped_match(rows, groups, key))
         } else {
@@ -29,18 +33,57 @@ pub fn round_in<const JOINED: bool>(mesh: &mut [u32], log: &mut [u32], tables: &
     accepted(records)
 }
 
+/// Answers whether the chip's groups were built.
+fn group(mesh: &[u32], chip: usize, rows: &[u32], room: &mut [u32]) -> bool {
+    if room.is_empty() {
+        return false;
+    }
+    let packets = arriving(mesh, chip);
+    if !worth(packets, rows.len() / ROW) {
+        return false;
+    }
+    let mut tops = [0; MOST_PACKETS];
+    let asked = ask(mesh, chip, room, &mut tops);
+    let pays = pays(packets, rows, room);
+    if pays {
+        build(rows, &tops[..asked], room);
+    }
+    pays
+}
+
 fn arriving(mesh: &[u32], chip: usize) -> usize {
     (0..LINKS as usize).map(|source| mesh[arrival_at(mesh, chip, source) + ASIDE] as usize).sum()
 }
 
-/// What building takes is less than what the lookups spare.
-fn pays(packets: usize, rows: &[u32]) -> bool {
-    let count = rows.len() / ROW;
-    if !(64..=MOST_ROWS).contains(&count) || packets < 16 {
-        return false;
+/// Before a row is looked at.
+fn worth(packets: usize, rows: usize) -> bool {
+    (64..=MOST_ROWS).contains(&rows) && 6 * rows + 1600 < packets * (rows - 40)
+}
+
+/// Marks the groups that are asked for, and answers how many they are; their numbers stand first in `tops`.
+fn ask(mesh: &[u32], chip: usize, room: &mut [u32], tops: &mut [u32; MOST_PACKETS]) -> usize {
+    room[..GROUPS].fill(0);
+    let mut asked = 0;
+    for source in 0..LINKS as usize {
+        let aside = &mesh[arrival_at(mesh, chip, source) + ASIDE..];
+        for packet in aside[1..1 + aside[0] as usize * PLACE].chunks_exact(PLACE) {
+            let mark = &mut room[top_of(packet[1])];
+            if *mark == 0 {
+                *mark = 1;
+                tops[asked] = top_of(packet[1]) as u32;
+                asked += 1;
+            }
+        }
     }
-    let unfixed = rows.chunks_exact(ROW).filter(|row| !fixes_top(row)).count();
-    15 * count + 1400 * unfixed + 1400 < packets * count.saturating_sub(3 * unfixed)
+    asked
+}
+
+/// What building takes is less than what the lookups spare.
+fn pays(packets: usize, rows: &[u32], room: &[u32]) -> bool {
+    let goes_in = |row: &[u32]| !fixes_top(row) || room[top_of(row[0])] != 0;
+    let taken = rows.chunks_exact(SAMPLE * ROW).filter(|thirteen| goes_in(&thirteen[..ROW])).count();
+    let count = rows.len() / ROW;
+    6 * count + 104 * taken + 1600 < packets * count.saturating_sub(40 * taken + 40)
 }
 
 fn fixes_top(row: &[u32]) -> bool {
@@ -51,34 +94,30 @@ fn top_of(key: u32) -> usize {
     (key >> 24) as usize
 }
 
-/// Rows counted by group, starts written a word further on than they belong, and moved on as the numbers are filled in.
-fn build(rows: &[u32], room: &mut [u32]) {
-    let (mut counts, mut others) = ([0; GROUPS], 0);
-    for row in rows.chunks_exact(ROW) {
-        if fixes_top(row) {
-            counts[top_of(row[0])] += 1;
-        } else {
-            others += 1;
+/// The groups that are asked for are marked by 1 in the room, which is one more than the rows that they have so far.
+fn build(rows: &[u32], tops: &[u32], room: &mut [u32]) {
+    let count = rows.len() / ROW;
+    let (words, blocks) = room.split_at_mut(BLOCKS);
+    let mut put = |group: usize, number: u32| {
+        let word = words[group];
+        if word != 0 {
+            blocks[group * count + word as usize - 1] = number;
+            words[group] = word + 1;
         }
-    }
-    let (starts, numbers) = room.split_at_mut(NUMBERS);
-    starts[0] = 0;
-    let mut start = 0;
-    for (group, count) in counts.iter().enumerate() {
-        starts[group + 1] = start;
-        start += count + others;
-    }
+    };
     for (row, number) in rows.chunks_exact(ROW).zip(0..) {
-        let groups = if fixes_top(row) { top_of(row[0])..top_of(row[0]) + 1 } else { 0..GROUPS };
-        for start in &mut starts[groups.start + 1..groups.end + 1] {
-            numbers[*start as usize] = number;
-            *start += 1;
+        if fixes_top(row) {
+            put(top_of(row[0]), number);
+        } else {
+            tops.iter().for_each(|&top| put(top as usize, number));
         }
     }
 }
 
 fn grouped_match(rows: &[u32], groups: &[u32], key: u32) -> Option<u32> {
-    let (first, end) = (groups[top_of(key)] as usize, groups[top_of(key) + 1] as usize);
+    let group = top_of(key);
+    let first = BLOCKS + group * (rows.len() / ROW);
     let row = |&number: &u32| &rows[ROW * number as usize..][..ROW];
-    groups[NUMBERS + first..NUMBERS + end].iter().map(row).find(|row| key & row[1] == row[0]).map(|row| row[2])
+    let numbers = &groups[first..first + groups[group] as usize - 1];
+    numbers.iter().map(row).find(|row| key & row[1] == row[0]).map(|row| row[2])
 }
