@@ -69,8 +69,8 @@ impl Pair {
         let done = match &mut self.mesh {
             Some(mesh) if refused.number == 0 => {
                 tally.round_begins(mesh, room);
-                let built = groups::after_round(mesh, tables, self.lender.expected());
-                tally.rooms.built(Call::Round, &built);
+                let written = groups::after_round(mesh, tables, self.lender.expected());
+                tally.rooms.written(Call::Round, &written);
                 mesh.round(tables)
             }
             _ => Done::default(),

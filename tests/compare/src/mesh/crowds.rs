@@ -1,13 +1,14 @@
-//! Meshes with many packets for each chip and tables of 64 to 1,024 rows, for which groups pay: rounds, and replays of
-//! injections and rounds.
+//! Meshes with many packets for each chip and tables of 64 to 1,024 rows, for which groups mostly pay: rounds, and replays
+//! of injections and rounds.
 
+use super::layout::{link_at, HELD, MOST_HELD, PLACE, PLACES_AT};
 use super::packets;
 use super::pair::Pair;
 use super::sequence::new_pair;
 use super::tables::{Tables, TABLE_DAMAGES};
 use super::tally::MeshTally;
 use crate::interface::KeptCall;
-use crate::model::MOST_ROWS;
+use crate::model::{self, MOST_ROWS};
 use crate::random::Random;
 use crate::records::model::{kind, record_of};
 
@@ -39,6 +40,12 @@ pub fn run(tally: &mut MeshTally, seed: u64, number: u64, prints: bool) {
         crowd.rounds();
         crowd.fill();
         crowd.replay();
+        crowd.fill_links();
+        if crowd.random.one_in(2) {
+            crowd.rounds();
+        } else {
+            crowd.replay();
+        }
     }
 }
 
@@ -60,8 +67,8 @@ fn random_keys(random: &mut Random) -> Vec<u32> {
 fn random_tables(random: &mut Random, chips: u32, keys: &[u32]) -> Tables {
     let mut tables = Tables { rows: vec![], starts: vec![0], ..Tables::random(random, chips as usize, keys) };
     for _ in 0..chips {
-        let any = 64 + random.below(961);
-        let count = random.pick(&[any, any, 64, 63, 128, 256, MOST_ROWS as u32, MOST_ROWS as u32]);
+        let (any, few) = (64 + random.below(961), 63 + random.below(65));
+        let count = random.pick(&[any, any, few, few, 128, 256, MOST_ROWS as u32, MOST_ROWS as u32]);
         let unfixed = random.pick(&[0, 0, 1, 2, 4, 8, count / 16, count / 2]);
         for _ in 0..count {
             let fixes = random.below(count) >= unfixed;
@@ -99,6 +106,33 @@ impl Crowd<'_> {
                 self.pair.inject(self.tally, 6, chip, &packet, &self.tables.lent());
             }
         }
+    }
+
+    /// Links with one packet or two, or with all that they hold, written as calls may have left them. Their words are known
+    /// keys, all the same one, or have a top byte for each that comes to a chip.
+    fn fill_links(&mut self) {
+        let (few, way, one) = (self.random.one_in(2), self.random.below(3), self.known_key());
+        for (chip, link) in (0..self.width * self.height).flat_map(|chip| (0..LINKS).map(move |link| (chip, link))) {
+            let at = link_at(chip as usize, link as usize);
+            let held = if few { 1 + self.random.below(2) } else { MOST_HELD };
+            self.pair.words[at + HELD] = held;
+            for place in 0..held {
+                let word = match way {
+                    0 => self.known_key(),
+                    1 => one,
+                    _ => one.wrapping_add(5 * (MOST_HELD * link + place) << 24),
+                };
+                let kind = self.random.pick(&[model::kind::MC, model::kind::MC, model::kind::MC, model::kind::FIXED]);
+                let control = kind << 6 | 1 ^ word.count_ones() & 1;
+                let at = at + PLACES_AT + PLACE * place as usize;
+                self.pair.words[at..at + PLACE].copy_from_slice(&[control, word, 0]);
+            }
+        }
+        self.pair.read_anew();
+    }
+
+    fn known_key(&mut self) -> u32 {
+        self.keys[self.random.below(self.keys.len() as u32) as usize]
     }
 
     fn packet(&mut self) -> Vec<u8> {

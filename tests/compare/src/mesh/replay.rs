@@ -2,7 +2,7 @@
 //! and their calls made on the model's mesh, "each with the rest of the log", up to the first refusal.
 
 use super::bad_tables::Refused;
-use super::groups::{self, Built};
+use super::groups::{self, Written};
 use super::model::{Done, Mesh};
 use super::refusals;
 use crate::interface::{KeptCall, LentTables, Registers, Replayed};
@@ -21,8 +21,8 @@ pub struct Played {
     pub registers: Vec<Registers>,
     /// The call that was refused, unless its record was.
     pub refused: Option<KeptCall>,
-    /// The groups that its rounds built.
-    pub built: Vec<Built>,
+    /// What its rounds wrote in the room for groups.
+    pub written: Vec<Written>,
 }
 
 /// `room` words of the log are lent; `groups` is the room for groups.
@@ -67,7 +67,7 @@ impl Played {
         match call.kind {
             kind::INJECTION => self.did(mesh.inject(call.chip, packet_of(call), tables)),
             kind::ROUND => {
-                self.built.extend(groups::after_round(mesh, tables, groups));
+                self.written.extend(groups::after_round(mesh, tables, groups));
                 self.did(mesh.round(tables));
             }
             kind::LINK_CHANGE => mesh.set_link(call.chip, call.link, call.up == 1),

@@ -40,7 +40,7 @@ impl Pair {
         }
         self.settle_room();
         tally.rooms.lent(Call::Replay, tables, self.mesh.as_ref(), answer.refusal, room);
-        tally.rooms.built(Call::Replay, &played.built);
+        tally.rooms.written(Call::Replay, &played.written);
         self.settle_account(in_flight, &played.done);
         tally.refusal(Call::Replay, answer.refusal);
         let refused = Refused { number: answer.refusal, place: answer.place };

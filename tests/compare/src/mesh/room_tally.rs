@@ -1,7 +1,7 @@
-//! How often each kind of room for groups was lent, and how often groups were really used.
+//! How often each kind of room for groups was lent, and how often groups were asked for, built and used.
 
 use super::bad_tables::{longest_table, Faults};
-use super::groups::{room_for, Built};
+use super::groups::{room_for, Written};
 use super::model::Mesh;
 use super::tally::Call;
 use crate::interface::LentTables;
@@ -37,18 +37,31 @@ impl RoomCase {
     }
 }
 
-/// Groups of one chip.
-const BUILT: Events<Built> = &[
-    ("64 rows", |built| built.rows == 64),
-    ("1,024 rows", |built| built.rows == 1024),
-    ("rows between", |built| built.rows > 64 && built.rows < 1024),
-    ("every row fixes the top byte", |built| built.fix_none + built.fix_part == 0),
-    ("a row fixes none of it", |built| built.fix_none > 0),
-    ("a row fixes part of it", |built| built.fix_part > 0),
-    ("room behind the groups", |built| built.words < built.lent),
-    ("a packet goes by a row of one group", |built| built.by_group > 0),
-    ("a packet goes by a row of every group", |built| built.by_every > 0),
-    ("a packet goes by no row", |built| built.by_none > 0),
+/// What was written for one chip whose groups were built.
+const BUILT: Events<Written> = &[
+    ("fewer than 128 rows", |written| written.rows < 128),
+    ("1,024 rows", |written| written.rows == 1024),
+    ("rows between", |written| written.rows >= 128 && written.rows < 1024),
+    ("8 to 10 packets", |written| written.packets <= 10),
+    ("48 packets, the most", |written| written.packets == 48),
+    ("48 groups are asked for", |written| written.asked.len() == 48),
+    ("one group is asked for", |written| written.asked.len() == 1),
+    ("one is asked for by no MC packet", |written| written.by_others > 0),
+    ("one that is asked for has no row", |written| written.empty > 0),
+    ("every row fixes the top byte", |written| written.fix_none + written.fix_part == 0),
+    ("a row fixes none of it", |written| written.fix_none > 0),
+    ("a row fixes part of it", |written| written.fix_part > 0),
+    ("room behind the groups", |written| room_for(written.rows) < written.lent),
+    ("a packet goes by a row of one group", |written| written.by_group > 0),
+    ("a packet goes by a row of every group", |written| written.by_every > 0),
+    ("a packet goes by no row", |written| written.by_none > 0),
+];
+
+/// What was written for one chip, built or not.
+const ASKED: Events<Written> = &[
+    ("built", |written| written.built),
+    ("not built", |written| !written.built),
+    ("not built, every row fixes the top byte", |written| !written.built && written.fix_none + written.fix_part == 0),
 ];
 
 const CALLS: [&str; 3] = ["inject", "round", "replay"];
@@ -56,6 +69,7 @@ const CALLS: [&str; 3] = ["inject", "round", "replay"];
 #[derive(Default)]
 pub struct RoomTally {
     lent: [[u64; LENT.len()]; CALLS.len()],
+    asked: [[u64; ASKED.len()]; CALLS.len()],
     built: [[u64; BUILT.len()]; CALLS.len()],
     many_chips: u64,
     packets: u64,
@@ -71,11 +85,15 @@ impl RoomTally {
         count(LENT, &mut self.lent[number(call)], &case);
     }
 
-    /// The groups of one round, or of all rounds of a replay.
-    pub fn built(&mut self, call: Call, all: &[Built]) {
-        all.iter().for_each(|built| count(BUILT, &mut self.built[number(call)], built));
-        self.many_chips += u64::from(all.windows(2).any(|pair| pair[0].chip < pair[1].chip));
-        self.packets += all.iter().map(|built| (built.by_group + built.by_every + built.by_none) as u64).sum::<u64>();
+    /// What one round wrote, or all rounds of a replay.
+    pub fn written(&mut self, call: Call, all: &[Written]) {
+        all.iter().for_each(|written| count(ASKED, &mut self.asked[number(call)], written));
+        for built in all.iter().filter(|written| written.built) {
+            count(BUILT, &mut self.built[number(call)], built);
+            self.packets += (built.by_group + built.by_every + built.by_none) as u64;
+        }
+        let over = |pair: &[Written]| pair[0].chip < pair[1].chip && !pair[0].asked.is_subset(&pair[1].asked);
+        self.many_chips += u64::from(all.windows(2).any(over));
     }
 
     /// Prints a line for each, and answers whether all were reached.
@@ -84,10 +102,13 @@ impl RoomTally {
         for (name, counts) in CALLS.iter().zip(&self.lent) {
             all &= print_all(&format!("{name}, room for groups, "), LENT, counts);
         }
+        for (name, counts) in CALLS.iter().zip(&self.asked).skip(1) {
+            all &= print_all(&format!("{name}, groups of a chip asked for, "), ASKED, counts);
+        }
         for (name, counts) in CALLS.iter().zip(&self.built).skip(1) {
             all &= print_all(&format!("{name}, groups of a chip, "), BUILT, counts);
         }
-        all & print_line("groups of one chip over those of another", self.many_chips)
+        all & print_line("groups of one chip not asked for by the next", self.many_chips)
             & print_line("packet looked up by groups", self.packets)
     }
 }
