@@ -1,14 +1,14 @@
 //! Meshes with many packets for each chip and tables of 64 to 1,024 rows, for which groups mostly pay: rounds, and replays
 //! of injections and rounds.
 
-use super::layout::{link_at, HELD, MOST_HELD, PLACE, PLACES_AT};
+use super::layout::MOST_HELD;
 use super::packets;
 use super::pair::Pair;
 use super::sequence::new_pair;
 use super::tables::{Tables, TABLE_DAMAGES};
 use super::tally::MeshTally;
 use crate::interface::KeptCall;
-use crate::model::{self, MOST_ROWS};
+use crate::model::{kind as packet, MOST_ROWS};
 use crate::random::Random;
 use crate::records::model::{kind, record_of};
 
@@ -113,22 +113,18 @@ impl Crowd<'_> {
     fn fill_links(&mut self) {
         let (few, way, one) = (self.random.one_in(2), self.random.below(3), self.known_key());
         for (chip, link) in (0..self.width * self.height).flat_map(|chip| (0..LINKS).map(move |link| (chip, link))) {
-            let at = link_at(chip as usize, link as usize);
             let held = if few { 1 + self.random.below(2) } else { MOST_HELD };
-            self.pair.words[at + HELD] = held;
-            for place in 0..held {
+            let next = |place: u32| {
                 let word = match way {
                     0 => self.known_key(),
                     1 => one,
                     _ => one.wrapping_add(5 * (MOST_HELD * link + place) << 24),
                 };
-                let kind = self.random.pick(&[model::kind::MC, model::kind::MC, model::kind::MC, model::kind::FIXED]);
-                let control = kind << 6 | 1 ^ word.count_ones() & 1;
-                let at = at + PLACES_AT + PLACE * place as usize;
-                self.pair.words[at..at + PLACE].copy_from_slice(&[control, word, 0]);
-            }
+                (self.random.pick(&[packet::MC, packet::MC, packet::MC, packet::FIXED]), word)
+            };
+            let packets: Vec<_> = (0..held).map(next).collect();
+            self.pair.hold(chip, link, &packets);
         }
-        self.pair.read_anew();
     }
 
     fn known_key(&mut self) -> u32 {

@@ -10,7 +10,7 @@ use std::collections::BTreeSet;
 const ROW: usize = 3;
 const GROUPS: usize = 256;
 /// Of so many rows the first is looked at before groups are built.
-const SAMPLE: usize = 13;
+pub const SAMPLE: usize = 13;
 
 /// "257 numbers plus 256 for each row".
 pub fn room_for(rows: usize) -> usize {
@@ -60,14 +60,19 @@ pub fn after_round(mesh: &Mesh, tables: &LentTables, room: &mut [u32]) -> Vec<Wr
 
 /// The team's rule for when it is worth it to ask.
 fn worth(packets: usize, rows: usize) -> bool {
-    (64..=1024).contains(&rows) && 6 * rows + 1600 < packets * (rows - 40)
+    (64..=1024).contains(&rows) && spares(packets, rows, 0)
 }
 
 /// And for when building pays.
 fn pays(packets: usize, asked: &BTreeSet<usize>, rows: &[&[u32]]) -> bool {
     let samples = rows.chunks_exact(SAMPLE).map(|thirteen| thirteen[0]);
     let taken = samples.filter(|row| asked.iter().any(|&group| is_in(group, row))).count();
-    6 * rows.len() + 104 * taken + 1600 < packets * rows.len().saturating_sub(40 * taken + 40)
+    spares(packets, rows.len(), taken)
+}
+
+/// Of the rows that are looked at, so many go into a group.
+pub fn spares(packets: usize, rows: usize, taken: usize) -> bool {
+    6 * rows + 104 * taken + 1600 < packets * rows.saturating_sub(40 * taken + 40)
 }
 
 fn top(word: u32) -> usize {

@@ -12,8 +12,9 @@ const CANARY: usize = 16;
 
 pub struct Lender {
     random: Random,
-    /// Whether room that is too short is lent too.
+    /// Whether room that is too short is lent too, and whether there is always room enough.
     pub lends_short: bool,
+    pub lends_always: bool,
     memory: Vec<u32>,
     /// What the memory has to be.
     expected: Vec<u32>,
@@ -26,13 +27,14 @@ impl Lender {
     pub fn new(name: &str) -> Lender {
         let seed = name.bytes().fold(0u64, |seed, byte| seed.wrapping_mul(257).wrapping_add(byte.into()));
         let random = Random::new(seed);
-        Lender { random, lends_short: false, memory: vec![], expected: vec![], at: 0, length: 0 }
+        Lender { random, lends_short: false, lends_always: false, memory: vec![], expected: vec![], at: 0, length: 0 }
     }
 
     /// The tables with room for the next call.
     pub fn lend<'a>(&mut self, tables: &LentTables<'a>) -> LentTables<'a> {
         let enough = room_for(longest_table(tables.starts).min(MOST_ROWS));
-        self.length = match self.random.below(64) {
+        let kind = if self.lends_always { 3 + self.random.below(29) } else { self.random.below(64) };
+        self.length = match kind {
             0 if self.lends_short => enough - 1,
             1 if self.lends_short => 1,
             2 if self.lends_short => self.random.pick(&[2, 255, 256]) as usize,

@@ -22,6 +22,7 @@ mod most_units;
 mod packets;
 mod pair;
 mod passing;
+mod paying;
 mod place_tally;
 mod refusals;
 mod refused_steps;
@@ -42,11 +43,12 @@ pub use tally::MeshTally;
 pub use traces::run as run_trace;
 
 /// What is no sequence of random calls: the known passes, every word of some buffers, every byte of some traces, tables
-/// that are wrong at every place, and more drops on a chip than its registers count.
+/// that are wrong at every place, more drops on a chip than its registers count, and where groups begin to pay.
 pub fn systematic(tally: &mut MeshTally, seed: u64) {
     known::all();
     every_word::all(tally, seed);
     every_byte::all(tally, seed);
     every_place::all(tally, seed);
     most_units::all(tally, seed);
+    paying::all(tally, seed);
 }

@@ -3,7 +3,7 @@
 
 use super::account;
 use super::bad_tables::Refused;
-use super::layout::{mesh_in, words_for};
+use super::layout::{link_at, mesh_in, words_for, HELD, LINK, PLACE, PLACES_AT};
 use super::lending::Lender;
 use super::model::{Done, Mesh};
 use crate::interface::Added;
@@ -41,6 +41,18 @@ impl Pair {
     pub fn read_anew(&mut self) {
         self.mesh = mesh_in(&self.words[..self.lent]);
         self.before.copy_from_slice(&self.words);
+    }
+
+    /// A link holds packets of these types and words, without payload, as calls may have left it.
+    pub fn hold(&mut self, chip: u32, link: u32, packets: &[(u32, u32)]) {
+        let words = &mut self.words[link_at(chip as usize, link as usize)..][..LINK];
+        words[HELD] = packets.len() as u32;
+        for (place, &(kind, word)) in words[PLACES_AT..].chunks_exact_mut(PLACE).zip(packets) {
+            let even = kind << 6;
+            let parity = 1 ^ (even.count_ones() + word.count_ones()) & 1;
+            place.copy_from_slice(&[even | parity, word, 0]);
+        }
+        self.read_anew();
     }
 
     pub fn begin(&mut self, call: &'static str, given: impl Fn() -> String) {
