@@ -296,9 +296,9 @@ yb_found yagbolshen_find(const yb_row *rows, size_t rows_len, uint32_t key);
  * `room` is lent for groups, by which a lookup skips rows: those of a table grouped by the top byte of the key where the
  * mask fixes all of it, other rows in every group, in the order of the table. A `room_len` of 0, and the pointer may then be
  * NULL, is the plain search, row by row. Any other room under 257 numbers plus 256 for each row of the longest table (of one
- * chip) is refused by 29, after 11. Answers, mesh and log are the same with room and without. A round builds the groups of a
- * chip, afresh and once for all packets that arrive there, where that pays: for many packets and rows, few of them without a
- * fixed top byte. What the room held before counts for nothing; what it holds after stands in docs/LAYOUT.md. A call that is
+ * chip) is refused by 29, after 11. Answers, mesh and log are the same with room and without. A round builds the groups that
+ * the packets which arrive at a chip ask for, afresh and once for all of them, where that pays: for many packets and rows, few
+ * of which are in these groups. What the room held before counts for nothing; what it holds after stands in docs/LAYOUT.md. A call that is
  * refused, an injection and a pass leave it as it came; a replay leaves it as the rounds that it made do. */
 
 /* The words that a mesh needs. Refuses 7. */

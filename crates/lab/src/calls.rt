@@ -31,6 +31,13 @@ use sheet::board::x_of;
 use sheet::board::y_of;
 use std::num::wrapping_add_u64;
 
+// Room for the groups of 1,024 rows, which are a chip's most: 257 numbers and 256 for each row.
+const ROOM: usize = 262401;
+
+const MANY_ROWS: usize = 65536;
+
+const MANY_PACKETS: u32 = 2048;
+
 // Injects the packet of so many bytes at a chip.
 pub fn send(
     before: Course,
@@ -141,8 +148,8 @@ pub fn is_quiet(mesh: &[u32; WORDS]) -> bool {
     look_mesh(mesh).in_flight == 0
 }
 
-// A round with no room lent: the plain search.
-pub fn plain_round(
+// A round. Room for groups is lent where it may pay.
+pub fn lent_round(
     mesh: &mut [u32; WORDS],
     log: &mut [u32; LOG],
     rows: &[u32],
@@ -150,8 +157,29 @@ pub fn plain_round(
     codes: &[u8],
     fixed: &[u32],
 ) -> Added {
+    if may_pay(mesh, rows) {
+        return round_in_room(mesh, log, rows, starts, codes, fixed);
+    }
     let mut none = [0u32; 0];
     round(mesh, log, rows, starts, codes, fixed, &mut none)
+}
+
+// To clear the room takes as long as a hundred thousand rows do: it pays where many packets meet long tables.
+fn may_pay(mesh: &[u32; WORDS], rows: &[u32]) -> bool {
+    (MANY_ROWS <= rows.len() / 3) & (MANY_PACKETS <= look_mesh(mesh).in_flight)
+}
+
+// The room stands here, and not with the program's other memory: most runs need none.
+fn round_in_room(
+    mesh: &mut [u32; WORDS],
+    log: &mut [u32; LOG],
+    rows: &[u32],
+    starts: &[u32],
+    codes: &[u8],
+    fixed: &[u32],
+) -> Added {
+    let mut room = [0u32; ROOM];
+    round(mesh, log, rows, starts, codes, fixed, &mut room)
 }
 
 pub fn one_round(
@@ -163,7 +191,7 @@ pub fn one_round(
     codes: &[u8],
     fixed: &[u32],
 ) -> Course {
-    let a = plain_round(mesh, log, rows, starts, codes, fixed);
+    let a = lent_round(mesh, log, rows, starts, codes, fixed);
     let mut c = answered_lent(going_on(before), a.refusal, a.place, rows, starts);
     if a.refusal == 0 {
         c.rounds = wrapping_add_u64(c.rounds, 1);

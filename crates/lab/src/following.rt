@@ -1,7 +1,7 @@
 // One packet alone in FILE's mesh: every pass of it, told before the round that makes it.
 use super::calls::first_bytes;
 use super::calls::is_quiet;
-use super::calls::plain_round;
+use super::calls::lent_round;
 use super::passes::tell_pass;
 use super::telling::number;
 use super::telling::text;
@@ -75,7 +75,7 @@ fn follow(
         }
         number = wrapping_add_u64(number, 1);
         tell_round(b, number, mesh, rows, starts, codes, fixed);
-        plain_round(mesh, log, rows, starts, codes, fixed);
+        lent_round(mesh, log, rows, starts, codes, fixed);
         left -= 1;
     }
     number

@@ -30,7 +30,7 @@ use sheet::board::ROWS;
 use sheet::board::STARTS;
 use sheet::board::WORDS;
 
-// All memory of the program stands here.
+// All memory of the program stands here, but for the room that a round may be lent (`calls`).
 fn main() {
     let mut rows = [0u32; ROWS];
     let mut starts = [0u32; STARTS];

@@ -30,8 +30,8 @@ wrapping-add-u64-requires c κs = search needs
 tell-round-requires : tie.Need-tell-round-requires Inv-loop μ-loop
 tell-round-requires c κs = search needs
 
-plain-round-requires : tie.Need-plain-round-requires Inv-loop μ-loop
-plain-round-requires c κs = search needs
+lent-round-requires : tie.Need-lent-round-requires Inv-loop μ-loop
+lent-round-requires c κs = search needs
 
 sub-left : tie.Need-sub-left Inv-loop μ-loop
 sub-left c = search needs
@@ -61,7 +61,7 @@ follow-spec =
     is-quiet-requires
     wrapping-add-u64-requires
     tell-round-requires
-    plain-round-requires
+    lent-round-requires
     sub-left
     loop-less
     loop-again
