@@ -27,13 +27,26 @@ pub fn across_link(width: u32, height: u32, x: u32, y: u32, i: u32) -> u32
     ensures { λ r. ⌜ ((chip : ℕ) → x ≡ chip % width → y ≡ chip / width → r ≡ across width height chip i) ⌝ }
     ensures { λ r. ⌜ r < 144 ⌝ }
 {
-    let north = wrapped(y + step_north(height, i), height);
-    let east = wrapped(x + step_east(width, i), width);
-    north * width + east
+    north_of(height, y, i) * width + east_of(width, x, i)
+}
+
+// How far east the chip at the other end of link i lies, and how far north.
+pub fn east_of(width: u32, x: u32, i: u32) -> u32
+    requires { ⌜ ((1 ≤ width) × (width ≤ 12)) × (x < width) ⌝ }
+    ensures { λ r. ⌜ r ≡ (x + stepEast width i) % width ⌝ }
+{
+    wrapped(x + step_east(width, i), width)
+}
+
+pub fn north_of(height: u32, y: u32, i: u32) -> u32
+    requires { ⌜ ((1 ≤ height) × (height ≤ 12)) × (y < height) ⌝ }
+    ensures { λ r. ⌜ r ≡ (y + stepNorth height i) % height ⌝ }
+{
+    wrapped(y + step_north(height, i), height)
 }
 
 // A place past the last, back at the first: what is left of a division, without one.
-fn wrapped(place: u32, size: u32) -> u32
+pub fn wrapped(place: u32, size: u32) -> u32
     requires { ⌜ place < size + size ⌝ }
     ensures { λ r. ⌜ r ≡ place % size ⌝ }
 {
