@@ -15,5 +15,6 @@ pub mod RouteBits
 pub mod RowByRow
 pub mod Signs
 pub mod SourceAlone
+pub mod Standing
 pub mod StaysATree
 pub mod TargetByTarget

@@ -45,16 +45,21 @@ read-count n h = toZ-pos w32 n (omega arith)
 pub neg-few : (n : ℕ) → n ≤ 11 → natAbs (negℤ (pos n)) ≤ 11
 neg-few n h = rw neg-size h
 
+-- a number that is another one, and small
+pub record Few (z count : ℤ) : Type 0 where
+  pub is : z ≡ count
+  pub few : natAbs count ≤ 11
+
 -- a way made of two numbers that were read back
-module _ (e n e′ n′ : ℤ) (east : e ≡ e′) (north : n ≡ n′) (few-east : natAbs e′ ≤ 11) (few-north : natAbs n′ ≤ 11) where
+module _ {e n e′ n′ : ℤ} (east : Few e e′) (north : Few n n′) where
   pub way-made : _≡_ {A = Way} (record { east = toZ w32 (ofZ w32 e); north = toZ w32 (ofZ w32 n) }) (record { east = e′; north = n′ })
   way-made =
-      let a = ap (λ (z : ℤ). toZ w32 (ofZ w32 z)) east ∙ read-small e′ few-east in
-      let b = ap (λ (z : ℤ). toZ w32 (ofZ w32 z)) north ∙ read-small n′ few-north in
+      let a = ap (λ (z : ℤ). toZ w32 (ofZ w32 z)) (east .is) ∙ read-small e′ (east .few) in
+      let b = ap (λ (z : ℤ). toZ w32 (ofZ w32 z)) (north .is) ∙ read-small n′ (north .few) in
       λ i. record { east = a i; north = b i }
 
   pub small-way : Small (record { east = toZ w32 (ofZ w32 e); north = toZ w32 (ofZ w32 n) })
-  small-way = subst Small (sym way-made) (record { east-small = few-east; north-small = few-north })
+  small-way = subst Small (sym way-made) (record { east-small = east .few; north-small = north .few })
 
 -- ---- the sign
 

@@ -6,13 +6,13 @@ use super::targets::set_at;
 use super::walking::legs_of;
 use super::walking::link_at;
 use super::ways::way_between;
-use links::across::across_link;
+use links::across::east_of;
+use links::across::north_of;
 use steps::wants::bit;
 ghost use mathlib.Core.Path.{_≡_};
 ghost use mathlib.Core.Bool.{true};
-ghost use Prim.Native.Nat.{_*_, _<_};
+ghost use Prim.Native.Nat.{_+_, _*_, _<_};
 ghost use Rattle.tables.specs.Sizes.{sizeFine};
-ghost use Rattle.links.specs.Across.{across};
 ghost use Rattle.tree.specs.Way.{linksOf};
 ghost use Rattle.tree.specs.Growing.{targetsOf, lastShared, withPart, withTarget, grownBy};
 ghost use Rattle.tree.specs.Call.{allThere, setsFine};
@@ -82,11 +82,15 @@ fn last_shared(width: u32, height: u32, source: u32, way: Way, entered: &[u8; 14
     let end = legs.end;
     let mut from = source;
     let mut at: usize = 0;
-    let mut chip = source;
+    let mut x = source % width;
+    let mut y = source / width;
     let mut j: usize = 0;
     while j < end {
-        chip = next_chip(width, height, chip, link_at(legs, j));
+        let link = link_at(legs, j);
+        x = east_of(width, x, link);
+        y = north_of(height, y, link);
         j += 1;
+        let chip = number_of(width, height, x, y);
         if entered[chip as usize] != OUTSIDE {
             from = chip;
             at = j;
@@ -112,20 +116,25 @@ fn add_links(
     let legs = legs_of(way);
     let end = legs.end;
     let mut chip = rest.chip;
+    let mut x = chip % width;
+    let mut y = chip / width;
     let mut j = rest.at;
     while j < end {
         let link = link_at(legs, j);
         let from = chip as usize;
         routes[from] = routes[from] | bit(link);
-        chip = next_chip(width, height, chip, link);
+        x = east_of(width, x, link);
+        y = north_of(height, y, link);
+        chip = number_of(width, height, x, y);
         entered[chip as usize] = link as u8;
         j += 1;
     }
 }
 
-fn next_chip(width: u32, height: u32, chip: u32, link: u32) -> u32
-    requires { ⌜ (sizeFine width height ≡ true) × (chip < height * width) ⌝ }
-    ensures { λ r. ⌜ (r ≡ across width height chip link) × (r < height * width) ⌝ }
+// Chips by number y * W + x.
+fn number_of(width: u32, height: u32, x: u32, y: u32) -> u32
+    requires { ⌜ (sizeFine width height ≡ true) × ((x < width) × (y < height)) ⌝ }
+    ensures { λ r. ⌜ (r ≡ y * width + x) × (r < height * width) ⌝ }
 {
-    across_link(width, height, chip % width, chip / width, link)
+    y * width + x
 }

@@ -1,6 +1,7 @@
 // The way that is taken to a chip: signed steps east and north, least over all ways round the mesh.
 use super::Way;
 use super::walking::legs_of;
+use links::across::wrapped;
 ghost use mathlib.Core.Path.{_≡_};
 ghost use mathlib.Core.Bool.{true};
 ghost use lib.IntN.{pos, negℤ};
@@ -23,7 +24,7 @@ fn forward(size: u32, from: u32, to: u32) -> u32
     requires { ⌜ (from < size) × ((to < size) × (size ≤ 12)) ⌝ }
     ensures { λ r. ⌜ (r ≡ offset size from to) × (r < size) ⌝ }
 {
-    (to + (size - from)) % size
+    wrapped(to + (size - from), size)
 }
 
 // The least way of each pair of directions, and the least of the four. Forwards in both, steps beyond the smaller number cost nothing up to the larger, and are taken.
@@ -32,10 +33,10 @@ fn way_to(width: u32, height: u32, east: u32, north: u32) -> Way
     ensures { λ r. ⌜ (r ≡ wayTo width height east north) × Small r ⌝ }
 {
     let far = larger(east, north);
-    let most_east = signed(far - (far - east) % width);
-    let most_north = signed(far - (far - north) % height);
-    let west = negative((width - east) % width);
-    let south = negative((height - north) % height);
+    let most_east = signed(far - within_ring(far - east, width));
+    let most_north = signed(far - within_ring(far - north, height));
+    let west = negative(wrapped(width - east, width));
+    let south = negative(wrapped(height - north, height));
     let least_east = signed(east);
     let least_north = signed(north);
     let forwards = Way {
@@ -75,6 +76,14 @@ fn fewer_links(first: Way, other: Way) -> Way
     } else {
         first
     }
+}
+
+// What is left of so many steps once whole turns of a ring are taken out.
+fn within_ring(steps: u32, size: u32) -> u32
+    requires { ⌜ 0 < size ⌝ }
+    ensures { λ r. ⌜ r ≡ steps % size ⌝ }
+{
+    if steps < size { steps } else { steps % size }
 }
 
 fn larger(a: u32, b: u32) -> u32
