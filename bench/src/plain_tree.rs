@@ -59,18 +59,19 @@ fn refusal_of(call: &TreeCall, rows_room: usize, starts_room: usize) -> u32 {
 
 fn add(call: &TreeCall, target: u32, grown: &mut Grown) {
     let way = way_to(call, target);
-    let (mut from, mut at, mut chip) = (call.source, 0, call.source);
+    let source = Chip { x: call.source % call.width, y: call.source / call.width };
+    let (mut from, mut at, mut chip) = (source, 0, source);
     for step in 0..way.links() {
         chip = over(call, chip, way.link(step));
-        if grown.entered[chip as usize] != OUTSIDE {
+        if grown.entered[number(call, chip)] != OUTSIDE {
             (from, at) = (chip, step + 1);
         }
     }
     for step in at..way.links() {
         let link = way.link(step);
-        grown.routes[from as usize] |= 1 << link;
+        grown.routes[number(call, from)] |= 1 << link;
         from = over(call, from, link);
-        grown.entered[from as usize] = link as u8;
+        grown.entered[number(call, from)] = link as u8;
     }
 }
 
@@ -124,8 +125,17 @@ fn way_to(call: &TreeCall, target: u32) -> Way {
     others.into_iter().fold(forwards, |best, other| if other.links() < best.links() { other } else { best })
 }
 
-fn over(call: &TreeCall, chip: u32, link: u32) -> u32 {
-    let (x, y) = (chip % call.width, chip / call.width);
+#[derive(Clone, Copy)]
+struct Chip {
+    x: u32,
+    y: u32,
+}
+
+fn number(call: &TreeCall, chip: Chip) -> usize {
+    (chip.y * call.width + chip.x) as usize
+}
+
+fn over(call: &TreeCall, Chip { x, y }: Chip, link: u32) -> Chip {
     let up = |at: u32, side: u32| if at + 1 == side { 0 } else { at + 1 };
     let down = |at: u32, side: u32| if at == 0 { side - 1 } else { at - 1 };
     let (x, y) = match link {
@@ -136,7 +146,7 @@ fn over(call: &TreeCall, chip: u32, link: u32) -> u32 {
         4 => (down(x, call.width), down(y, call.height)),
         _ => (x, down(y, call.height)),
     };
-    y * call.width + x
+    Chip { x, y }
 }
 
 fn write_rows(call: &TreeCall, grown: &Grown, rows: &mut [u32], starts: &mut [u32]) -> u32 {
