@@ -1,5 +1,5 @@
--- What asking and building leave in the room, for those who lend it: keys ask one after the other, and the room then holds the group of each of them.
-use Prim.Native.Nat.{ℕ, suc, _+_, _*_, _-_, _^_, _≤_, _<_}
+-- Keys ask one after the other, and where their groups are built the room holds the group of each of them.
+use Prim.Native.Nat.{ℕ, suc, _+_, _*_, _^_, _≤_, _<_}
 use mathlib.Core.Path.{_≡_, refl, sym, ap, _∙_, subst}
 use mathlib.Core.Logic.{⊎-elim}
 use mathlib.Core.Bool.{Bool, true, false, not, cond}
@@ -9,18 +9,16 @@ use native.Mathlib.Numerals.{add-one}
 use borrow.Author.Tests.{eqb-true, eqb-false}
 use lib.Dec.{eqb}
 use lib.ListN.{length, getD, set, take, drop, replicate, length-append, length-drop, length-set, length-replicate, getD-replicate, List·getD-append}
-use lib.Seq.{take-at, drop-at, drop-drop, drop-set-lt, take-suc-set, take-append-le, length-take-le, getD-take, getD-drop, getD-at, getD-append-add, getD-set-same, getD-set-other}
+use lib.Seq.{ext-getD, take-at, take-suc-set, take-append-le, length-take-le, getD-at, getD-append-add, getD-set-same, getD-set-other}
 use Rattle.lists.specs.Lists.{upTo, part}
 use Rattle.lists.proofs.Firsts.{lt-or-ge}
-use Rattle.lists.proofs.UpTo.{upto-same}
 use Rattle.tables.specs.Rows.{Entry}
-use Rattle.groups.specs.Groups.{topOf, groupFrom, groupOf, isIn, marksOf, asked, groupWord, blockOf, roomAfter, roomFor, GroupedFor}
-use Rattle.groups.specs.Asking.{Asked, Asking, roomAsked, topsAsked, countAsked}
+use Rattle.groups.specs.Groups.{topOf, groupOf, isIn, marksOf, asked, groupWord, blockOf, roomAfter, roomFor, GroupedFor}
+use Rattle.groups.specs.Asking.{Asked, Asking, marksAsked, topsAsked, countAsked}
 use Rattle.groups.proofs.InOrder.{from-most}
-use Rattle.groups.proofs.Blocks.{block-end, blocks-long, blocks-at, ones-length, ones-at, take-ones}
+use Rattle.groups.proofs.Blocks.{block-end, blocks-long, blocks-at, ones-length, ones-at}
 use Rattle.groups.proofs.Listing.{in-here, in-else, in-none, one-more, bit-asked}
 use Rattle.groups.proofs.Placing.{one-and-others}
-use Rattle.groups.proofs.Filling.{room-holds}
 
 -- ---- the marks, word by word
 
@@ -31,49 +29,29 @@ module _ (keys : List ℕ) where
   mark-asked : (g : ℕ) → g < 256 → asked (marksOf keys) g ≡ isIn g (map topOf keys)
   mark-asked g h = bit-asked (marksOf keys) g (isIn g (map topOf keys)) (mark-at g h)
 
-  marks-by-words : (room : List ℕ) → 256 ≤ length room → ((g : ℕ) → g < 256 → getD room g 0 ≡ cond (isIn g (map topOf keys)) 1 0) → take 256 room ≡ marksOf keys
-  marks-by-words room long words =
-      take-ones room 256 long
-      ∙ upto-same (λ (g : ℕ). getD room g 0 ∷ []) (λ (g : ℕ). cond (isIn g (map topOf keys)) 1 0 ∷ []) 256 (λ g h. ap (λ (n : ℕ). n ∷ []) (words g h))
+  marks-long : length (marksOf keys) ≡ 256
+  marks-long = ones-length (λ (k : ℕ). cond (isIn k (map topOf keys)) 1 0) 256
+
+  marks-by-words : (marks : List ℕ) → length marks ≡ 256 → ((g : ℕ) → g < 256 → getD marks g 0 ≡ cond (isIn g (map topOf keys)) 1 0) → marks ≡ marksOf keys
+  marks-by-words marks long words =
+      ext-getD 0 marks (marksOf keys) (long ∙ sym marks-long) (λ g h. let small : g < 256 = omega (arith, long) in words g small ∙ sym (mark-at g small))
 
 -- ---- none has asked
 
-module _ (room : List ℕ) where
-  cleared-long : (n : ℕ) → n ≤ length room → length (replicate n 0 ++ drop n room) ≡ length room
-  cleared-long n h = length-append (replicate n 0) (drop n room) ∙ omega (arith, length-replicate {A = ℕ} n 0, length-drop n room)
-
-  cleared-at : (n g : ℕ) → g < n → getD (replicate n 0 ++ drop n room) g 0 ≡ 0
-  cleared-at n g h =
-      List·getD-append (replicate n 0) (drop n room) 0 g (omega (arith, length-replicate {A = ℕ} n 0)) ∙ getD-replicate {A = ℕ} n g 0 0 h
-
-  cleared-behind : (n : ℕ) → drop n (replicate n 0 ++ drop n room) ≡ drop n room
-  cleared-behind n = drop-at (replicate n 0) (drop n room) n (length-replicate {A = ℕ} n 0)
-
-none-listed : (l : List ℕ) (marks : List ℕ) → ((g : ℕ) → g < 256 → getD marks g 0 ≡ 0) → Asked marks (take 0 l)
-none-listed l marks zeros =
-    record {
-      bits = λ g h. zeros g h ∙ ap (λ (b : Bool). cond b 1 0) (sym (in-none g l));
-      small = λ k h. absurd (omega arith);
-      once = λ k h. absurd (omega arith);
-    }
-
-asked-none : (room after tops : List ℕ) → 256 ≤ length room → length after ≡ length room → ((g : ℕ) → g < 256 → getD after g 0 ≡ 0) → drop 256 after ≡ drop 256 room
-    → Asking [] room after tops 0
+pub asking-none : (tops : List ℕ) → Asking [] (replicate 256 0) tops 0
 unfolding isIn
-asked-none room after tops h long zeros behind =
+asking-none tops =
+    let zeros : (g : ℕ) → g < 256 → _≡_ {A = ℕ} (getD (replicate 256 0) g 0) 0 = λ g h. getD-replicate {A = ℕ} 256 g 0 0 h in
     record {
-      long = long;
-      marks = marks-by-words [] after (omega arith) zeros;
-      behind = behind;
-      tops = none-listed tops (take 256 after) (λ g s. getD-take 256 after g 0 s ∙ zeros g s);
+      marked = marks-by-words [] (replicate 256 0) (length-replicate {A = ℕ} 256 0) zeros;
+      tops =
+          record {
+            bits = λ g h. zeros g h ∙ ap (λ (b : Bool). cond b 1 0) (sym (in-none g tops));
+            small = λ k h. absurd (omega arith);
+            once = λ k h. absurd (omega arith);
+          };
       few = omega arith;
     }
-
-pub asking-none : (room : List ℕ) (tops : List ℕ) → 256 ≤ length room → Asking [] room (replicate 256 0 ++ drop 256 room) tops 0
-asking-none room tops h = asked-none room (replicate 256 0 ++ drop 256 room) tops h (cleared-long room 256 h) (cleared-at room 256) (cleared-behind room 256)
-
-pub asking-cleared : (room cleared tops : List ℕ) → 256 ≤ length room → cleared ≡ replicate 256 0 ++ drop 256 room → Asking [] room cleared tops 0
-asking-cleared room cleared tops h e = rw e (asking-none room tops h)
 
 -- ---- one key more
 
@@ -119,133 +97,72 @@ tops-append : (keys : List ℕ) (key : ℕ) → map topOf (keys ++ key ∷ []) �
 tops-append [] key = refl
 tops-append (k ∷ keys) key = ap (λ (l : List ℕ). topOf k ∷ l) (tops-append keys key)
 
-module _ (keys room₀ room tops : List ℕ) (count key : ℕ) (p : Asking keys room₀ room tops count) (long : 256 ≤ length room₀) where
-  word-at : (g : ℕ) → g < 256 → getD room g 0 ≡ cond (isIn g (map topOf keys)) 1 0
-  word-at g h = sym (getD-take 256 room g 0 h) ∙ ap (λ (l : List ℕ). getD l g 0) (p .marks) ∙ mark-at keys g h
+pub asking-long : (keys marks tops : List ℕ) (count : ℕ) → Asking keys marks tops count → length marks ≡ 256
+asking-long keys marks tops count p = ap length (p .marked) ∙ marks-long keys
+
+module _ (keys marks tops : List ℕ) (count key : ℕ) (p : Asking keys marks tops count) where
+  long : length marks ≡ 256
+  long = asking-long keys marks tops count p
+
+  word-at : (g : ℕ) → g < 256 → getD marks g 0 ≡ cond (isIn g (map topOf keys)) 1 0
+  word-at g h = ap (λ (l : List ℕ). getD l g 0) (p .marked) ∙ mark-at keys g h
 
   more : length (keys ++ key ∷ []) ≡ length keys + 1
   more = length-append keys (key ∷ [])
 
   module _ (small : topOf key < 256) where
-    -- one that has been asked for
-    again : (getD room (topOf key) 0 ≡ 0 → ⊥) → Asking (keys ++ key ∷ []) room₀ room tops count
-    again some =
+    -- the marks of one key more, by the mark of its top byte and those of all others
+    marks-more : (marks′ : List ℕ) → length marks′ ≡ 256 → getD marks′ (topOf key) 0 ≡ 1 → ((g : ℕ) → (g ≡ topOf key → ⊥) → getD marks′ g 0 ≡ getD marks g 0)
+        → marks′ ≡ marksOf (keys ++ key ∷ [])
+    marks-more marks′ as-long one others =
         let t : ℕ = topOf key in
-        let here : isIn t (map topOf keys) ≡ true = bit-one (isIn t (map topOf keys)) (λ e. some (word-at t small ∙ e)) in
+        marks-by-words (keys ++ key ∷ []) marks′ as-long
+        (one-and-others (λ (g : ℕ). g < 256 → getD marks′ g 0 ≡ cond (isIn g (map topOf (keys ++ key ∷ []))) 1 0) t
+        (λ h. one ∙ ap (λ (b : Bool). cond b 1 0) (sym (ap (isIn t) (tops-append keys key) ∙ in-here t (map topOf keys))))
+        (λ g n h. others g n ∙ word-at g h ∙ ap (λ (b : Bool). cond b 1 0) (sym (ap (isIn g) (tops-append keys key) ∙ in-else g t (map topOf keys) n))))
+
+    -- one that has been asked for
+    again : (getD marks (topOf key) 0 ≡ 0 → ⊥) → Asking (keys ++ key ∷ []) marks tops count
+    again some =
+        let here : isIn (topOf key) (map topOf keys) ≡ true = bit-one (isIn (topOf key) (map topOf keys)) (λ e. some (word-at (topOf key) small ∙ e)) in
         record {
-          long = p .long;
-          marks =
-              marks-by-words (keys ++ key ∷ []) room (omega (arith, p .long))
-              (one-and-others (λ (g : ℕ). g < 256 → getD room g 0 ≡ cond (isIn g (map topOf (keys ++ key ∷ []))) 1 0) t
-              (λ h. word-at t h ∙ ap (λ (b : Bool). cond b 1 0) (here ∙ sym (ap (isIn t) (tops-append keys key) ∙ in-here t (map topOf keys))))
-              (λ g n h. word-at g h ∙ ap (λ (b : Bool). cond b 1 0) (sym (ap (isIn g) (tops-append keys key) ∙ in-else g t (map topOf keys) n))));
-          behind = p .behind;
+          marked = marks-more marks long (word-at (topOf key) small ∙ ap (λ (b : Bool). cond b 1 0) here) (λ g n. refl);
           tops = p .tops;
           few = omega (arith, p .few, more);
         }
 
     -- one that has not
-    module _ (none : getD room (topOf key) 0 ≡ 0) (within : count < length tops) where
-      one-here : getD (set room (topOf key) 1) (topOf key) 0 ≡ 1
-      one-here = getD-set-same room (topOf key) 1 0 (omega (arith, p .long))
+    first : getD marks (topOf key) 0 ≡ 0 → count < length tops → Asking (keys ++ key ∷ []) (set marks (topOf key) 1) (set tops count (topOf key)) (count + 1)
+    first none within =
+        let t : ℕ = topOf key in
+        let one : getD (set marks t 1) t 0 ≡ 1 = getD-set-same marks t 1 0 (omega (arith, long)) in
+        let others : (g : ℕ) → (g ≡ t → ⊥) → getD (set marks t 1) g 0 ≡ getD marks g 0 = λ g n. getD-set-other marks t g 1 0 n in
+        let listed : take count tops ++ t ∷ [] ≡ take (count + 1) (set tops count t) =
+        sym (ap (λ (n : ℕ). take n (set tops count t)) (add-one count) ∙ take-suc-set tops count t within) in
+        let new : isIn t (take count tops) ≡ false = bit-zero (isIn t (take count tops)) (sym (p .tops .bits t small) ∙ none) in
+        record {
+          marked = marks-more (set marks t 1) (length-set marks t 1 ∙ long) one others;
+          tops = subst (Asked (set marks t 1)) listed (list-joined marks (set marks t 1) (take count tops) t (p .tops) small new one (λ g n h. others g n));
+          few = omega (arith, p .few, more);
+        }
 
-      first : Asking (keys ++ key ∷ []) room₀ (set room (topOf key) 1) (set tops count (topOf key)) (count + 1)
-      first =
-          let t : ℕ = topOf key in
-          let listed : take count tops ++ t ∷ [] ≡ take (count + 1) (set tops count t) =
-          sym (ap (λ (n : ℕ). take n (set tops count t)) (add-one count) ∙ take-suc-set tops count t within) in
-          let new : isIn t (take count tops) ≡ false =
-          bit-zero (isIn t (take count tops)) (sym (p .tops .bits t small) ∙ getD-take 256 room t 0 small ∙ none) in
-          record {
-            long = length-set room t 1 ∙ p .long;
-            marks =
-                marks-by-words (keys ++ key ∷ []) (set room t 1) (omega (arith, p .long, length-set room t 1))
-                (one-and-others (λ (g : ℕ). g < 256 → getD (set room t 1) g 0 ≡ cond (isIn g (map topOf (keys ++ key ∷ []))) 1 0) t
-                (λ h. one-here ∙ ap (λ (b : Bool). cond b 1 0) (sym (ap (isIn t) (tops-append keys key) ∙ in-here t (map topOf keys))))
-                (λ g n h.
-                getD-set-other room t g 1 0 n ∙ word-at g h ∙ ap (λ (b : Bool). cond b 1 0) (sym (ap (isIn g) (tops-append keys key) ∙ in-else g t (map topOf keys) n))));
-            behind = drop-set-lt 256 room t 1 small ∙ p .behind;
-            tops =
-                subst (Asked (take 256 (set room t 1))) listed
-                (list-joined (take 256 room) (take 256 (set room t 1)) (take count tops) t (p .tops) small new
-                (getD-take 256 (set room t 1) t 0 small ∙ one-here)
-                (λ g n h. getD-take 256 (set room t 1) g 0 h ∙ getD-set-other room t g 1 0 n ∙ sym (getD-take 256 room g 0 h)));
-            few = omega (arith, p .few, more);
-          }
-
-pub asking-next : (keys room₀ room tops : List ℕ) (count key : ℕ) → Asking keys room₀ room tops count → 256 ≤ length room₀ → key < 2 ^ 32 → count < length tops
-    → Asking (keys ++ key ∷ []) room₀ (roomAsked room key) (topsAsked room tops count key) (countAsked room count key)
-asking-next keys room₀ room tops count key p long small within = go (eqb (getD room (topOf key) 0) 0) refl
+asking-next : (keys marks tops : List ℕ) (count key : ℕ) → Asking keys marks tops count → key < 2 ^ 32 → count < length tops
+    → Asking (keys ++ key ∷ []) (marksAsked marks key) (topsAsked marks tops count key) (countAsked marks count key)
+asking-next keys marks tops count key p small within = go (eqb (getD marks (topOf key) 0) 0) refl
   where
     top : topOf key < 256
     top = omega arith
 
-    go : (b : Bool) → eqb (getD room (topOf key) 0) 0 ≡ b
-        → Asking (keys ++ key ∷ []) room₀ (cond (not b) room (set room (topOf key) 1)) (cond (not b) tops (set tops count (topOf key))) (cond (not b) count (count + 1))
-    go true e = first keys room₀ room tops count key p long top (eqb-true (getD room (topOf key) 0) 0 e) within
-    go false e = again keys room₀ room tops count key p long top (eqb-false (getD room (topOf key) 0) 0 e)
+    go : (b : Bool) → eqb (getD marks (topOf key) 0) 0 ≡ b
+        → Asking (keys ++ key ∷ []) (cond (not b) marks (set marks (topOf key) 1)) (cond (not b) tops (set tops count (topOf key))) (cond (not b) count (count + 1))
+    go true e = first keys marks tops count key p top (eqb-true (getD marks (topOf key) 0) 0 e) within
+    go false e = again keys marks tops count key p top (eqb-false (getD marks (topOf key) 0) 0 e)
 
 -- the next of a list of keys
-pub asking-one : (keys room₀ room tops : List ℕ) (count i : ℕ) → Asking (take i keys) room₀ room tops count → 256 ≤ length room₀ → i < length keys → getD keys i 0 < 2 ^ 32
-    → length keys ≤ length tops
-    → Asking (take (i + 1) keys) room₀ (roomAsked room (getD keys i 0)) (topsAsked room tops count (getD keys i 0)) (countAsked room count (getD keys i 0))
-asking-one keys room₀ room tops count i p long h small fits =
-    rw (one-more keys i h)
-    (asking-next (take i keys) room₀ room tops count (getD keys i 0) p long small (omega (arith, p .few, length-take-le i keys (omega arith))))
-
--- keys that ask in a room where none had asked
-pub asking-from : (keys room₀ room₁ room tops₁ tops : List ℕ) (count : ℕ) → Asking [] room₀ room₁ tops₁ 0 → Asking keys room₁ room tops count → Asking keys room₀ room tops count
-asking-from keys room₀ room₁ room tops₁ tops count p q =
-    record { long = q .long ∙ p .long; marks = q .marks; behind = q .behind ∙ p .behind; tops = q .tops; few = q .few }
-
-pub asking-still : (room₀ room tops : List ℕ) → Asking [] room₀ room tops 0 → Asking [] room room tops 0
-asking-still room₀ room tops p = record { long = refl; marks = p .marks; behind = refl; tops = p .tops; few = p .few }
-
--- ---- what is left in the room
-
-module _ (keys room₀ room tops : List ℕ) (count : ℕ) (p : Asking keys room₀ room tops count) where
-  drop-same : (a : ℕ) → 256 ≤ a → drop a room ≡ drop a room₀
-  drop-same a h =
-      let e : a ≡ 256 + (a - 256) = omega arith in
-      ap (λ (n : ℕ). drop n room) e
-      ∙ sym (drop-drop (a - 256) 256 room)
-      ∙ ap (drop (a - 256)) (p .behind)
-      ∙ drop-drop (a - 256) 256 room₀
-      ∙ ap (λ (n : ℕ). drop n room₀) (sym e)
-
--- where keys have asked and no group is built: as it would be of no rows
-pub left-marked : (keys room₀ room tops : List ℕ) (count : ℕ) → Asking keys room₀ room tops count → 257 ≤ length room₀ → room ≡ roomAfter (marksOf keys) [] room₀
-unfolding groupFrom
-left-marked keys room₀ room tops count p long =
-    room-holds (marksOf keys) (map topOf keys) [] room₀ room (mark-asked keys)
-    (record { words = λ g h. word-at keys room₀ room tops count 0 p (omega arith) g h; there = λ g k h e l. absurd (omega arith) })
-    (record {
-      same =
-          λ j h u.
-          let e : j + 0 ≡ j = omega arith in
-          ap (λ (n : ℕ). getD room n 0) (sym e)
-          ∙ sym (getD-drop j room 0 0)
-          ∙ ap (λ (l : List ℕ). getD l 0 0) (drop-same keys room₀ room tops count p j h)
-          ∙ getD-drop j room₀ 0 0
-          ∙ ap (λ (n : ℕ). getD room₀ n 0) e;
-    })
-    (p .long)
-    (omega arith)
-
-pub left-built : (keys room₀ room tops : List ℕ) (count : ℕ) (rows : List Entry) → Asking keys room₀ room tops count → 257 ≤ length room₀
-    → roomAfter (take 256 room) rows room ≡ roomAfter (marksOf keys) rows room₀
-left-built keys room₀ room tops count rows p long =
-    ap (λ (marks : List ℕ). roomAfter marks rows room) (p .marks)
-    ∙ (λ i.
-    upTo (λ (g : ℕ). groupWord (marksOf keys) rows g ∷ []) 256
-    ++ take 1 (p .behind i)
-    ++ upto-same (blockOf (marksOf keys) rows room) (blockOf (marksOf keys) rows room₀) 256
-    (λ g h.
-    ap
-    (λ (l : List ℕ). cond (asked (marksOf keys) g) (groupOf rows g ++ drop (length (groupOf rows g)) (take (length rows) l)) (take (length rows) l))
-    (drop-same keys room₀ room tops count p (257 + g * length rows) (omega arith)))
-    i
-    ++ drop-same keys room₀ room tops count p (257 + 256 * length rows) (omega arith) i)
+pub asking-one : (keys marks tops : List ℕ) (count i : ℕ) → Asking (take i keys) marks tops count → i < length keys → getD keys i 0 < 2 ^ 32 → length keys ≤ length tops
+    → Asking (take (i + 1) keys) (marksAsked marks (getD keys i 0)) (topsAsked marks tops count (getD keys i 0)) (countAsked marks count (getD keys i 0))
+asking-one keys marks tops count i p h small fits =
+    rw (one-more keys i h) (asking-next (take i keys) marks tops count (getD keys i 0) p small (omega (arith, p .few, length-take-le i keys (omega arith))))
 
 -- ---- what stands in a room that is built
 
@@ -285,7 +202,7 @@ module _ (marks : List ℕ) (rows : List Entry) (room : List ℕ) (fits : roomFo
       length-append (upTo (λ (g : ℕ). groupWord marks rows g ∷ []) 256 ++ part 256 1 room) (upTo (blockOf marks rows room) 256)
       ∙ omega (arith, front-long, blocks-all)
 
-  pub room-after-long : length (roomAfter marks rows room) ≡ length room
+  room-after-long : length (roomAfter marks rows room) ≡ length room
   room-after-long =
       length-append (upTo (λ (g : ℕ). groupWord marks rows g ∷ []) 256 ++ part 256 1 room ++ upTo (blockOf marks rows room) 256) (drop (257 + 256 * length rows) room)
       ∙ omega (arith, built-long, length-drop (257 + 256 * length rows) room)

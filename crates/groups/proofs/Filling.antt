@@ -18,13 +18,32 @@ use Rattle.groups.proofs.InOrder.{from-most, sofar-none}
 use Rattle.groups.proofs.Blocks.{block-end, block-apart, take-ones, part-blocks}
 use Rattle.groups.proofs.Placing.{one-and-others}
 
--- before the first row
-pub none-placed : (tops : List ℕ) (rows : List Entry) (room : List ℕ) → Asked (take 256 room) tops → Placed tops rows (sofar rows 0) room
-none-placed tops rows room a =
-    record {
-      words = λ g h. sym (getD-take 256 room g 0 h) ∙ a .bits g h ∙ ap (λ (n : ℕ). cond (isIn g tops) (suc n) 0) (sym (sofar-none rows g));
-      there = λ g k h e l. absurd (omega (arith, sofar-none rows g));
-    }
+-- before the first row, in a room that begins with the marks
+module _ (marks tops : List ℕ) (rows : List Entry) (room₀ room : List ℕ) (long : length marks ≡ 256) (begun : room ≡ marks ++ drop 256 room₀) where
+  pub none-placed : Asked marks tops → Placed tops rows (sofar rows 0) room
+  none-placed a =
+      record {
+        words =
+            λ g h.
+            ap (λ (l : List ℕ). getD l g 0) begun
+            ∙ List·getD-append marks (drop 256 room₀) 0 g (omega arith)
+            ∙ a .bits g h
+            ∙ ap (λ (n : ℕ). cond (isIn g tops) (suc n) 0) (sym (sofar-none rows g));
+        there = λ g k h e l. absurd (omega (arith, sofar-none rows g));
+      }
+
+  pub none-written : (many : ℕ → ℕ) → Kept tops (length rows) many room₀ room
+  none-written many =
+      record {
+        same =
+            λ j h u.
+            let at : j ≡ length marks + (j - 256) = omega arith in
+            let at₀ : 256 + (j - 256) ≡ j = omega arith in
+            (λ i. getD (begun i) (at i) 0)
+            ∙ getD-append-add marks (drop 256 room₀) (j - 256) 0
+            ∙ getD-drop 256 room₀ (j - 256) 0
+            ∙ ap (λ (n : ℕ). getD room₀ n 0) at₀;
+      }
 
 part-long : (a n : ℕ) (l : List ℕ) → a + n ≤ length l → length (part a n l) ≡ n
 part-long a n l h = length-take-le n (drop a l) (omega (arith, length-drop a l))

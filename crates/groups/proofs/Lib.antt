@@ -1,6 +1,6 @@
 pub mod Asks
 pub mod Blocks
-pub mod Clearing
+pub mod Copying
 pub mod Filling
 pub mod GroupWords
 pub mod GroupsLeft

@@ -1,17 +1,19 @@
--- Rows that go into a group, counted one by one; and when groups pay, by a quotient compared in place of a product.
+-- Rows that go into a group, counted one by one; and when groups pay, by the tests that the code makes first.
 use Prim.Native.Nat.{ℕ, zero, suc, _+_, _*_, _-_, _/_, _≤_, _<_}
 use mathlib.Core.Path.{_≡_, refl, sym, ap, _∙_}
-use mathlib.Core.Bool.{Bool, true, false, cond}
+use mathlib.Core.Bool.{Bool, true, false, not, cond}
 use mathlib.Core.Logic.{⊎-elim}
 use mathlib.Core.List.{List}
 use native.Mathlib.Omega.{arith}
-use native.Mathlib.Nat.{mul-zero, div-lt-iff-lt-mul}
+use native.Mathlib.Nat.{mul-zero}
 use native.Mathlib.Numerals.{add-one}
-use borrow.Author.Tests.{lt-ltb, le-ltb, le-leb, lt-leb}
-use lib.Dec.{ltb}
+use borrow.Author.Tests.{le-ltb, le-leb, lt-leb}
+use lib.Dec.{eqb, ltb}
 use lib.ListN.{length, getD}
 use Rattle.lists.proofs.Firsts.{lt-or-ge}
-use Rattle.tables.specs.Rows.{Entry, blankEntry}
+use Rattle.tables.specs.Rows.{Entry, rowsOf, blankEntry}
+use Rattle.tables.proofs.RowsByNumber.{row-at, rows-many}
+use Rattle.groups.specs.Groups.{topOf, fixesTop}
 use Rattle.groups.specs.Pays.{worth, isTaken, takenOf, taken, pays}
 
 module _ (marks : List ℕ) (rows : List Entry) where
@@ -32,17 +34,19 @@ module _ (marks : List ℕ) (rows : List Entry) where
       go true h = omega arith
       go false h = omega arith
 
-quotient-below : (x m k : ℕ) → 0 < m → ltb (x / m) k ≡ ltb x (k * m)
-quotient-below x m k h =
-    ⊎-elim (λ (l : x < k * m). lt-ltb (x / m) k (div-lt-iff-lt-mul h .1 l) ∙ sym (lt-ltb x (k * m) l))
-    (λ (l : k * m ≤ x).
-    let past : x / m < k → ⊥ = λ b. let c : x < k * m = div-lt-iff-lt-mul h .0 b in omega arith in
-    le-ltb (x / m) k (⊎-elim (λ (b : x / m < k). absurd (past b)) (λ (b : k ≤ x / m). b) (lt-or-ge (x / m) k)) ∙ sym (le-ltb x (k * m) l))
-    (lt-or-ge x (k * m))
+pub taken-few : (marks words : List ℕ) → length words / 3 ≤ 1024 → taken marks (rowsOf words) ≤ 78
+taken-few marks words h = omega (arith, taken-most marks (rowsOf words) (length (rowsOf words) / 13), rows-many words)
+
+-- a row that fixes the top byte, by its group's mark
+pub taken-by-mark : (words marks : List ℕ) (i top : ℕ) (none : Bool) → i * 3 + 2 < length words → fixesTop (getD (rowsOf words) i blankEntry) ≡ true
+    → top ≡ topOf (getD words (i * 3) 0) → eqb (getD marks top 0) 0 ≡ none → isTaken marks (getD (rowsOf words) i blankEntry) ≡ not none
+taken-by-mark words marks i top none here fixed e mark =
+    let g : topOf (getD (rowsOf words) i blankEntry .key) ≡ top = ap (λ (r : Entry). topOf (r .key)) (row-at words i here) ∙ sym e in
+    simp fixed (ap (λ (k : ℕ). not (eqb (getD marks k 0) 0)) g ∙ ap not mark)
 
 -- ---- the rules, as the code asks for them
 
-pub apart : false ≡ true → ⊥
+apart : false ≡ true → ⊥
 apart e = let z : _≡_ {A = ℕ} 0 1 = cc in omega arith
 
 module _ (packets rows : ℕ) where
@@ -55,9 +59,8 @@ module _ (packets rows : ℕ) where
   pub worth-few : worth packets rows ≡ true → rows ≤ 1024
   worth-few e = ⊎-elim (λ (l : 1024 < rows). absurd (apart (too-many l ∙ e))) (λ (l : rows ≤ 1024). l) (lt-or-ge 1024 rows)
 
-  pub worth-quotient : 64 ≤ rows → rows ≤ 1024 → ltb ((rows * 6 + 1600) / (rows - 40)) packets ≡ worth packets rows
-  worth-quotient some most =
-      quotient-below (rows * 6 + 1600) (rows - 40) packets (omega arith) ∙ simp (le-leb 64 rows some, le-leb rows 1024 most)
+  pub worth-between : 64 ≤ rows → rows ≤ 1024 → ltb (rows * 6 + 1600) (packets * (rows - 40)) ≡ worth packets rows
+  worth-between some most = simp (le-leb 64 rows some, le-leb rows 1024 most)
 
 module _ (packets : ℕ) (marks : List ℕ) (rows : List Entry) where
   pub none-spared : length rows ≤ taken marks rows * 40 + 40 → false ≡ pays packets marks rows
@@ -65,7 +68,3 @@ module _ (packets : ℕ) (marks : List ℕ) (rows : List Entry) where
       let none : length rows - (taken marks rows * 40 + 40) ≡ 0 = omega arith in
       let product : packets * (length rows - (taken marks rows * 40 + 40)) ≡ 0 = ap (λ (n : ℕ). packets * n) none ∙ mul-zero packets in
       sym (le-ltb (length rows * 6 + taken marks rows * 104 + 1600) (packets * (length rows - (taken marks rows * 40 + 40))) (omega (arith, product)))
-
-  pub pays-quotient : taken marks rows * 40 + 40 < length rows
-      → ltb ((length rows * 6 + taken marks rows * 104 + 1600) / (length rows - (taken marks rows * 40 + 40))) packets ≡ pays packets marks rows
-  pays-quotient h = quotient-below (length rows * 6 + taken marks rows * 104 + 1600) (length rows - (taken marks rows * 40 + 40)) packets (omega arith)

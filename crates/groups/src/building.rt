@@ -3,23 +3,37 @@ use super::top::fixes_top;
 use super::top::top_of;
 use super::top::wide;
 ghost use mathlib.Core.Path.{_≡_};
-ghost use lib.ListN.{length, take};
+ghost use mathlib.Core.List.{_++_};
+ghost use lib.ListN.{length, drop};
 ghost use Prim.Native.Nat.{_+_, _/_, _≤_, _<_};
 ghost use Rattle.tables.specs.Rows.{rowsOf};
 ghost use Rattle.groups.specs.Groups.{roomAfter, roomFor};
 ghost use Rattle.groups.specs.Asking.{Asked};
 ghost use Rattle.groups.specs.Building.{sofar, Listed, PutFits, afterPut, Placed, Kept};
 
-// The groups of a chip's rows for the top bytes that are listed, which are marked in the room's first words. All else that the room held counts for nothing and stays.
-pub fn build(rows: &[u32], tops: &[u32], room: &mut [u32])
-    requires { ⌜ ((length (now rows) / 3 ≤ 1024) × (roomFor (length (now rows) / 3) ≤ length (now room))) × Asked (take 256 (now room)) (now tops) ⌝ }
-    ensures { λ _. ⌜ now (room .exit) ≡ roomAfter (take 256 (now (room .entry))) (rowsOf (now (rows .entry))) (now (room .entry)) ⌝ }
+// The groups of a chip's rows for the top bytes that are listed, which are those that are marked. What the room held counts for nothing, and stays where no number is written.
+pub fn build(rows: &[u32], tops: &[u32], marks: &[u8], room: &mut [u32])
+    requires { ⌜ ((length (now rows) / 3 ≤ 1024) × (roomFor (length (now rows) / 3) ≤ length (now room))) × ((length (now marks) ≡ 256) × Asked (now marks) (now tops)) ⌝ }
+    ensures { λ _. ⌜ now (room .exit) ≡ roomAfter (now (marks .entry)) (rowsOf (now (rows .entry))) (now (room .entry)) ⌝ }
 {
+    begin(marks, room);
     let n = rows.len() / 3;
     let mut i = 0;
     while i < n {
         place(rows, tops, room, i);
         i += 1;
+    }
+}
+
+// The words of the groups, before any row: 1 where a group is asked for, else 0.
+fn begin(marks: &[u8], room: &mut [u32])
+    requires { ⌜ (length (now marks) ≡ 256) × (256 ≤ length (now room)) ⌝ }
+    ensures { λ _. ⌜ now (room .exit) ≡ now (marks .entry) ++ drop 256 (now (room .entry)) ⌝ }
+{
+    let mut g = 0;
+    while g < marks.len() {
+        room[g] = marks[g] as u32;
+        g += 1;
     }
 }
 

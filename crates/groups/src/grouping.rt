@@ -1,6 +1,5 @@
 // The groups that some keys ask for, built where they pay.
 use super::asking::ask;
-use super::asking::clear;
 use super::building::build;
 use super::paying::pays;
 use super::paying::worth;
@@ -18,6 +17,9 @@ ghost use Rattle.groups.specs.Grouping.{groupsLeft};
 // The most keys at a time: as many packets as six links hold.
 const KEYS: usize = 48;
 
+// One for each top byte.
+const GROUPS: usize = 256;
+
 // Answers whether it built them. What the room held before counts for nothing.
 pub fn group(keys: &[u32], rows: &[u32], room: &mut [u32]) -> bool
     requires { ⌜ (length (now keys) ≤ 48) × (roomFor (length (now rows) / 3) ≤ length (now room)) ⌝ }
@@ -34,27 +36,27 @@ pub fn group(keys: &[u32], rows: &[u32], room: &mut [u32]) -> bool
 fn group_asked(keys: &[u32], rows: &[u32], room: &mut [u32]) -> bool
     requires { ⌜ (length (now keys) ≤ 48) × ((length (now rows) / 3 ≤ 1024) × (roomFor (length (now rows) / 3) ≤ length (now room))) ⌝ }
     ensures { λ r. ⌜ r ≡ pays (length (now (keys .entry))) (marksOf (now (keys .entry))) (rowsOf (now (rows .entry))) ⌝ }
-    ensures { λ _. ⌜ now (room .exit) ≡ roomAfter (marksOf (now (keys .entry))) (cond (pays (length (now (keys .entry))) (marksOf (now (keys .entry))) (rowsOf (now (rows .entry)))) (rowsOf (now (rows .entry))) []) (now (room .entry)) ⌝ }
+    ensures { λ _. ⌜ now (room .exit) ≡ cond (pays (length (now (keys .entry))) (marksOf (now (keys .entry))) (rowsOf (now (rows .entry)))) (roomAfter (marksOf (now (keys .entry))) (rowsOf (now (rows .entry))) (now (room .entry))) (now (room .entry)) ⌝ }
 {
     let mut tops = [0u32; KEYS];
-    clear(room);
-    let count = ask_each(keys, room, &mut tops);
-    if pays(keys.len(), rows, room) {
-        build(rows, &tops[..count], room);
+    let mut marks = [0u8; GROUPS];
+    let count = ask_each(keys, &mut marks, &mut tops);
+    if pays(keys.len(), rows, &marks) {
+        build(rows, &tops[..count], &marks, room);
         return true;
     }
     false
 }
 
-// Each key asks, in a room where none has asked. Answers how many top bytes are listed.
-fn ask_each(keys: &[u32], room: &mut [u32], tops: &mut [u32]) -> usize
-    requires { ⌜ ((256 ≤ length (now room)) × (length (now keys) ≤ length (now tops))) × Asking [] (now room) (now room) (now tops) 0 ⌝ }
-    ensures { λ r. ⌜ Asking (now (keys .entry)) (now (room .entry)) (now (room .exit)) (now (tops .exit)) r ⌝ }
+// Each key asks, where none has asked. Answers how many top bytes are listed.
+fn ask_each(keys: &[u32], marks: &mut [u8], tops: &mut [u32]) -> usize
+    requires { ⌜ (length (now keys) ≤ length (now tops)) × Asking [] (now marks) (now tops) 0 ⌝ }
+    ensures { λ r. ⌜ Asking (now (keys .entry)) (now (marks .exit)) (now (tops .exit)) r ⌝ }
 {
     let mut count = 0;
     let mut i = 0;
     while i < keys.len() {
-        count = ask(room, tops, count, keys[i]);
+        count = ask(marks, tops, count, keys[i]);
         i += 1;
     }
     count

@@ -3,6 +3,6 @@ mod asking;
 mod building;
 pub mod grouping;
 pub mod lending;
-mod paying;
+pub mod paying;
 pub mod searching;
 mod top;

@@ -1,20 +1,20 @@
 -- `grouping::ask_each` meets its contract. The loop's invariant: the keys before the i-th have asked. The measure is what is left of the keys.
 use Prim.Native.Nat.{_≤_, _-_}
-use mathlib.Core.Path.{_≡_, refl, _∙_}
+use mathlib.Core.Path.{_≡_, refl, sym, _∙_}
 use native.Mathlib.Omega.{arith}
 use lib.ListN.{length, take}
 use lib.Seq.{take-length, length-take-le}
 use Rattle.groups.specs.Asking.{Asking}
-use Rattle.groups.proofs.Asks.{asking-one}
+use Rattle.groups.proofs.Asks.{asking-long, asking-one}
 use Rattle.groups.proofs.grouping.ask_each.Statement.{statement}
 use Rattle.groups.proofs.grouping.ask_each.Tie as tie
 
 abbrev Inv-loop : tie.InvT-loop
-Inv-loop keys room₀ tops₀ count₀ i₀ room tops count i =
-    (i ≤ length keys) × ((length tops ≡ length tops₀) × Asking (take i keys) room₀ room tops count)
+Inv-loop keys marks₀ tops₀ count₀ i₀ marks tops count i =
+    (i ≤ length keys) × ((length tops ≡ length tops₀) × Asking (take i keys) marks tops count)
 
 abbrev μ-loop : tie.MeasureT-loop
-μ-loop keys room₀ tops₀ count₀ i₀ room tops count i = length keys - i
+μ-loop keys marks₀ tops₀ count₀ i₀ marks tops count i = length keys - i
 
 loop-holds : tie.Need-loop-holds Inv-loop μ-loop
 loop-holds c = (omega arith, (refl, c .before .before .before .pre .1))
@@ -30,7 +30,7 @@ ask-requires c κs =
     let at = c .before .before .before .before in
     let s = at .before .before .before .before in
     let p = at .loop .inv .1 .1 in
-    (omega (arith, s .pre .0, p .long), omega (arith, s .pre .0, at .loop .inv .1 .0, p .few, length-take-le (at .loop .i) (s .args .keys .now) (at .loop .inv .0)))
+    (asking-long _ _ _ _ p, omega (arith, s .pre .0, at .loop .inv .1 .0, p .few, length-take-le (at .loop .i) (s .args .keys .now) (at .loop .inv .0)))
 
 add-i : tie.Need-add-i Inv-loop μ-loop
 add-i c = omega arith
@@ -47,9 +47,9 @@ loop-again c =
     let keys = s .args .keys .now in
     let i = at .loop .i in
     let next =
-    asking-one keys (s .args .room .now) (at .loop .room) (at .loop .tops) (at .loop .count) i (at .loop .inv .1 .1) (s .pre .0 .0) (omega arith)
+    asking-one keys (at .loop .marks) (at .loop .tops) (at .loop .count) i (at .loop .inv .1 .1) (omega arith)
     (omega (arith, known .shared-slice-known2 .given i))
-    (omega (arith, s .pre .0 .1, at .loop .inv .1 .0)) in (
+    (omega (arith, s .pre .0, at .loop .inv .1 .0)) in (
       omega arith,
       (
         call .ask .kept .1 .0 ∙ at .loop .inv .1 .0,
@@ -58,7 +58,9 @@ loop-again c =
     )
 
 same-length : tie.Need-same-length Inv-loop μ-loop
-same-length c = c .before .loop .inv .1 .1 .long
+same-length c =
+    let at = c .before in
+    asking-long _ _ _ _ (at .loop .inv .1 .1) ∙ sym (asking-long _ _ _ _ (at .before .before .before .before .pre .1))
 
 same-length-2 : tie.Need-same-length-2 Inv-loop μ-loop
 same-length-2 c = c .before .loop .inv .1 .0

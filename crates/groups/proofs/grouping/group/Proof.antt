@@ -1,7 +1,6 @@
 -- `grouping::group` meets its contract.
 use Prim.Native.Nat.{_/_}
 use mathlib.Core.Path.{sym, ap, _∙_}
-use native.Mathlib.Omega.{arith}
 use borrow.Author.Tests.{not-true, not-false}
 use lib.ListN.{length}
 use Rattle.tables.specs.Rows.{rowsOf}

@@ -1,12 +1,13 @@
 -- `paying::pays` meets its contract.
 use Prim.Native.Nat.{_+_, _*_, _-_, _/_}
-use mathlib.Core.Path.{sym, _∙_}
+use mathlib.Core.Path.{sym}
 use native.Mathlib.Omega.{arith}
+use native.Mathlib.Nat.{mul-le-mul-right}
 use lib.Dec.{ltb}
-use lib.ListN.{length, take}
+use lib.ListN.{length}
 use Rattle.tables.specs.Rows.{rowsOf}
 use Rattle.tables.proofs.RowsByNumber.{rows-many}
-use Rattle.groups.proofs.Sampling.{taken-most, none-spared, pays-quotient}
+use Rattle.groups.proofs.Sampling.{taken-few, none-spared}
 use borrow.Author.Needs.{needs}
 use Rattle.groups.proofs.paying.pays.Statement.{statement}
 use Rattle.groups.proofs.paying.pays.Tie as tie
@@ -17,21 +18,19 @@ sampled-requires c κs = search needs
 mul-less : tie.Need-mul-less
 mul-less c =
     let s = c .before .before .before in
-    let rows = rowsOf (s .args .rows .now) in
-    omega (arith, s .pre, c .sampled .ensures, taken-most (take 256 (s .args .room .now)) rows (length rows / 13), rows-many (s .args .rows .now))
+    omega (arith, c .sampled .ensures, taken-few (s .args .marks .now) (s .args .rows .now) (s .pre .1 .0))
 
 add-less : tie.Need-add-less
 add-less c =
     let s = c .before .before .before in
-    let rows = rowsOf (s .args .rows .now) in
-    omega (arith, s .pre, c .sampled .ensures, taken-most (take 256 (s .args .room .now)) rows (length rows / 13), rows-many (s .args .rows .now))
+    omega (arith, c .sampled .ensures, taken-few (s .args .marks .now) (s .args .rows .now) (s .pre .1 .0))
 
 returns : tie.Need-returns
 returns c =
     let at = c .before in
     let s = at .before .before .before in
     let words = s .args .rows .now in
-    none-spared (s .args .packets) (take 256 (s .args .room .now)) (rowsOf words) (omega (arith, c .if1 .taken, at .sampled .ensures, rows-many words))
+    none-spared (s .args .packets) (s .args .marks .now) (rowsOf words) (omega (arith, c .if1 .taken, at .sampled .ensures, rows-many words))
 
 mul-result : tie.Need-mul-result
 mul-result c = search needs
@@ -48,8 +47,10 @@ add-result-2 c = search needs
 sub-result : tie.Need-sub-result
 sub-result c = search needs
 
-div-result : tie.Need-div-result
-div-result c = search needs
+mul-result-3 : tie.Need-mul-result-3
+mul-result-3 c =
+    let s = c .before .before .before .before in
+    omega (arith, s .pre, mul-le-mul-right (length (s .args .rows .now) / 3 - (c .before .sampled .result * 40 + 40)) (s .pre .0))
 
 returns-2 : tie.Need-returns-2
 returns-2 c =
@@ -58,8 +59,7 @@ returns-2 c =
     let words = s .args .rows .now in
     let many = sym (rows-many words) in
     let all = at .sampled .ensures in
-    (λ i. ltb ((many i * 6 + all i * 104 + 1600) / (many i - (all i * 40 + 40))) (s .args .packets))
-    ∙ pays-quotient (s .args .packets) (take 256 (s .args .room .now)) (rowsOf words) (omega (arith, c .if1 .left, all, many))
+    λ i. ltb (many i * 6 + all i * 104 + 1600) (s .args .packets * (many i - (all i * 40 + 40)))
 
 pub pays-spec : {M : Type 1} → statement M
 pays-spec =
@@ -74,5 +74,5 @@ pays-spec =
     add-result
     add-result-2
     sub-result
-    div-result
+    mul-result-3
     returns-2)

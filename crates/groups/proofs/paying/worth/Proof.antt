@@ -1,7 +1,9 @@
 -- `paying::worth` meets its contract.
 use borrow.Author.Needs.{needs}
+use Prim.Native.Nat.{_-_}
 use native.Mathlib.Omega.{arith}
-use Rattle.groups.proofs.Sampling.{too-few, too-many, worth-quotient}
+use native.Mathlib.Nat.{mul-le-mul-right}
+use Rattle.groups.proofs.Sampling.{too-few, too-many, worth-between}
 use Rattle.groups.proofs.paying.worth.Statement.{statement}
 use Rattle.groups.proofs.paying.worth.Tie as tie
 
@@ -20,12 +22,12 @@ add-result c = search needs
 sub-result : tie.Need-sub-result
 sub-result c = search needs
 
-div-result : tie.Need-div-result
-div-result c = search needs
+mul-result-2 : tie.Need-mul-result-2
+mul-result-2 c = omega (arith, mul-le-mul-right (c .before .before .args .rows - 40) (c .before .before .pre))
 
 returns-3 : tie.Need-returns-3
-returns-3 c = worth-quotient (c .before .before .args .packets) (c .before .before .args .rows) (omega arith) (omega arith)
+returns-3 c = worth-between (c .before .before .args .packets) (c .before .before .args .rows) (omega arith) (omega arith)
 
 pub worth-spec : {M : Type 1} → statement M
 worth-spec =
-    tie.close (tie.spec returns returns-2 mul-result add-result sub-result div-result returns-3)
+    tie.close (tie.spec returns returns-2 mul-result add-result sub-result mul-result-2 returns-3)
