@@ -4,6 +4,7 @@ use mathlib.Core.Bool.{Bool, true, false, cond, _&&_}
 use mathlib.Core.List.{List, [], _∷_, _++_, map, append-assoc, append-nil}
 use Prim.Native.Nat.{ℕ, zero, suc, _+_, _-_, _*_, _/_, _≤_, _<_}
 use native.Mathlib.Omega.{arith}
+use borrow.Author.Tests.{ne-eqb}
 use lib.Dec.{eqb}
 use lib.ListN.{length, getD, take, drop, set, length-drop, length-map, List·getD-map}
 use lib.Seq.{length-take-le, getD-drop, take-suc-set}
@@ -12,7 +13,7 @@ use Rattle.tables.specs.Rows.{rowsOf}
 use Rattle.tables.proofs.RowsByNumber.{rows-many}
 use Rattle.groups.specs.Groups.{topOf, marksOf, roomFor, GroupedFor}
 use Rattle.groups.specs.Pays.{worth, pays}
-use Rattle.groups.proofs.GroupsLeft.{group-there}
+use Rattle.groups.proofs.GroupsLeft.{group-there, not-worth}
 use Rattle.groups.proofs.Sampling.{worth-few}
 use Rattle.groups.specs.Grouping.{groupsLeft}
 use Rattle.groups.specs.Room.{longest}
@@ -112,6 +113,19 @@ none-aside l chip keys = refl
 pub more-aside : (l : List ℕ) (chip source : ℕ) (more gathered : List ℕ) → gathered ≡ keysOf (upTo (asideBy l chip) source) ++ more → more ≡ keysOf (asideBy l chip source) → gathered ≡ keysOf (upTo (asideBy l chip) (suc source))
 unfolding upTo
 more-aside l chip source more gathered e f = e ∙ ap (λ (m : List ℕ). keysOf (upTo (asideBy l chip) source) ++ m) f ∙ sym (map-append (λ (a : Arrival (Unit {0})). a .flight .packet .word) (upTo (asideBy l chip) source) (asideBy l chip source))
+
+-- ---- what is left in the room of a chip, where some is lent
+
+module _ (words room : List ℕ) (xs : List (Arrival (Unit {0}))) where
+  pub lent-left : (keys room′ : List ℕ) → (length room ≡ 0 → ⊥) → keys ≡ keysOf xs → room′ ≡ groupsLeft keys (rowsOf words) room
+      → room′ ≡ cond (eqb (length room) 0) room (groupsLeft (keysOf xs) (rowsOf words) room)
+  lent-left keys room′ some e left = left ∙ (λ i. cond (sym (ne-eqb (length room) 0 some) i) room (groupsLeft (e i) (rowsOf words) room))
+
+  -- as it was, where so many packets are not worth it
+  pub not-worth-left : (count : ℕ) → count ≡ length xs → worth count (length words / 3) ≡ false → room ≡ groupsLeft (keysOf xs) (rowsOf words) room
+  not-worth-left count e less =
+      let many : length (keysOf xs) ≡ count = length-map xs (λ (a : Arrival (Unit {0})). a .flight .packet .word) ∙ sym e in
+      not-worth (keysOf xs) (rowsOf words) room ((λ i. worth (many i) (rows-many words i)) ∙ less) .1
 
 -- ---- every packet that was set aside has its group where some are built
 

@@ -1,5 +1,6 @@
 pub mod Arrivals
 pub mod AsideChips
+pub mod AsideCounted
 pub mod Asides
 pub mod ChipParts
 pub mod FineSteps

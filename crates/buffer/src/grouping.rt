@@ -1,5 +1,6 @@
 // A chip's groups, built before its passes in a round where they pay: the words of all packets that were set aside for it ask for them.
 use groups::grouping::group;
+use groups::paying::worth;
 use links::across::aside_place;
 use links::offsets::HEIGHT;
 use links::offsets::PLACE;
@@ -27,12 +28,33 @@ pub fn group_chip(mesh: &[u32], chip: usize, rows: &[u32], room: &mut [u32]) -> 
     if room.len() == 0 {
         return 0;
     }
+    if !worth(count_aside(mesh, chip), rows.len() / 3) {
+        return 0;
+    }
     let mut keys = [0u32; 48];
     let count = keys_aside(mesh, chip, &mut keys);
     if group(&keys[..count], rows, room) {
         return room.len();
     }
     0
+}
+
+// How many packets were set aside for a chip.
+fn count_aside(mesh: &[u32], chip: usize) -> usize
+    requires { ⌜ AsideThere (now mesh) chip ⌝ }
+    ensures { λ r. ⌜ (r ≡ length (asideFrom (now (mesh .entry)) chip)) × (r ≤ 48) ⌝ }
+{
+    let width = mesh[WIDTH];
+    let height = mesh[HEIGHT];
+    let x = (chip as u32) % width;
+    let y = (chip as u32) / width;
+    let mut count = 0;
+    let mut source = 0;
+    while source < 6 {
+        count += mesh[aside_place(width, height, x, y, source)] as usize;
+        source += 1;
+    }
+    count
 }
 
 // The words of all packets that were set aside for a chip, link after link. Answers how many they are.
