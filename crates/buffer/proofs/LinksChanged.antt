@@ -23,7 +23,7 @@ use Rattle.buffer.specs.Layout.{registersIn, registerWords}
 use Rattle.buffer.specs.ChipWords.{changedOn, sending, lineWords, Takes, ChipStep, ChangedBut, from, among}
 use Rattle.lists.proofs.Parts.{length-back, part-same, part-before, part-behind}
 use Rattle.buffer.proofs.ChipParts.{registers-back, order, words-other, words-same}
-use Rattle.links.proofs.Places.{line-sent, still-sent, length-sent}
+use Rattle.links.proofs.Places.{line-sent, still-sent}
 
 pub line-long : (j : ℕ) (l : List ℕ) → j < 6 → length l ≡ chipLong → length (lineWords j l) ≡ lineLong
 line-long j l h k = length-take-le lineLong (drop (linePlace j) l) (simp length-drop (omega arith))
@@ -35,7 +35,7 @@ pub record Without (rest : ℕ → Type 0) (k : ℕ) (rest′ : ℕ → Type 0) 
   pub gone : (j : ℕ) → j < 6 → (rest′ j → ⊥) → (j ≡ k → ⊥) → rest j → ⊥
 
 -- no link is in the empty set
-none-among : (j : ℕ) → j < 6 → among 0 j → ⊥
+pub none-among : (j : ℕ) → j < 6 → among 0 j → ⊥
 unfolding every
 none-among j h e = false≢true (ap not (sym e) ∙ at 6 (λ i. not (has 0 i)) refl j h)
 
@@ -82,10 +82,6 @@ module _ (f : ℕ → List ℕ → List ℕ) where
           go (inr (inl e)) = subst (λ (m : ℕ). lineWords m (changedOn f l k) ≡ f m (lineWords m before)) e
               (words-same k hk ys l (u .long) long ∙ ap (f k) same)
           go (inr (inr g)) = other (λ e. omega arith)
-
--- what a pass sends fits
-pub sends-long : (k : ℕ) (l : List ℕ) (o : Outcome) → k < 6 → Takes l o → length (sending o k (lineWords k l)) ≡ lineLong
-sends-long k l o hk t = length-sent (lineWords k l) o k (line-long k l hk (t .long)) (t .room k hk)
 
 -- a chip after a pass: registers and counters first, then all six links
 module _ (l ws cs : List ℕ) (o : Outcome) (h : length l ≡ chipLong) (lw : length ws ≡ registersLong) (lc : length cs ≡ countersLong) where

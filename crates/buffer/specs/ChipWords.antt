@@ -3,13 +3,14 @@ use Prim.Native.Nat.{ℕ, _≤_, _<_}
 use mathlib.Core.Path.{_≡_}
 use mathlib.Core.Bool.{true}
 use mathlib.Core.List.{List}
-use lib.ListN.{length}
+use lib.ListN.{length, getD}
+use Rattle.packet.specs.declared.Packet.{Packet}
 use Rattle.steps.specs.declared.Outcome.{Outcome}
 use Rattle.steps.specs.Links.{has}
 use Rattle.steps.specs.Deciding.{packetOn, legPacket}
 use Rattle.lists.specs.Lists.{part, putBack}
-use Rattle.links.specs.Offsets.{lineLong, registersLong, countersLong, countersAt, chipLong, linePlace}
-use Rattle.links.specs.LineWords.{sentWords, Room, still}
+use Rattle.links.specs.Offsets.{heldAt, lineLong, registersLong, countersLong, countersAt, chipLong, linePlace}
+use Rattle.links.specs.LineWords.{pushedIf, sentWords, Room, still}
 use Rattle.links.specs.Line.{Right}
 use Rattle.buffer.specs.Layout.{chipIn}
 use Rattle.mesh.specs.Steps.{chipAfter}
@@ -53,6 +54,16 @@ from k j = k ≤ j
 
 abbrev pub among : ℕ → ℕ → Type 0
 among set j = has set j ≡ true
+
+-- Packets pushed on the links of a set.
+abbrev pub pushing : ℕ → (ℕ → Packet) → ℕ → List ℕ → List ℕ
+pushing set p i w = pushedIf (has set i) w (p i)
+
+-- Each link of the set has room for one.
+pub record PushFits (set : ℕ) (l : List ℕ) : Type 0 where
+  pub long : length l ≡ chipLong
+  pub small : set < 64
+  pub room : (i : ℕ) → i < 6 → has set i ≡ true → getD (lineWords i l) heldAt 0 ≤ 7
 
 -- What a pass makes of a link's words.
 abbrev pub sending : Outcome → ℕ → List ℕ → List ℕ

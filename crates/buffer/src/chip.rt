@@ -3,9 +3,11 @@ use super::registers::put_registers;
 use super::registers::registers_at;
 use kept::Counters;
 use kept::counting::counted_of;
+use kept::counting::only_sends;
+use kept::counting::sent_count;
 use kept::keeping::kept_of;
 use links::line::is_ready;
-use links::line::send;
+use links::line::push;
 use links::offsets::CHIP;
 use links::offsets::COUNTERS_AT;
 use links::offsets::LINE;
@@ -17,19 +19,23 @@ use links::offsets::LINE_4;
 use links::offsets::LINE_5;
 use links::offsets::LINES_AT;
 use links::offsets::REGISTERS;
+use packet::Packet;
+use std::num::wrapping_add_u32;
 use steps::Outcome;
+use steps::deciding::leg_packet;
+use steps::deciding::packet_on;
 use steps::errors::flag_of;
 ghost use mathlib.Core.Path.{_≡_};
-ghost use lib.ListN.{length};
-ghost use Prim.Native.Nat.{_<_};
+ghost use lib.ListN.{length, getD};
+ghost use Prim.Native.Nat.{_≤_, _<_};
+ghost use Rattle.steps.specs.Deciding.{packetOn, legPacket};
 ghost use Rattle.kept.specs.Keeping.{keptOf};
 ghost use Rattle.kept.specs.Counting.{countedOf};
-ghost use Rattle.lists.specs.Lists.{part};
-ghost use Rattle.links.specs.Offsets.{lineLong, registersLong, countersLong, chipLong, linePlace};
-ghost use Rattle.links.specs.LineWords.{Room};
+ghost use Rattle.links.specs.Offsets.{heldAt, registersLong, countersLong, chipLong};
+ghost use Rattle.links.specs.LineWords.{pushed};
 ghost use Rattle.links.specs.Line.{readyLinks};
 ghost use Rattle.buffer.specs.Layout.{registersIn, registerWords, chipIn};
-ghost use Rattle.buffer.specs.ChipWords.{changedOn, sending, Takes, ChipStep, ChangedBut, among};
+ghost use Rattle.buffer.specs.ChipWords.{changedOn, lineWords, pushing, PushFits, sending, Takes, ChipStep, ChangedBut, among};
 
 // The links that are ready now.
 pub fn ready_of(chip: &[u32]) -> u32
@@ -54,26 +60,48 @@ pub fn after(chip: &mut [u32], o: Outcome)
     send_all(chip, o);
 }
 
-// Only the links that send are gone through, lowest first.
+// The packets of step 5 or 7 first, then the second leg.
 fn send_all(chip: &mut [u32], o: Outcome)
     requires { ⌜ Takes (now chip) o ⌝ }
     ensures { λ _. ⌜ ChangedBut (sending o) (among 0) (now (chip .entry)) (now (chip .exit)) ⌝ }
 {
-    let mut rest = o.sent | o.leg_sent;
+    send_packets(chip, o);
+    send_legs(chip, o);
+}
+
+// Only the links that send are gone through, lowest first.
+fn send_packets(chip: &mut [u32], o: Outcome)
+    requires { ⌜ PushFits (o .sent) (now chip) ⌝ }
+    ensures { λ _. ⌜ ChangedBut (pushing (o .sent) (packetOn o)) (among 0) (now (chip .entry)) (now (chip .exit)) ⌝ }
+{
+    let mut rest = o.sent;
     while rest != 0 {
         let i = u32::trailing_zeros(rest);
-        send_on(chip, o, i);
+        push_on(chip, i, packet_on(o, i));
         rest = rest & (rest - 1);
     }
 }
 
-// Sends what a pass has for link i.
-fn send_on(chip: &mut [u32], o: Outcome, i: u32)
-    requires { ⌜ (length (now chip) ≡ chipLong) × ((i < 6) × Room (part (linePlace i) lineLong (now chip)) o i) ⌝ }
-    ensures { λ _. ⌜ now (chip .exit) ≡ changedOn (sending o) (now (chip .entry)) i ⌝ }
+// A loop of its own, so that a pass without a second leg does not work out its packet.
+fn send_legs(chip: &mut [u32], o: Outcome)
+    requires { ⌜ PushFits (o .«leg_sent») (now chip) ⌝ }
+    ensures { λ _. ⌜ ChangedBut (pushing (o .«leg_sent») (λ _. legPacket o)) (among 0) (now (chip .entry)) (now (chip .exit)) ⌝ }
+{
+    let mut rest = o.leg_sent;
+    while rest != 0 {
+        let i = u32::trailing_zeros(rest);
+        push_on(chip, i, leg_packet(o));
+        rest = rest & (rest - 1);
+    }
+}
+
+// Puts a packet on link i.
+fn push_on(chip: &mut [u32], i: u32, p: Packet)
+    requires { ⌜ (length (now chip) ≡ chipLong) × ((i < 6) × (getD (lineWords i (now chip)) heldAt 0 ≤ 7)) ⌝ }
+    ensures { λ _. ⌜ now (chip .exit) ≡ changedOn (λ _ w. pushed w p) (now (chip .entry)) i ⌝ }
 {
     let at = LINES_AT + (i as usize) * LINE;
-    send(&mut chip[at..at + LINE], o, i);
+    push(&mut chip[at..at + LINE], p);
 }
 
 // Keeps a pass's first dropped unit, and counts all of them, in the nine words of the registers.
@@ -90,6 +118,22 @@ fn keep(words: &mut [u32], o: Outcome)
 
 // Counts a pass in the ten words of the counters.
 fn count(words: &mut [u32], o: Outcome)
+    requires { ⌜ length (now words) ≡ countersLong ⌝ }
+    ensures { λ _. ⌜ now (words .exit) ≡ countedOf (record { count = now (words .entry) }) o .count ⌝ }
+{
+    if only_sends(o) {
+        let passes = wrapping_add_u32(words[0], 1);
+        let sent = wrapping_add_u32(words[5], sent_count(o));
+        let missed = wrapping_add_u32(words[9], o.missed);
+        words[0] = passes;
+        words[5] = sent;
+        words[9] = missed;
+        return;
+    }
+    count_all(words, o);
+}
+
+fn count_all(words: &mut [u32], o: Outcome)
     requires { ⌜ length (now words) ≡ countersLong ⌝ }
     ensures { λ _. ⌜ now (words .exit) ≡ countedOf (record { count = now (words .entry) }) o .count ⌝ }
 {

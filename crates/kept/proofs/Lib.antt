@@ -1,3 +1,4 @@
 pub mod Account
 pub mod Capped
 pub mod OnePass
+pub mod OnlySent

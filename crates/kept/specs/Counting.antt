@@ -35,6 +35,10 @@ countsOf o =
     ∷ o .missed
     ∷ []
 
+-- What a pass adds that shows no error, and delivers, drops and swallows nothing.
+abbrev pub onlySent : Outcome → List ℕ
+onlySent o = 1 ∷ 0 ∷ 0 ∷ 0 ∷ 0 ∷ sentCount o ∷ 0 ∷ 0 ∷ 0 ∷ o .missed ∷ []
+
 abbrev pub plus : ℕ → ℕ → ℕ
 plus a b = (a + b) % 2 ^ 32
 

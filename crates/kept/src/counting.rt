@@ -7,7 +7,8 @@ use std::num::wrapping_add_u32;
 use steps::Outcome;
 use steps::errors::flag_of;
 ghost use mathlib.Core.Path.{_≡_};
-ghost use Rattle.kept.specs.Counting.{delivered, swallows, swallowed, sentCount, countedOf, zeros};
+ghost use mathlib.Core.Bool.{true};
+ghost use Rattle.kept.specs.Counting.{delivered, swallows, swallowed, sentCount, countsOf, onlySent, countedOf, zeros};
 
 // The counters after a pass.
 pub fn counted_of(c: Counters, o: Outcome) -> Counters
@@ -36,7 +37,14 @@ pub fn no_counts() -> Counters
     Counters { count: [0; 10] }
 }
 
-fn sent_count(o: Outcome) -> u32
+// Whether a pass shows no error, and delivers, drops and swallows nothing, as most passes of a round: three counters are then all that changes.
+pub fn only_sends(o: Outcome) -> bool
+    ensures { λ r. ⌜ (r ≡ true → countsOf o ≡ onlySent o) ⌝ }
+{
+    (o.errors == 0) & (o.dropped == 0) & (o.leg_dropped == 0) & (o.wanted != 0) & (o.wanted < 64)
+}
+
+pub fn sent_count(o: Outcome) -> u32
     ensures { λ n. ⌜ n ≡ sentCount o ⌝ }
 {
     if o.leg_sent == 0 {

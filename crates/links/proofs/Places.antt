@@ -138,6 +138,3 @@ module _ (l : List ℕ) (o : Outcome) (i : ℕ) (h : length l ≡ lineLong) (roo
   still-sent =
       still-push-if (has (o .«leg_sent») i) (pushedIf (has (o .sent) i) l (packetOn o i)) (legPacket o) room-second
       ∙ still-push-if (has (o .sent) i) l (packetOn o i) room-first
-
-  pub length-sent : length (sentWords l o i) ≡ lineLong
-  length-sent = length-pushed-if (has (o .«leg_sent») i) (pushedIf (has (o .sent) i) l (packetOn o i)) (legPacket o) ∙ long-between

@@ -6,20 +6,13 @@ use super::offsets::PLACES_AT;
 use super::offsets::STATE;
 use packet::Packet;
 use packet::control::carries_of;
-use steps::Outcome;
-use steps::deciding::has_link;
-use steps::deciding::leg_packet;
-use steps::deciding::packet_on;
 ghost use mathlib.Core.Path.{_≡_};
-ghost use mathlib.Core.Bool.{true};
 ghost use lib.ListN.{length, getD, drop, set};
-ghost use Prim.Native.Nat.{_+_, _≤_, _<_};
-ghost use Rattle.steps.specs.Links.{has};
-ghost use Rattle.steps.specs.Deciding.{packetOn, legPacket};
+ghost use Prim.Native.Nat.{_+_, _≤_};
 ghost use Rattle.links.specs.Offsets.{stateAt, heldAt, placeLong, lineLong};
 ghost use Rattle.links.specs.Line.{isReady};
 ghost use Rattle.links.specs.Words.{packetIn, lineIn};
-ghost use Rattle.links.specs.LineWords.{pushed, pushedIf, sentWords, stateOf, Room};
+ghost use Rattle.links.specs.LineWords.{pushed, stateOf};
 
 // Whether the link is ready: up, and at most 6 held.
 pub fn is_ready(line: &[u32]) -> bool
@@ -27,15 +20,6 @@ pub fn is_ready(line: &[u32]) -> bool
     ensures { λ r. ⌜ r ≡ isReady (lineIn (now (line .entry))) ⌝ }
 {
     (line[STATE] == 0) & (held(line) <= 6)
-}
-
-// Sends what a pass has for link i: the packet of step 5 or 7, then the second leg. There is room for both.
-pub fn send(line: &mut [u32], o: Outcome, i: u32)
-    requires { ⌜ (length (now line) ≡ lineLong) × ((i < 6) × Room (now line) o i) ⌝ }
-    ensures { λ _. ⌜ now (line .exit) ≡ sentWords (now (line .entry)) o i ⌝ }
-{
-    send_packet(line, o, i);
-    send_leg(line, o, i);
 }
 
 // The packet at a place, counted in words.
@@ -65,7 +49,7 @@ pub fn set_state(line: &mut [u32], up: bool)
 }
 
 // Puts a packet behind those that the link holds.
-fn push(line: &mut [u32], p: Packet)
+pub fn push(line: &mut [u32], p: Packet)
     requires { ⌜ (length (now line) ≡ lineLong) × (getD (now line) heldAt 0 ≤ 7) ⌝ }
     ensures { λ _. ⌜ now (line .exit) ≡ pushed (now (line .entry)) p ⌝ }
 {
@@ -75,24 +59,6 @@ fn push(line: &mut [u32], p: Packet)
     line[at + 1] = p.word;
     line[at + 2] = p.payload;
     line[HELD] = held + 1;
-}
-
-fn send_packet(line: &mut [u32], o: Outcome, i: u32)
-    requires { ⌜ (length (now line) ≡ lineLong) × ((i < 6) × (has (o .sent) i ≡ true → getD (now line) heldAt 0 ≤ 7)) ⌝ }
-    ensures { λ _. ⌜ now (line .exit) ≡ pushedIf (has (o .sent) i) (now (line .entry)) (packetOn o i) ⌝ }
-{
-    if has_link(o.sent, i) {
-        push(line, packet_on(o, i));
-    }
-}
-
-fn send_leg(line: &mut [u32], o: Outcome, i: u32)
-    requires { ⌜ (length (now line) ≡ lineLong) × ((i < 6) × (has (o .«leg_sent») i ≡ true → getD (now line) heldAt 0 ≤ 7)) ⌝ }
-    ensures { λ _. ⌜ now (line .exit) ≡ pushedIf (has (o .«leg_sent») i) (now (line .entry)) (legPacket o) ⌝ }
-{
-    if has_link(o.leg_sent, i) {
-        push(line, leg_packet(o));
-    }
 }
 
 // How many packets the link holds, not counting those that are set aside.
