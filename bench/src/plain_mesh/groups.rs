@@ -42,11 +42,11 @@ fn group(mesh: &[u32], chip: usize, rows: &[u32], room: &mut [u32]) -> bool {
     if !worth(packets, rows.len() / ROW) {
         return false;
     }
-    let mut tops = [0; MOST_PACKETS];
-    let asked = ask(mesh, chip, room, &mut tops);
-    let pays = pays(packets, rows, room);
+    let (mut marks, mut tops) = ([0; GROUPS], [0; MOST_PACKETS]);
+    let asked = ask(mesh, chip, &mut marks, &mut tops);
+    let pays = pays(packets, rows, &marks);
     if pays {
-        build(rows, &tops[..asked], room);
+        build(rows, &tops[..asked], &marks, room);
     }
     pays
 }
@@ -61,13 +61,12 @@ fn worth(packets: usize, rows: usize) -> bool {
 }
 
 /// Marks the groups that are asked for, and answers how many they are; their numbers stand first in `tops`.
-fn ask(mesh: &[u32], chip: usize, room: &mut [u32], tops: &mut [u32; MOST_PACKETS]) -> usize {
-    room[..GROUPS].fill(0);
+fn ask(mesh: &[u32], chip: usize, marks: &mut [u8; GROUPS], tops: &mut [u32; MOST_PACKETS]) -> usize {
     let mut asked = 0;
     for source in 0..LINKS as usize {
         let aside = &mesh[arrival_at(mesh, chip, source) + ASIDE..];
         for packet in aside[1..1 + aside[0] as usize * PLACE].chunks_exact(PLACE) {
-            let mark = &mut room[top_of(packet[1])];
+            let mark = &mut marks[top_of(packet[1])];
             if *mark == 0 {
                 *mark = 1;
                 tops[asked] = top_of(packet[1]) as u32;
@@ -79,8 +78,8 @@ fn ask(mesh: &[u32], chip: usize, room: &mut [u32], tops: &mut [u32; MOST_PACKET
 }
 
 /// What building takes is less than what the lookups spare.
-fn pays(packets: usize, rows: &[u32], room: &[u32]) -> bool {
-    let goes_in = |row: &[u32]| !fixes_top(row) || room[top_of(row[0])] != 0;
+fn pays(packets: usize, rows: &[u32], marks: &[u8; GROUPS]) -> bool {
+    let goes_in = |row: &[u32]| !fixes_top(row) || marks[top_of(row[0])] != 0;
     let taken = rows.chunks_exact(SAMPLE * ROW).filter(|thirteen| goes_in(&thirteen[..ROW])).count();
     let count = rows.len() / ROW;
     6 * count + 104 * taken + 1600 < packets * count.saturating_sub(40 * taken + 40)
@@ -94,8 +93,9 @@ fn top_of(key: u32) -> usize {
     (key >> 24) as usize
 }
 
-/// The groups that are asked for are marked by 1 in the room, which is one more than the rows that they have so far.
-fn build(rows: &[u32], tops: &[u32], room: &mut [u32]) {
+/// The word of a group that is asked for is one more than the rows that it has so far.
+fn build(rows: &[u32], tops: &[u32], marks: &[u8; GROUPS], room: &mut [u32]) {
+    room.iter_mut().zip(marks).for_each(|(word, &mark)| *word = mark.into());
     let count = rows.len() / ROW;
     let (words, blocks) = room.split_at_mut(BLOCKS);
     let mut put = |group: usize, number: u32| {

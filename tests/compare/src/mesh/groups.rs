@@ -17,7 +17,7 @@ pub fn room_for(rows: usize) -> usize {
     257 + GROUPS * rows
 }
 
-/// What a round wrote for one chip, and what it was for.
+/// A chip for which a round asks whether groups pay, and what is written for it.
 #[derive(Clone, Debug)]
 pub struct Written {
     pub chip: u32,
@@ -40,8 +40,8 @@ pub struct Written {
     pub by_none: usize,
 }
 
-/// Chips by number: each for which asking is worth it has what it asks for written over what those before left. The mesh
-/// is that before the round.
+/// Chips by number: each for which groups pay has those that it asks for written over what those before left. The mesh is
+/// that before the round.
 pub fn after_round(mesh: &Mesh, tables: &LentTables, room: &mut [u32]) -> Vec<Written> {
     let mut all = vec![];
     for chip in 0..mesh.chips.len() as u32 {
@@ -51,7 +51,9 @@ pub fn after_round(mesh: &Mesh, tables: &LentTables, room: &mut [u32]) -> Vec<Wr
         if !room.is_empty() && worth(packets.len(), rows.len()) {
             let asked = packets.iter().map(|packet| top(packet.word)).collect();
             let built = pays(packets.len(), &asked, &rows);
-            write(&asked, if built { &rows } else { &[] }, room);
+            if built {
+                write(&asked, &rows, room);
+            }
             all.push(written(chip, &packets, &rows, asked, built, room.len()));
         }
     }

@@ -57,7 +57,7 @@ const BUILT: Events<Written> = &[
     ("a packet goes by no row", |written| written.by_none > 0),
 ];
 
-/// What was written for one chip, built or not.
+/// Of one chip for which groups were asked for, built or not.
 const ASKED: Events<Written> = &[
     ("built", |written| written.built),
     ("not built", |written| !written.built),
