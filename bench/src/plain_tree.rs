@@ -111,18 +111,27 @@ impl Way {
 
 fn way_to(call: &TreeCall, target: u32) -> Way {
     let (width, height) = (call.width, call.height);
-    let east = (target % width + width - call.source % width) % width;
-    let north = (target / width + height - call.source / width) % height;
+    let east = wrapped(target % width + width - call.source % width, width);
+    let north = wrapped(target / width + height - call.source / width, height);
     // forwards in both, steps up to the larger number cost nothing
     let far = east.max(north);
-    let forwards = Way { east: (far - (far - east) % width) as i32, north: (far - (far - north) % height) as i32 };
-    let (west, south) = (-(((width - east) % width) as i32), -(((height - north) % height) as i32));
+    let forwards = Way { east: (far - within(far - east, width)) as i32, north: (far - within(far - north, height)) as i32 };
+    let (west, south) = (-(wrapped(width - east, width) as i32), -(wrapped(height - north, height) as i32));
     let others = [
         Way { east: east as i32, north: south },
         Way { east: west, north: north as i32 },
         Way { east: west, north: south },
     ];
     others.into_iter().fold(forwards, |best, other| if other.links() < best.links() { other } else { best })
+}
+
+/// What is left of a division, without one.
+fn wrapped(place: u32, size: u32) -> u32 {
+    if place < size { place } else { place - size }
+}
+
+fn within(steps: u32, size: u32) -> u32 {
+    if steps < size { steps } else { steps % size }
 }
 
 #[derive(Clone, Copy)]
