@@ -21,19 +21,13 @@ pub fn tree(call: &TreeCall, rows: &mut [u32], starts: &mut [u32]) -> Tree {
     if refusal != 0 {
         return Tree { refusal, rows: 0 };
     }
-    let mut grown = Grown {
-        entered: [OUTSIDE; MOST_CHIPS],
-        routes: [0; MOST_CHIPS],
-    };
+    let mut grown = Grown { entered: [OUTSIDE; MOST_CHIPS], routes: [0; MOST_CHIPS] };
     grown.entered[call.source as usize] = SOURCE;
     for target in call.targets.chunks_exact(2) {
         add(call, target[0], &mut grown);
         grown.routes[target[0] as usize] |= target[1] << LINKS;
     }
-    Tree {
-        refusal: 0,
-        rows: write_rows(call, &grown, rows, starts),
-    }
+    Tree { refusal: 0, rows: write_rows(call, &grown, rows, starts) }
 }
 
 /// 7, 19, 20, 21, 26.
@@ -65,10 +59,7 @@ fn refusal_of(call: &TreeCall, rows_room: usize, starts_room: usize) -> u32 {
 
 fn add(call: &TreeCall, target: u32, grown: &mut Grown) {
     let way = way_to(call, target);
-    let source = Chip {
-        x: call.source % call.width,
-        y: call.source / call.width,
-    };
+    let source = Chip { x: call.source % call.width, y: call.source / call.width };
     let (mut from, mut at, mut chip) = (source, 0, source);
     for step in 0..way.links() {
         chip = over(call, chip, way.link(step));
@@ -124,32 +115,15 @@ fn way_to(call: &TreeCall, target: u32) -> Way {
     let north = wrapped(target / width + height - call.source / width, height);
     // forwards in both, steps up to the larger number cost nothing
     let far = east.max(north);
-    let forwards = Way {
-        east: (far - within(far - east, width)) as i32,
-        north: (far - within(far - north, height)) as i32,
-    };
-    let (west, south) = (
-        -(wrapped(width - east, width) as i32),
-        -(wrapped(height - north, height) as i32),
-    );
+    let forwards =
+        Way { east: (far - within(far - east, width)) as i32, north: (far - within(far - north, height)) as i32 };
+    let (west, south) = (-(wrapped(width - east, width) as i32), -(wrapped(height - north, height) as i32));
     let others = [
-        Way {
-            east: east as i32,
-            north: south,
-        },
-        Way {
-            east: west,
-            north: north as i32,
-        },
-        Way {
-            east: west,
-            north: south,
-        },
+        Way { east: east as i32, north: south },
+        Way { east: west, north: north as i32 },
+        Way { east: west, north: south },
     ];
-    others.into_iter().fold(
-        forwards,
-        |best, other| if other.links() < best.links() { other } else { best },
-    )
+    others.into_iter().fold(forwards, |best, other| if other.links() < best.links() { other } else { best })
 }
 
 /// What is left of a division, without one.
