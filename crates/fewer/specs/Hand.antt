@@ -83,6 +83,11 @@ abbrev pub Tested : List Numbered → Entry → ℕ → ℕ → Bool → Type 0
 Tested rows r lo upto true = (matchesSome r ≡ true) × ((i : ℕ) → lo ≤ i → i < upto → covers (rowAt rows i) r ≡ false)
 Tested rows r lo upto false = (matchesSome r ≡ false) ⊎ ((i : ℕ) × ((i < upto) × (covers (rowAt rows i) r ≡ true)))
 
+-- What a search tells of the rows from `lo` up to `upto`: one above `upto` covers a row, or none of them does.
+abbrev pub Covered : List Numbered → Entry → ℕ → ℕ → Bool → Type 0
+Covered rows r lo upto true = (i : ℕ) × ((i < upto) × (covers (rowAt rows i) r ≡ true))
+Covered rows r lo upto false = (i : ℕ) → lo ≤ i → i < upto → covers (rowAt rows i) r ≡ false
+
 -- The walk has gone on: it keeps what it kept.
 pub record WentOn (held₀ gone₀ : List ℕ) (w₀ : Walk) (held gone : List ℕ) (w : Walk) : Type 0 where
   pub onward : Onward held₀ gone₀ (walkRows held₀ w₀) held gone (walkRows held w)

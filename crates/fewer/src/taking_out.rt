@@ -7,7 +7,7 @@ ghost use mathlib.Core.Path.{_≡_};
 ghost use lib.ListN.{length};
 ghost use Prim.Native.Nat.{_+_, _*_, _≤_, _<_};
 ghost use Rattle.fewer.specs.Process.{covers, matchesSome};
-ghost use Rattle.fewer.specs.Hand.{numberedOf, heldOf, AllMatch, walkRows, Walking, Tested, Passes, TookOut};
+ghost use Rattle.fewer.specs.Hand.{numberedOf, heldOf, AllMatch, walkRows, Walking, Tested, Covered, Passes, TookOut};
 
 // How many of the first rows stay, in one walk. The numbers of the others are listed, each where the number of rows that are gone before it says.
 pub fn take_out(held: &mut [u32], gone: &mut [u32], count: usize) -> usize
@@ -82,14 +82,49 @@ fn stays(held: &[u32], row: Held, upto: usize) -> bool
     if !matches_some(row) {
         return false;
     }
+    !any_covers(held, row, upto)
+}
+
+// Whether one of the first rows covers a row: four of them a turn, then what is left of them.
+fn any_covers(held: &[u32], row: Held, upto: usize) -> bool
+    requires { ⌜ upto * 4 ≤ length (now held) ⌝ }
+    ensures { λ r. ⌜ Covered (heldOf (now (held .entry))) (numberedOf row .entry) 0 upto r ⌝ }
+{
+    let fours = upto / 4;
     let mut i = 0;
-    while i < upto {
-        if covers(row_at(held, i), row) {
-            return false;
+    while i < fours {
+        if four_cover(held, row, i * 4) {
+            return true;
         }
         i += 1;
     }
-    true
+    last_cover(held, row, fours * 4, upto)
+}
+
+// Whether one of four rows covers a row.
+fn four_cover(held: &[u32], row: Held, i: usize) -> bool
+    requires { ⌜ (i + 4) * 4 ≤ length (now held) ⌝ }
+    ensures { λ r. ⌜ Covered (heldOf (now (held .entry))) (numberedOf row .entry) i (i + 4) r ⌝ }
+{
+    covers(row_at(held, i), row)
+        | covers(row_at(held, i + 1), row)
+        | covers(row_at(held, i + 2), row)
+        | covers(row_at(held, i + 3), row)
+}
+
+// Whether one of the rows from a place on covers a row, one after another.
+fn last_cover(held: &[u32], row: Held, from: usize, upto: usize) -> bool
+    requires { ⌜ upto * 4 ≤ length (now held) ⌝ }
+    ensures { λ r. ⌜ Covered (heldOf (now (held .entry))) (numberedOf row .entry) from upto r ⌝ }
+{
+    let mut i = from;
+    while i < upto {
+        if covers(row_at(held, i), row) {
+            return true;
+        }
+        i += 1;
+    }
+    false
 }
 
 fn matches_some(row: Held) -> bool
