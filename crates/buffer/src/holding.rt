@@ -87,9 +87,13 @@ fn line_fine(line: &[u32]) -> bool
     places_fine(line, line[HELD] as usize)
 }
 
+// Registers that keep no unit, as most do, are told by their zeros.
 fn registers_fine(r: Registers) -> bool
     ensures { λ b. ⌜ b ≡ registersFine r ⌝ }
 {
+    if r.units == 0 {
+        return all_zeros(r);
+    }
     (r.control < 256)
         & (r.link < 6)
         & (r.leg <= 1)
@@ -97,7 +101,6 @@ fn registers_fine(r: Registers) -> bool
         & ((r.source < 6) | (r.source == 7))
         & (r.phase <= 3)
         & (r.units <= MOST_UNITS)
-        & (!(r.units == 0) | all_zeros(r))
 }
 
 // Whether each number but that of the units is 0.

@@ -1,11 +1,11 @@
 -- A chip's registers stay in range: what is kept of a unit is its packet, its link, the source and the phase of a pass, and the number of units stops at the top.
 use mathlib.Core.Path.{_≡_, refl}
 use mathlib.Core.Logic.{inl, inr}
-use mathlib.Core.Bool.{Bool, true, false, cond, _&&_, _||_, and-eq-true-iff}
+use mathlib.Core.Bool.{Bool, true, false, cond, _&&_, _||_, and-eq-true-iff, and-false}
 use Prim.Native.Nat.{ℕ, _+_, _≤_, _<_}
 use native.Mathlib.Omega.{arith}
 use lib.Dec.{eqb, ltb, leb, lit<}
-use borrow.Author.Tests.{eqb-false, ltb-true, leb-true, eq-eqb, ne-eqb, lt-ltb, le-leb}
+use borrow.Author.Tests.{eqb-true, eqb-false, ltb-true, leb-true, eq-eqb, ne-eqb, lt-ltb, le-leb}
 use Rattle.packet.specs.declared.Packet.{Packet}
 use Rattle.steps.specs.declared.Outcome.{Outcome}
 use Rattle.kept.specs.declared.Registers.{Registers}
@@ -14,7 +14,7 @@ use Rattle.steps.specs.Links.{has}
 use Rattle.steps.specs.Deciding.{decided, outcomeOf, Source, Checked}
 use Rattle.kept.specs.Keeping.{isEmpty, dropCount, mostUnits, capped, moreOf, lowest, firstDrop, withUnits, keptOf}
 use Rattle.kept.proofs.Capped.{capped-le, capped-some}
-use Rattle.mesh.specs.Sound.{registersFine, Passable}
+use Rattle.mesh.specs.Sound.{allZeros, registersFine, Passable}
 use Rattle.mesh.proofs.SoundSends.{stamped-passable}
 use Rattle.tables.specs.Tables.{ChipTables}
 
@@ -85,3 +85,18 @@ module _ (p : Packet) (s : ℕ) (tables : ChipTables) (t : Setting) (h : Checked
       go true d c e = fine
       go false d true e = first-fine o (stamped-passable p s tables t h from passable .control) from (h .phase) (eqb-false _ _ d)
       go false d false e = units-fine r (r .units + dropCount o) fine (λ z. eqb-false (dropCount o) 0 d (omega (arith, z)))
+
+-- ---- empty registers
+
+absorbed : (x a : Bool) → (a ≡ true → x ≡ true) → (x && a) ≡ a
+absorbed x true h = simp (h refl)
+absorbed x false h = and-false x
+
+-- where no unit is kept the other eight numbers decide
+pub zeros-decide : (r : Registers) → r .units ≡ 0 → registersFine r ≡ allZeros r
+zeros-decide r none = simp none (absorbed _ (allZeros r) in-turn)
+  where
+    in-turn : allZeros r ≡ true → (ltb (r .control) 256 && ltb (r .link) 6 && leb (r .leg) 1 && eqb (r .more) 0 && (ltb (r .source) 6 || eqb (r .source) 7) && leb (r .phase) 3 && leb 0 mostUnits) ≡ true
+    in-turn zeros =
+        let t : _ = simp and-eq-true-iff at zeros in
+        simp (eqb-true (r .control) 0 (t .0 .0 .0 .0 .0 .0 .0), eqb-true (r .link) 0 (t .0 .0 .0 .0 .1), eqb-true (r .leg) 0 (t .0 .0 .0 .1), eqb-true (r .more) 0 (t .0 .0 .1), eqb-true (r .source) 0 (t .0 .1), eqb-true (r .phase) 0 (t .1))
