@@ -1,25 +1,8 @@
 // A lab's own tables, tried on the model: `lab run FILE` makes the calls of FILE and tells what happened. The last line of
 // standard output is the status: 0 all was accepted, 1 a call was refused, 2 a file could not be read or understood.
-mod account;
-mod calls;
 mod commands;
-mod course;
-mod deliveries;
-mod flooding;
-mod following;
-mod keeping;
-mod legend;
-mod passes;
-mod picture;
-mod placing;
 mod playing;
-mod records;
-mod replaying;
-mod running;
 mod showing;
-mod spent;
-mod svg;
-mod telling;
 
 use script::lines::LINE;
 use script::pieces::PIECE;
@@ -30,7 +13,7 @@ use sheet::board::ROWS;
 use sheet::board::STARTS;
 use sheet::board::WORDS;
 
-// All memory of the program stands here, but for the room that a round may be lent (`calls`).
+// All memory of the program stands here, but for the room that a round may be lent (`calls` of `acting`).
 fn main() {
     let mut rows = [0u32; ROWS];
     let mut starts = [0u32; STARTS];

@@ -1,15 +1,15 @@
 // Calls made on the mesh and tables of FILE: those of FILE, kept as a trace or not, or those of a kept trace.
-use super::account::tell_account;
-use super::course::Course;
-use super::course::course_on;
-use super::flooding::all_codes;
-use super::following::follow_packet;
-use super::picture::draw;
-use super::replaying::replay_trace;
-use super::running::run_file;
-use super::telling::text;
+use acting::flooding::all_codes;
+use acting::following::follow_packet;
+use acting::replaying::replay_trace;
+use acting::running::run_file;
 use buffer::opening::open;
+use drawing::account::tell_account;
+use drawing::picture::draw;
 use packet::Packet;
+use report::course::Course;
+use report::course::course_on;
+use report::telling::text;
 use script::cells::between;
 use script::complaints::err;
 use script::lines::LINE;

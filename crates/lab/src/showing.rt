@@ -1,14 +1,14 @@
 // A trace as lines that FILE could hold: kept again behind FILE's mesh and tables they give the same bytes.
-use super::records::RECORD;
-use super::records::RECORD_THERE;
-use super::records::Records;
-use super::records::next_record;
-use super::records::records_of;
-use super::telling::number;
-use super::telling::small;
-use super::telling::tell_refusal;
-use super::telling::text;
 use libc::STDOUT_FILENO;
+use report::records::RECORD;
+use report::records::RECORD_THERE;
+use report::records::Records;
+use report::records::next_record;
+use report::records::records_of;
+use report::telling::number;
+use report::telling::small;
+use report::telling::tell_refusal;
+use report::telling::text;
 use script::cells::between;
 use script::names::say_link;
 use script::pieces::FAILED;

@@ -1,0 +1,46 @@
+-- The loop of `sum_units` goes through the chips.
+use Prim.Native.Nat.{_-_}
+use borrow.Author.Needs.{needs}
+use Rattle.drawing.proofs.account.sum_units.Statement.{statement}
+use Rattle.drawing.proofs.account.sum_units.Tie as tie
+
+abbrev Inv-loop : tie.InvT-loop
+Inv-loop mesh u₀ all chip₀ u chip = Unit {0}
+
+abbrev μ-loop : tie.MeasureT-loop
+μ-loop mesh u₀ all chip₀ u chip = all - chip
+
+chips-requires : tie.Need-chips-requires Inv-loop μ-loop
+chips-requires c κs = search needs
+
+loop-holds : tie.Need-loop-holds Inv-loop μ-loop
+loop-holds c = search needs
+
+with-chip-requires : tie.Need-with-chip-requires Inv-loop μ-loop
+with-chip-requires c κs = search needs
+
+add-chip : tie.Need-add-chip Inv-loop μ-loop
+add-chip c = search needs
+
+loop-less : tie.Need-loop-less Inv-loop μ-loop
+loop-less c = search needs
+
+loop-again : tie.Need-loop-again Inv-loop μ-loop
+loop-again c = search needs
+
+returns : tie.Need-returns Inv-loop μ-loop
+returns c = search needs
+
+pub sum-units-spec : {M : Type 1} → statement M
+sum-units-spec =
+    tie.close
+    (tie.spec
+    Inv-loop
+    μ-loop
+    chips-requires
+    loop-holds
+    with-chip-requires
+    add-chip
+    loop-less
+    loop-again
+    returns)
