@@ -24,7 +24,7 @@ use Rattle.mesh.proofs.SoundSteps.{sound-injected}
 use Rattle.promises.specs.History.{Tag, Event, passed, emptied, State, Opens, turned, passages, after}
 use Rattle.promises.specs.Sequence.{Step, sequence}
 use Rattle.promises.specs.Told.{EachPass, sumOf}
-use Rattle.promises.specs.GrownTree.{Only, Matching, handed, injecting, GrownTree}
+use Rattle.promises.specs.GrownTree.{Only, AtMostDeep, Matching, handed, injecting, GrownTree}
 use Rattle.promises.proofs.Told.{sum-append, each-append, each-pass-weaken}
 use Rattle.promises.proofs.Accepts as accepts
 use Rattle.promises.proofs.Sequences.{after-accepted}
@@ -141,12 +141,13 @@ module _ (w h f monitor : ℕ) (o : Opens w h f monitor) (xs : List Step) where
         }
 
 pub grown-tree : GrownTree
-grown-tree w h f monitor o xs a bytes t room cs none wide high quiet up accepted only matching deep keeps enough =
+grown-tree w h f monitor o xs a d bytes t room cs none wide high quiet up accepted only matching deep within keeps enough =
     let s = sequence w h f monitor xs in
-    let c : Call = injecting a s f bytes t room in
+    let c : Call = injecting a s f d bytes t room in
     let x = accepts.arrivalNow s (a .source) bytes .flight in
     let trip : Trip = record { asked = a; none = none; mesh = s .mesh; wide = wide; high = high; up = up; number = length (s .given); before = s .rounds } in
     let fine = accepts.inject-accepts (s .mesh) (a .source) bytes t room (accepts.unless-accepts _ _ (s .mesh) (injected t turned (s .mesh) (a .source) x) accepted) in
     let first : accepts.afterInjection s (a .source) bytes t ≡ after s c = sym (after-accepted s c (eq-eqb _ 0 accepted) ∙ accepts.inject-leaves s (a .source) bytes t room accepted) in
     let since : Since trip f (after s c) = subst (Since trip f) first (first-pass w h f monitor o xs trip refl refl refl quiet bytes t only matching fine) in
-    delivers trip f deep (foldl after (after s c) cs) enough (after-calls trip f deep cs (after s c) keeps (since .sound) since)
+    let in-phase : AtMostDeep a f = λ links low on. omega (arith, deep links low on) in
+    delivers trip f d deep (foldl after (after s c) cs) enough (after-calls trip f in-phase cs (after s c) keeps (since .sound) since)

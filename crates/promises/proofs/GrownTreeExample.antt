@@ -85,7 +85,7 @@ all-up zero i there near = all-or (λ l. l .up ≡ true) (replicate 6 idle) i id
 all-up (suc zero) i there near = all-or (λ l. l .up ≡ true) (replicate 6 idle) i idle (all-replicate (λ l. l .up ≡ true) 6 idle refl) refl
 all-up (suc (suc chip)) i there near = absurd (omega arith)
 
-delivered : Delivers a 0 (afterwards a s 1 bytes t 6 calls)
+delivered : Delivers a 0 (afterwards a s 1 1 bytes t 6 calls)
 unfolding sequence All after isMarked isStamped allRoutes allFixed allCodes neverFalling rowsFew rowsOf firstMatch wantedOf decided outcomeOf total linesAfter arrivingFrom ones onesIn
 delivered =
-    grown-tree 2 1 1 0 (record { size = refl; phases = refl; monitored = lit≤ tt }) [] a bytes t 6 calls accepted refl refl refl all-up refl only matching deep (only, tt) (lit≤ tt)
+    grown-tree 2 1 1 0 (record { size = refl; phases = refl; monitored = lit≤ tt }) [] a 1 bytes t 6 calls accepted refl refl refl all-up refl only matching deep (lit≤ tt) (only, tt) (lit≤ tt)

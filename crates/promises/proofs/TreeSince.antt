@@ -130,8 +130,9 @@ module _ (w : Trip) (f : ℕ) (deep : AtMostDeep (w .asked) f) where
             reads = λ f′ s chip allowed sound there h. since-read s h chip there;
           }
 
-  -- ---- after as many rounds as the tree is deep
+-- ---- after as many rounds as the tree is deep
 
+module _ (w : Trip) (f d : ℕ) (deep : AtMostDeep (w .asked) d) where
   all-empty : (l : List (Flight Tag)) → l ≡ [] → All (λ x. x .tag .injection ≡ w .number → ⊥) l
   unfolding All
   all-empty l e = subst (All (λ x. x .tag .injection ≡ w .number → ⊥)) (sym e) tt
@@ -141,8 +142,8 @@ module _ (w : Trip) (f : ℕ) (deep : AtMostDeep (w .asked) f) where
   each-place P [] d h = tt
   each-place P (x ∷ xs) d h = (h 0 (omega arith), each-place P xs d (λ k low. h (suc k) (omega arith)))
 
-  module _ (s : State) (enough : w .before + f ≤ s .rounds) (h : Since w f s) where
-    late : f ≤ roundsBy w s
+  module _ (s : State) (enough : w .before + d ≤ s .rounds) (h : Since w f s) where
+    late : d ≤ roundsBy w s
     late = omega arith
 
     -- no link leads deeper
@@ -153,7 +154,7 @@ module _ (w : Trip) (f : ℕ) (deep : AtMostDeep (w .asked) f) where
         let r = shape.rooted (w .asked) (w .none) in
         let on : ℕ = shape.next (w .asked) (w .none) c i in
         let by : entered w on ≡ i = r .entered-once c i there near (both .0) in
-        let most : depth w on ≤ f = shape.at-most (w .asked) (w .none) f deep on (shape.next-there (w .asked) (w .none) c i) (λ out. omega arith) in
+        let most : depth w on ≤ d = shape.at-most (w .asked) (w .none) d deep on (shape.next-there (w .asked) (w .none) c i) (λ out. omega arith) in
         omega (arith, late, r .deeper c i there near (both .0), eqb-true (depth w c) (roundsBy w s) (both .1)))) (h .full c i there near)
 
     -- all processors of the routes have it
@@ -165,7 +166,7 @@ module _ (w : Trip) (f : ℕ) (deep : AtMostDeep (w .asked) f) where
             let no-route : route w c ≡ 0 = shape.rooted (w .asked) (w .none) .outside c there out in
             nobody w (roundsBy w s) c q no-route ∙ sym (ap (λ (r : ℕ). cond (has (r / 64) q) 1 0) no-route ∙ ap (λ (b : Bool). cond b 1 0) (has-none q))
         go (no in-tree) =
-            ap (λ (b : Bool). cond (b && has (route w c / 64) q) 1 0) (le-leb (depth w c) (roundsBy w s) (omega (arith, late, shape.at-most (w .asked) (w .none) f deep c there in-tree)))
+            ap (λ (b : Bool). cond (b && has (route w c / 64) q) 1 0) (le-leb (depth w c) (roundsBy w s) (omega (arith, late, shape.at-most (w .asked) (w .none) d deep c there in-tree)))
 
     pub delivers : Delivers (w .asked) (w .number) s
     delivers =

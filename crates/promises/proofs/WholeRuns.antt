@@ -17,7 +17,7 @@ use Rattle.buffer.specs.Opening.{openedWords, opening}
 use Rattle.mesh.specs.Asked.{Call, Answer, leftBy, answerOf}
 use Rattle.trace.specs.declared.Replayed.{Replayed}
 use Rattle.promises.specs.Told.{plainChip, plain}
-use Rattle.promises.specs.Sequence.{Step, call, replay, apart, lentNone, openRefused, stepped, sequence, Reply, toCall, toReplay, answersBy, answersOf, addedIn, Called, Run, ended, called, replayed, aside, notOpened}
+use Rattle.promises.specs.Sequence.{Step, call, replay, apart, lentNone, flood, openRefused, stepped, sequence, Reply, toCall, toReplay, answersBy, answersOf, addedIn, Called, Run, ended, called, replayed, aside, floods, notOpened}
 use Rattle.promises.specs.Demand3.{WholeRun}
 use Rattle.promises.proofs.Forgets.{forgetting, program}
 use Rattle.promises.proofs.Lefts.{records-added, log-after, replay-sixes}
@@ -114,6 +114,8 @@ run-told s l (replay trace t room ∷ later) behind log answers held m (replayed
     let one = replay-told s l held m trace t room between lent written answer long contract in
     then-told one (run-told (stepped s (replay trace t room)) between later behind _ _ (one .holds) (one .mesh) rest)
 run-told s l (apart (lentNone a) ∷ later) behind log answers held m (aside rest) =
+    let r = run-told s l later behind log answers held m rest in record { holds = r .holds; mesh = r .mesh; logged = r .logged; answered = r .answered }
+run-told s l (apart (flood codes) ∷ later) behind log answers held m (floods refusal written told all rest) =
     let r = run-told s l later behind log answers held m rest in record { holds = r .holds; mesh = r .mesh; logged = r .logged; answered = r .answered }
 run-told s l (apart (openRefused w h f monitor) ∷ later) behind log answers held m (notOpened {between} refusal first some e rest) =
     let stays : between ≡ l = e ∙ refused-opens-nothing refusal l w h f monitor some in

@@ -28,7 +28,12 @@ use Rattle.buffer.specs.Holding.{holdsMesh}
 use Rattle.mesh.specs.Sound.{SoundLine}
 use Rattle.mesh.specs.Steps.{Tables}
 use Rattle.mesh.specs.Calls.{Left, many, chipOf, lineOf, registersRead, countRead, meshRead, linkRead, flightRead}
-use Rattle.buffer.specs.Leaving.{Leaves, Moves, linkLeft}
+use Rattle.buffer.specs.Leaving.{Leaves, Moves, linkLeft, roundRoom}
+use Rattle.flood.specs.Codes.{floodRefusal, flooded}
+use Rattle.fewer.specs.declared.Fewer.{Fewer}
+use Rattle.fewer.specs.Call.{fewerOf, leftAfter, goneAfter}
+use Rattle.tree.specs.declared.Tree.{Tree}
+use Rattle.tree.specs.Call.{treeOf, rowsAfter, startsAfter}
 use Rattle.trace.specs.declared.Call.{Call}
 use Rattle.trace.specs.declared.Written.{Written}
 use Rattle.trace.specs.declared.Record.{Record}
@@ -120,6 +125,32 @@ replay-determined = one-replay
 -- And every word of the room for groups.
 pub replay-room-determined : (l : List ℕ) (t : Tables) (log : ℕ) (s room a b : List ℕ) → a ≡ replayRoom l t log s room → b ≡ replayRoom l t log s room → a ≡ b
 replay-room-determined l t log s room = determined
+
+-- The room after a round; an injection and a pass leave it word for word as it came.
+pub round-room-determined : (before : List ℕ) (t : Tables) (log : ℕ) (room a b : List ℕ) → a ≡ roundRoom before t log room → b ≡ roundRoom before t log room → a ≡ b
+round-room-determined before t log room = determined
+
+-- A flood: its answer, and every code.
+pub flood-determined : (mesh codes : List ℕ) (r s : ℕ) (a b : List ℕ)
+    → r ≡ floodRefusal (holdsMesh mesh) (meshOf mesh) codes → s ≡ floodRefusal (holdsMesh mesh) (meshOf mesh) codes
+    → a ≡ flooded (holdsMesh mesh) (meshOf mesh) codes → b ≡ flooded (holdsMesh mesh) (meshOf mesh) codes
+    → (r ≡ s) × (a ≡ b)
+flood-determined mesh codes r s a b e f g h = (determined r s e f, determined a b g h)
+
+-- A table made fewer: its answer, and every word of what it is lent.
+pub fewer-determined : (rows left gone : List ℕ) (x y : Fewer) (a b c d : List ℕ) → x ≡ fewerOf rows left gone → y ≡ fewerOf rows left gone
+    → a ≡ leftAfter rows left gone → b ≡ leftAfter rows left gone
+    → c ≡ goneAfter rows left gone → d ≡ goneAfter rows left gone
+    → (x ≡ y) × ((a ≡ b) × (c ≡ d))
+fewer-determined rows left gone x y a b c d e f g h i j = (determined x y e f, (determined a b g h, determined c d i j))
+
+-- A tree: its answer, and every word of the rows and the starts.
+pub tree-determined : (width height source key mask : ℕ) (targets rows starts : List ℕ) (x y : Tree) (a b c d : List ℕ)
+    → x ≡ treeOf width height source key mask targets rows starts → y ≡ treeOf width height source key mask targets rows starts
+    → a ≡ rowsAfter width height source key mask targets rows starts → b ≡ rowsAfter width height source key mask targets rows starts
+    → c ≡ startsAfter width height source key mask targets rows starts → d ≡ startsAfter width height source key mask targets rows starts
+    → (x ≡ y) × ((a ≡ b) × (c ≡ d))
+tree-determined width height source key mask targets rows starts x y a b c d e f g h i j = (determined x y e f, (determined a b g h, determined c d i j))
 
 -- "Every directed link holds at most 8 packets", in every buffer that holds a mesh, as opening and every accepted call leave one.
 pub no-link-above-8 : (l : List ℕ) → holdsMesh l ≡ true → (chip link : ℕ) → chip < many (meshOf l) → link < 6 → length (lineOf (meshOf l) chip link .held) ≤ 8

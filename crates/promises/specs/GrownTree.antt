@@ -61,9 +61,9 @@ module _ (a : Asked) where
   along chip [] = true
   along chip (i ∷ is) = isLink (a .width) (a .height) (a .source) tree chip i && along (across (a .width) (a .height) chip i) is
 
-  -- "The tree at most F links deep."
+  -- The tree at most so many links deep.
   abbrev pub AtMostDeep : ℕ → Type 0
-  AtMostDeep f = (links : List ℕ) → All (λ i. i < 6) links → along (a .source) links ≡ true → length links ≤ f
+  AtMostDeep d = (links : List ℕ) → All (λ i. i < 6) links → along (a .source) links ≡ true → length links ≤ d
 
   -- A round with only these rows, or a call that moves no packet and takes no link down.
   abbrev pub Keeps : Call → Type 0
@@ -91,7 +91,8 @@ pub record Matching (a : Asked) (phase : ℕ) (p : Packet) : Type 0 where
   pub errors : errorsOf p 7 phase ≡ 0
   pub matching : matches (p .word) (a .key) (a .mask) ≡ true
 
-module _ (a : Asked) (s : State) (f : ℕ) (bytes : List ℕ) (t : Tables) (room : ℕ) where
+-- "The tree at most F links deep": at most d, which is at most F; and d rounds are over after the injection.
+module _ (a : Asked) (s : State) (f d : ℕ) (bytes : List ℕ) (t : Tables) (room : ℕ) where
   abbrev pub injecting : Call
   injecting = change (inject (a .source) bytes t room)
 
@@ -105,11 +106,12 @@ module _ (a : Asked) (s : State) (f : ℕ) (bytes : List ℕ) (t : Tables) (room
       → leftBy turned (tagNow s injecting) (s .mesh) injecting .refusal ≡ 0
       → Only a t
       → Matching a (s .mesh .phase) (packetAt bytes)
-      → AtMostDeep a f
+      → AtMostDeep a d
+      → d ≤ f
       → All (Keeps a) cs
-      → s .rounds + f ≤ afterwards cs .rounds
+      → s .rounds + d ≤ afterwards cs .rounds
       → Delivers a (length (s .given)) (afterwards cs)
 
 abbrev pub GrownTree : Type 0
-GrownTree = (w h f monitor : ℕ) → Opens w h f monitor → (xs : List Step) (a : Asked) (bytes : List ℕ) (t : Tables) (room : ℕ) (cs : List Call)
-    → DeliversAfter a (sequence w h f monitor xs) f bytes t room cs
+GrownTree = (w h f monitor : ℕ) → Opens w h f monitor → (xs : List Step) (a : Asked) (d : ℕ) (bytes : List ℕ) (t : Tables) (room : ℕ) (cs : List Call)
+    → DeliversAfter a (sequence w h f monitor xs) f d bytes t room cs

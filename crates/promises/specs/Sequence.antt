@@ -9,9 +9,11 @@ use lib.ListN.{length, take}
 use Rattle.packet.specs.Refusal.{firstOf}
 use Rattle.mesh.specs.Mesh.{Mesh}
 use Rattle.buffer.specs.Layout.{meshOf}
+use Rattle.buffer.specs.Holding.{holdsMesh}
 use Rattle.mesh.specs.Steps.{Tables, same}
 use Rattle.buffer.specs.Leaving.{Gives}
 use Rattle.buffer.specs.Opening.{openRefusals, opening}
+use Rattle.flood.specs.Codes.{floodRefusal, flooded}
 use Rattle.trace.specs.declared.Call.{Call as KeptCall}
 use Rattle.trace.specs.declared.Replayed.{Replayed}
 use Rattle.trace.specs.Records.{byKind, packetOf}
@@ -34,8 +36,8 @@ callsIn t m room (then c n rest) =
     let r = making true t same tt m room c in
     askedOf t room c ∷ cond (eqb (r .refusal) 0) (callsIn t (r .mesh) (room - length (r .log)) rest) []
 
--- The calls that are lent no mesh: the needed length, reading, packing, one pass alone, a search, a record of a trace written or read. Here it counts only that they
--- are lent none; what each answers is settled by its own contract (`Determined`).
+-- The calls that are lent no mesh: the needed length, reading, packing, one pass alone, a search, a record of a trace written or read, a table made fewer, a tree grown. Here it counts only
+-- that they are lent none; what each answers is settled by its own contract (`Determined`).
 pub data NoMesh : Type 0 where
   size : NoMesh
   read : NoMesh
@@ -44,10 +46,14 @@ pub data NoMesh : Type 0 where
   find : NoMesh
   writeRecord : NoMesh
   readRecord : NoMesh
+  fewer : NoMesh
+  tree : NoMesh
 
--- What stands anywhere in a sequence and does nothing to the mesh: these, and an opening that is refused. One that is accepted begins another history.
+-- What stands anywhere in a sequence and does nothing to the mesh: these, a flood, which is lent it to read and writes the codes that it is lent, and an opening that is refused. One that is
+-- accepted begins another history.
 pub data Apart : Type 0 where
   lentNone : NoMesh → Apart
+  flood : (codes : List ℕ) → Apart
   openRefused : (width height rounds monitor : ℕ) → Apart
 
 pub data Step : Type 0 where
@@ -73,7 +79,7 @@ madeIn s (x ∷ xs) = callsBy s x ++ madeIn (stepped s x) xs
 
 -- ---- answers
 
--- What the steps that are lent a mesh answer, but for an opening that is refused.
+-- What the steps that are lent a mesh answer, but for a flood and an opening that is refused.
 pub data Reply : Type 0 where
   toCall : Answer → Reply
   toReplay : Replayed → Reply
@@ -113,6 +119,11 @@ pub data Run : List ℕ → List Step → List ℕ → List ℕ → List Reply �
       → Run before (replay trace t room ∷ xs) behind (take (answer .added * 6) written ++ log) (toReplay answer ∷ answers)
   aside : {before behind log : List ℕ} {xs : List Step} {answers : List Reply} {a : NoMesh} → Run before xs behind log answers
       → Run before (apart (lentNone a) ∷ xs) behind log answers
+  floods : {before behind log : List ℕ} {xs : List Step} {answers : List Reply} {codes : List ℕ} (refusal : ℕ) (written : List ℕ)
+      → refusal ≡ floodRefusal (holdsMesh before) (meshOf before) codes
+      → written ≡ flooded (holdsMesh before) (meshOf before) codes
+      → Run before xs behind log answers
+      → Run before (apart (flood codes) ∷ xs) behind log answers
   notOpened : {before between behind log : List ℕ} {xs : List Step} {answers : List Reply} {w h f monitor : ℕ} (refusal : ℕ) → refusal ≡ firstOf (openRefusals (length before) w h f monitor)
       → (refusal ≡ 0 → ⊥)
       → between ≡ opening refusal before w h f monitor
