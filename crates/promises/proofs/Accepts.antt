@@ -18,7 +18,7 @@ use Rattle.mesh.specs.Sound.{Passable}
 use Rattle.mesh.proofs.SoundSteps.{CodesFor}
 use Rattle.mesh.proofs.Accepts.{inject-goes, round-goes}
 use Rattle.mesh.specs.Asked.{Look, Call, inject, round, setLink, readRegisters, change, look, leftBy}
-use Rattle.promises.specs.History.{Tag, Given, State, Event, emptied, turned, tagOf, tagNow, passages, accepted}
+use Rattle.promises.specs.History.{Tag, Given, State, Event, registersEmptied, turned, tagOf, tagNow, passages, accepted}
 
 -- ---- the tests that have passed
 
@@ -68,9 +68,9 @@ module _ (s : State) where
   afterInjection chip bytes t =
       record {
         mesh = injected t turned (s .mesh) chip (arrivalNow chip bytes .flight) .mesh;
-        given = s .given ++ record { packet = packetAt bytes; before = s .rounds } ∷ [];
-        rounds = s .rounds;
-        events = s .events ++ passages t (s .rounds) (setOut (s .mesh)) (arrivalNow chip bytes ∷ []);
+        given = s .given ++ record { packet = packetAt bytes; before = s .accepted } ∷ [];
+        accepted = s .accepted;
+        events = s .events ++ passages t (s .accepted) (setOut (s .mesh)) (arrivalNow chip bytes ∷ []);
         log = s .log ++ injected t turned (s .mesh) chip (arrivalNow chip bytes .flight) .log;
       }
 
@@ -79,17 +79,17 @@ module _ (s : State) where
       record {
         mesh = rounded t turned (s .mesh) .mesh;
         given = s .given;
-        rounds = s .rounds + 1;
-        events = s .events ++ passages t (s .rounds) (setOut (setAside (s .mesh))) (arrivals (s .mesh));
+        accepted = s .accepted + 1;
+        events = s .events ++ passages t (s .accepted) (setOut (setAside (s .mesh))) (arrivals (s .mesh));
         log = s .log ++ rounded t turned (s .mesh) .log;
       }
 
   abbrev pub afterLink : ℕ → ℕ → Bool → State
-  afterLink chip link up = record { mesh = withLink (s .mesh) chip link up; given = s .given; rounds = s .rounds; events = s .events; log = s .log }
+  afterLink chip link up = record { mesh = withLink (s .mesh) chip link up; given = s .given; accepted = s .accepted; events = s .events; log = s .log }
 
   abbrev pub afterRead : ℕ → State
   afterRead chip =
-      record { mesh = withEmpty (s .mesh) chip; given = s .given; rounds = s .rounds; events = s .events ++ emptied chip ∷ []; log = s .log }
+      record { mesh = withEmpty (s .mesh) chip; given = s .given; accepted = s .accepted; events = s .events ++ registersEmptied chip ∷ []; log = s .log }
 
   -- what a call leaves
   abbrev here : Call → Left Tag
@@ -97,7 +97,7 @@ module _ (s : State) where
 
   -- a state, field by field
   abbrev plainly : Mesh Tag → List Event → List ℕ → List Given → ℕ → State
-  plainly m events log given r = record { mesh = m; given = given; rounds = r; events = events; log = log }
+  plainly m events log given r = record { mesh = m; given = given; accepted = r; events = events; log = log }
 
   pub inject-leaves : (chip : ℕ) (bytes : List ℕ) (t : Tables) (room : ℕ) → here (change (inject chip bytes t room)) .refusal ≡ 0
       → accepted s (here (change (inject chip bytes t room))) (change (inject chip bytes t room)) ≡ afterInjection chip bytes t
@@ -105,24 +105,24 @@ module _ (s : State) where
       let k = afterInjection chip bytes t in
       ap (λ (r : Left Tag). accepted s r (change (inject chip bytes t room)))
       (unless-leaves (firstOf (injectRefusals true (many (s .mesh)) chip t room bytes)) (placeIn t (many (s .mesh)) (firstOf (injectRefusals true (many (s .mesh)) chip t room bytes))) (s .mesh) (injected t turned (s .mesh) chip (arrivalNow chip bytes .flight)) e)
-      ∙ ap (λ (n : ℕ). plainly (k .mesh) (k .events) (k .log) (k .given) n) (add-zero (s .rounds))
+      ∙ ap (λ (n : ℕ). plainly (k .mesh) (k .events) (k .log) (k .given) n) (add-zero (s .accepted))
 
   pub round-leaves : (t : Tables) (room : ℕ) → here (change (round t room)) .refusal ≡ 0 → accepted s (here (change (round t room))) (change (round t room)) ≡ afterRound t
   round-leaves t room e =
       let k = afterRound t in
       ap (λ (r : Left Tag). accepted s r (change (round t room)))
       (unless-leaves (firstOf (roundRefusals true (many (s .mesh)) (inFlight (s .mesh)) t room)) (placeIn t (many (s .mesh)) (firstOf (roundRefusals true (many (s .mesh)) (inFlight (s .mesh)) t room))) (s .mesh) (rounded t turned (s .mesh)) e)
-      ∙ ap (λ (given : List Given). plainly (k .mesh) (k .events) (k .log) given (s .rounds + 1)) (append-nil (s .given))
+      ∙ ap (λ (given : List Given). plainly (k .mesh) (k .events) (k .log) given (s .accepted + 1)) (append-nil (s .given))
 
   -- nothing but the mesh and the events is another
   still : (m : Mesh Tag) (events : List Event)
-      → plainly m events (s .log ++ []) (s .given ++ []) (s .rounds + 0) ≡ plainly m events (s .log) (s .given) (s .rounds)
-  still m events = λ i. plainly m events (append-nil (s .log) i) (append-nil (s .given) i) (add-zero (s .rounds) i)
+      → plainly m events (s .log ++ []) (s .given ++ []) (s .accepted + 0) ≡ plainly m events (s .log) (s .given) (s .accepted)
+  still m events = λ i. plainly m events (append-nil (s .log) i) (append-nil (s .given) i) (add-zero (s .accepted) i)
 
   -- nothing but the mesh is another
   quiet : (m : Mesh Tag)
-      → plainly m (s .events ++ []) (s .log ++ []) (s .given ++ []) (s .rounds + 0) ≡ plainly m (s .events) (s .log) (s .given) (s .rounds)
-  quiet m = still m (s .events ++ []) ∙ ap (λ (events : List Event). plainly m events (s .log) (s .given) (s .rounds)) (append-nil (s .events))
+      → plainly m (s .events ++ []) (s .log ++ []) (s .given ++ []) (s .accepted + 0) ≡ plainly m (s .events) (s .log) (s .given) (s .accepted)
+  quiet m = still m (s .events ++ []) ∙ ap (λ (events : List Event). plainly m events (s .log) (s .given) (s .accepted)) (append-nil (s .events))
 
   pub link-leaves : (chip link : ℕ) (up : Bool) → here (change (setLink chip link up)) .refusal ≡ 0 → accepted s (here (change (setLink chip link up))) (change (setLink chip link up)) ≡ afterLink chip link up
   link-leaves chip link up e =
@@ -134,7 +134,7 @@ module _ (s : State) where
   read-leaves chip e =
       ap (λ (r : Left Tag). accepted s r (change (readRegisters chip)))
       (unless-leaves (firstOf (chipRefusals true (many (s .mesh)) chip)) 0 (s .mesh) (setOut (withEmpty (s .mesh) chip)) e)
-      ∙ still (withEmpty (s .mesh) chip) (s .events ++ emptied chip ∷ [])
+      ∙ still (withEmpty (s .mesh) chip) (s .events ++ registersEmptied chip ∷ [])
 
   pub look-leaves : (l : Look) → accepted s (here (look l)) (look l) ≡ s
   look-leaves l = quiet (s .mesh)

@@ -20,7 +20,7 @@ use Rattle.lists.proofs.Alls.{all-replicate}
 use Rattle.mesh.proofs.SoundArrivals.{sound-arrivals}
 use Rattle.mesh.proofs.SoundSteps.{CodesFor, checked, sound-aside, sound-pass}
 use Rattle.lists.proofs.Totals.{total-same, total-none}
-use Rattle.promises.specs.History.{Tag, State, Event, turned, passages, emptied as read}
+use Rattle.promises.specs.History.{Tag, State, Event, turned, passages, registersEmptied as read}
 use Rattle.promises.specs.Told.{sumOf}
 use Rattle.promises.specs.Demand3.{Account}
 use Rattle.promises.proofs.Told.{sum-append}
@@ -96,19 +96,19 @@ account-kept =
           omega (
             arith,
             closes,
-            length-append (s .given) (record { packet = packetAt bytes; before = s .rounds } ∷ []),
-            extras-append (s .events) (passages t (s .rounds) g (a ∷ [])),
-            ends-append (s .events) (passages t (s .rounds) g (a ∷ [])),
-            passes-account t (s .rounds) g (a ∷ []) sound (h .codes) (record { there = h .there; from = inr refl; passable = h .passable }, tt),
+            length-append (s .given) (record { packet = packetAt bytes; before = s .accepted } ∷ []),
+            extras-append (s .events) (passages t (s .accepted) g (a ∷ [])),
+            ends-append (s .events) (passages t (s .accepted) g (a ∷ [])),
+            passes-account t (s .accepted) g (a ∷ []) sound (h .codes) (record { there = h .there; from = inr refl; passable = h .passable }, tt),
           );
       rounds = λ f s t sound codes closes.
           let g = setOut (setAside (s .mesh)) in
           omega (
             arith,
             closes,
-            extras-append (s .events) (passages t (s .rounds) g (arrivals (s .mesh))),
-            ends-append (s .events) (passages t (s .rounds) g (arrivals (s .mesh))),
-            passes-account t (s .rounds) g (arrivals (s .mesh)) (sound-aside sound) codes (sound-arrivals sound),
+            extras-append (s .events) (passages t (s .accepted) g (arrivals (s .mesh))),
+            ends-append (s .events) (passages t (s .accepted) g (arrivals (s .mesh))),
+            passes-account t (s .accepted) g (arrivals (s .mesh)) (sound-aside sound) codes (sound-arrivals sound),
             aside-weighs weighed (s .mesh),
             units-arrive (s .mesh) sound,
           );

@@ -30,11 +30,11 @@ abbrev Crossing : ℕ → Passage → Type 0
 Crossing f p = Stamped (p .arrival .flight .tag .packet) → p .arrival .flight .tag .crossed ≤ span f (p .arrival .flight .tag .before) + 1
 
 abbrev Timely : ℕ → Passage → Type 0
-Timely f p = p .outcome .errors / 2 % 2 ≡ 1 → p .arrival .flight .tag .before + span f (p .arrival .flight .tag .before) ≤ p .rounds
+Timely f p = p .outcome .errors / 2 % 2 ≡ 1 → p .arrival .flight .tag .before + span f (p .arrival .flight .tag .before) ≤ p .accepted
 
 pub record Ageing (f : ℕ) (s : State) : Type 0 where
-  pub clock : Clock f (s .rounds) (s .mesh)
-  pub flights : EachFlight (Ages f (s .rounds)) (s .mesh)
+  pub clock : Clock f (s .accepted) (s .mesh)
+  pub flights : EachFlight (Ages f (s .accepted)) (s .mesh)
   pub crossings : EachPass (Crossing f) (s .events)
   pub times : EachPass (Timely f) (s .events)
 
@@ -51,9 +51,9 @@ module _ (f : ℕ) (s : State) (t : Tables) (sound : SoundMesh (s .mesh)) (codes
   injected-keeps chip bytes h =
       record {
         clock = clock-same (pass-head t turned g a) (ageing .clock);
-        flights = each-after-pass t turned (Ages f (s .rounds)) g a sound arrives (aged-injected f (s .rounds) some _ _ _ _ able (inr refl) (ageing .clock .phase) (tagOf s (packetAt bytes)) refl refl refl refl) (ageing .flights);
+        flights = each-after-pass t turned (Ages f (s .accepted)) g a sound arrives (aged-injected f (s .accepted) some _ _ _ _ able (inr refl) (ageing .clock .phase) (tagOf s (packetAt bytes)) refl refl refl refl) (ageing .flights);
         crossings = each-append (Crossing f) (s .events) _ (ageing .crossings) ((λ low. omega arith), tt);
-        times = each-append (Timely f) (s .events) _ (ageing .times) (old-late f (s .rounds) some _ _ _ _ able (inr refl) (ageing .clock .phase) (tagOf s (packetAt bytes)) (λ near. absurd (omega arith)), tt);
+        times = each-append (Timely f) (s .events) _ (ageing .times) (old-late f (s .accepted) some _ _ _ _ able (inr refl) (ageing .clock .phase) (tagOf s (packetAt bytes)) (λ near. absurd (omega arith)), tt);
       }
     where
       g : Going Tag
@@ -72,32 +72,32 @@ module _ (f : ℕ) (s : State) (t : Tables) (sound : SoundMesh (s .mesh)) (codes
   round-keeps =
       record {
         clock = clock-over some (clock-same (passed-head t turned g (arrivals (s .mesh))) (clock-chips _ (ageing .clock)));
-        flights = each-after-passes t turned (Ages f (s .rounds + 1)) Comes (s .mesh .phase) sends g (arrivals (s .mesh)) refl (sound-aside sound) codes (sound-arrivals sound) comes (each-aside (Ages f (s .rounds + 1)) (s .mesh));
+        flights = each-after-passes t turned (Ages f (s .accepted + 1)) Comes (s .mesh .phase) sends g (arrivals (s .mesh)) refl (sound-aside sound) codes (sound-arrivals sound) comes (each-aside (Ages f (s .accepted + 1)) (s .mesh));
         crossings = each-append (Crossing f) (s .events) _ (ageing .crossings)
-            (each-passage t Comes (Crossing f) (s .rounds) (s .mesh .phase) crosses g (arrivals (s .mesh)) refl (sound-aside sound) codes (sound-arrivals sound) comes);
+            (each-passage t Comes (Crossing f) (s .accepted) (s .mesh .phase) crosses g (arrivals (s .mesh)) refl (sound-aside sound) codes (sound-arrivals sound) comes);
         times = each-append (Timely f) (s .events) _ (ageing .times)
-            (each-passage t Comes (Timely f) (s .rounds) (s .mesh .phase) stops g (arrivals (s .mesh)) refl (sound-aside sound) codes (sound-arrivals sound) comes);
+            (each-passage t Comes (Timely f) (s .accepted) (s .mesh .phase) stops g (arrivals (s .mesh)) refl (sound-aside sound) codes (sound-arrivals sound) comes);
       }
     where
       g : Going Tag
       g = setOut (setAside (s .mesh))
 
       Comes : Arrival Tag → Type 0
-      Comes = Arriving (Ages f (s .rounds))
+      Comes = Arriving (Ages f (s .accepted))
 
-      comes : All (Arriving (Ages f (s .rounds))) (arrivals (s .mesh))
-      comes = each-arrival (Ages f (s .rounds)) (s .mesh) (ageing .flights)
+      comes : All (Arriving (Ages f (s .accepted))) (arrivals (s .mesh))
+      comes = each-arrival (Ages f (s .accepted)) (s .mesh) (ageing .flights)
 
-      sends : InPhase t (s .mesh .phase) (Arriving (Ages f (s .rounds))) (HandsOn t turned (Ages f (s .rounds + 1)))
+      sends : InPhase t (s .mesh .phase) (Arriving (Ages f (s .accepted))) (HandsOn t turned (Ages f (s .accepted + 1)))
       sends m now sound′ codes′ a arrives come =
-          aged-sent f (s .rounds) some _ _ _ _ (checked t m a sound′ codes′ arrives) (arrives .from) (now ∙ ageing .clock .phase) (a .flight .tag) (come .0) (come .1)
+          aged-sent f (s .accepted) some _ _ _ _ (checked t m a sound′ codes′ arrives) (arrives .from) (now ∙ ageing .clock .phase) (a .flight .tag) (come .0) (come .1)
 
-      crosses : InPhase t (s .mesh .phase) (Arriving (Ages f (s .rounds))) (λ m a. Crossing f (passage t (s .rounds) m a))
-      crosses m now sound′ codes′ a arrives come = aged-crossing f (s .rounds) (a .flight) (come .1)
+      crosses : InPhase t (s .mesh .phase) (Arriving (Ages f (s .accepted))) (λ m a. Crossing f (passage t (s .accepted) m a))
+      crosses m now sound′ codes′ a arrives come = aged-crossing f (s .accepted) (a .flight) (come .1)
 
-      stops : InPhase t (s .mesh .phase) (Arriving (Ages f (s .rounds))) (λ m a. Timely f (passage t (s .rounds) m a))
+      stops : InPhase t (s .mesh .phase) (Arriving (Ages f (s .accepted))) (λ m a. Timely f (passage t (s .accepted) m a))
       stops m now sound′ codes′ a arrives come =
-          old-late f (s .rounds) some _ _ _ _ (checked t m a sound′ codes′ arrives) (arrives .from) (now ∙ ageing .clock .phase) (a .flight .tag) (λ near. come .1)
+          old-late f (s .accepted) some _ _ _ _ (checked t m a sound′ codes′ arrives) (arrives .from) (now ∙ ageing .clock .phase) (a .flight .tag) (λ near. come .1)
 
 pub ageing-kept : Kept Ageing
 unfolding EachPass
@@ -109,14 +109,14 @@ ageing-kept =
       links = λ f s chip link up sound there six ageing.
           record {
             clock = clock-chips _ (ageing .clock);
-            flights = each-linked (Ages f (s .rounds)) (s .mesh) chip link up (ageing .flights);
+            flights = each-linked (Ages f (s .accepted)) (s .mesh) chip link up (ageing .flights);
             crossings = ageing .crossings;
             times = ageing .times;
           };
       reads = λ f s chip sound there ageing.
           record {
             clock = clock-chips _ (ageing .clock);
-            flights = each-emptied (Ages f (s .rounds)) (s .mesh) chip (ageing .flights);
+            flights = each-emptied (Ages f (s .accepted)) (s .mesh) chip (ageing .flights);
             crossings = each-append (Crossing f) (s .events) _ (ageing .crossings) tt;
             times = each-append (Timely f) (s .events) _ (ageing .times) tt;
           };
@@ -129,17 +129,17 @@ pub links-crossed : LinksCrossed
 links-crossed w h f monitor o xs =
     let s = sequence w h f monitor xs in
     let a = ages-always w h f monitor o xs in
-    (each-weaken (Ages f (s .rounds)) _ (λ x ages. aged-crossing f (s .rounds) x ages) (s .mesh) (a .flights), a .crossings)
+    (each-weaken (Ages f (s .accepted)) _ (λ x ages. aged-crossing f (s .accepted) x ages) (s .mesh) (a .flights), a .crossings)
 
 pub crossings-counted : CrossingsCounted
 crossings-counted w h f monitor o xs =
     let s = sequence w h f monitor xs in
-    each-weaken (Ages f (s .rounds)) _ (λ x ages low. aged-copy ages low .crossed) (s .mesh) (ages-always w h f monitor o xs .flights)
+    each-weaken (Ages f (s .accepted)) _ (λ x ages low. aged-copy ages low .crossed) (s .mesh) (ages-always w h f monitor o xs .flights)
 
 pub gone-in-time : GoneInTime
 gone-in-time w h f monitor o xs =
     let s = sequence w h f monitor xs in
-    each-weaken (Ages f (s .rounds)) _ (λ x ages low. omega (arith, aged-copy ages low .due)) (s .mesh) (ages-always w h f monitor o xs .flights)
+    each-weaken (Ages f (s .accepted)) _ (λ x ages low. omega (arith, aged-copy ages low .due)) (s .mesh) (ages-always w h f monitor o xs .flights)
 
 pub not-before-its-time : NotBeforeItsTime
 not-before-its-time w h f monitor o xs = ages-always w h f monitor o xs .times

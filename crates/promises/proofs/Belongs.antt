@@ -51,7 +51,7 @@ module _ (f : ℕ) (s : State) (t : Tables) (sound : SoundMesh (s .mesh)) (codes
   unfolding EachPass passages
   injected-ties chip bytes h =
       let a = accepts.arrivalNow s chip bytes in
-      let g : Given = record { packet = packetAt bytes; before = s .rounds } in
+      let g : Given = record { packet = packetAt bytes; before = s .accepted } in
       let later = accepts.afterInjection s chip bytes t in
       let new = belongs-new (s .given) g 0 in (
         each-after-pass t turned (Copy later) (setOut (s .mesh)) a sound (record { there = h .there; from = inr refl; passable = h .passable }) (sends-belong (later .given) _ (a .flight .tag) new)
@@ -66,7 +66,7 @@ module _ (f : ℕ) (s : State) (t : Tables) (sound : SoundMesh (s .mesh)) (codes
         each-after-passes t turned (Copy s) Comes (s .mesh .phase) (λ m now sound′ codes′ a arrives come. sends-belong (s .given) _ (a .flight .tag) (come .1)) g (arrivals (s .mesh)) refl (sound-aside sound) codes (sound-arrivals sound) comes
             (each-aside (Copy s) (s .mesh)),
         each-append (Came s) (s .events) _ (tied .1)
-            (each-passage t Comes (Came s) (s .rounds) (s .mesh .phase) (λ m now sound′ codes′ a arrives come. come .1) g (arrivals (s .mesh)) refl (sound-aside sound) codes (sound-arrivals sound) comes),
+            (each-passage t Comes (Came s) (s .accepted) (s .mesh .phase) (λ m now sound′ codes′ a arrives come. come .1) g (arrivals (s .mesh)) refl (sound-aside sound) codes (sound-arrivals sound) comes),
       )
     where
       Comes : Arrival Tag → Type 0

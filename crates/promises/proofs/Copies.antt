@@ -18,7 +18,7 @@ use Rattle.mesh.specs.Mesh.{Mesh}
 use Rattle.mesh.specs.Steps.{Tables, Arrival, Going, outcomeAt, passAt}
 use Rattle.mesh.specs.Weights.{onLine, onChip, onMesh}
 use Rattle.mesh.specs.Sound.{Arrives, SoundMesh}
-use Rattle.promises.specs.History.{Tag, Passage, Event, passed, emptied, turned}
+use Rattle.promises.specs.History.{Tag, Passage, Event, packetPassed, registersEmptied, turned}
 use Rattle.promises.specs.Told.{EachFlight, EachPass}
 use Rattle.promises.specs.FloodedWay.{passesOf}
 use Rattle.promises.proofs.InFlight.{pass-gains}
@@ -115,29 +115,29 @@ module _ (n : ℕ) where
   passes-append : (es later : List Event) → passesOf n (es ++ later) ≡ passesOf n es ++ passesOf n later
   unfolding passesOf
   passes-append [] later = refl
-  passes-append (passed p ∷ es) later = go (eqb (p .arrival .flight .tag .injection) n) (passes-append es later)
+  passes-append (packetPassed p ∷ es) later = go (eqb (p .arrival .flight .tag .injection) n) (passes-append es later)
     where
       go : (b : Bool) → passesOf n (es ++ later) ≡ passesOf n es ++ passesOf n later
           → cond b (p ∷ passesOf n (es ++ later)) (passesOf n (es ++ later)) ≡ cond b (p ∷ passesOf n es) (passesOf n es) ++ passesOf n later
       go true e = ap (λ (l : List Passage). p ∷ l) e
       go false e = e
-  passes-append (emptied c ∷ es) later = passes-append es later
+  passes-append (registersEmptied c ∷ es) later = passes-append es later
 
   -- with one event more
-  pub passes-own : (es : List Event) (p : Passage) → p .arrival .flight .tag .injection ≡ n → passesOf n (es ++ passed p ∷ []) ≡ passesOf n es ++ p ∷ []
+  pub passes-own : (es : List Event) (p : Passage) → p .arrival .flight .tag .injection ≡ n → passesOf n (es ++ packetPassed p ∷ []) ≡ passesOf n es ++ p ∷ []
   unfolding passesOf
-  passes-own es p own = passes-append es (passed p ∷ []) ∙ ap (λ (b : Bool). passesOf n es ++ cond b (p ∷ []) []) (eq-eqb _ _ own)
+  passes-own es p own = passes-append es (packetPassed p ∷ []) ∙ ap (λ (b : Bool). passesOf n es ++ cond b (p ∷ []) []) (eq-eqb _ _ own)
 
-  pub passes-other : (es : List Event) (p : Passage) → OfOthers (p .arrival .flight) → passesOf n (es ++ passed p ∷ []) ≡ passesOf n es
+  pub passes-other : (es : List Event) (p : Passage) → OfOthers (p .arrival .flight) → passesOf n (es ++ packetPassed p ∷ []) ≡ passesOf n es
   unfolding passesOf
-  passes-other es p other = passes-append es (passed p ∷ []) ∙ ap (λ (b : Bool). passesOf n es ++ cond b (p ∷ []) []) (ne-eqb _ _ other) ∙ append-nil (passesOf n es)
+  passes-other es p other = passes-append es (packetPassed p ∷ []) ∙ ap (λ (b : Bool). passesOf n es ++ cond b (p ∷ []) []) (ne-eqb _ _ other) ∙ append-nil (passesOf n es)
 
-  pub passes-read : (es : List Event) (chip : ℕ) → passesOf n (es ++ emptied chip ∷ []) ≡ passesOf n es
+  pub passes-read : (es : List Event) (chip : ℕ) → passesOf n (es ++ registersEmptied chip ∷ []) ≡ passesOf n es
   unfolding passesOf
-  passes-read es chip = passes-append es (emptied chip ∷ []) ∙ append-nil (passesOf n es)
+  passes-read es chip = passes-append es (registersEmptied chip ∷ []) ∙ append-nil (passesOf n es)
 
   pub passes-none : (es : List Event) → EachPass (λ p. OfOthers (p .arrival .flight)) es → passesOf n es ≡ []
   unfolding EachPass passesOf
   passes-none [] h = refl
-  passes-none (passed p ∷ es) h = ap (λ (b : Bool). cond b (p ∷ passesOf n es) (passesOf n es)) (ne-eqb _ _ (h .0)) ∙ passes-none es (h .1)
-  passes-none (emptied c ∷ es) h = passes-none es h
+  passes-none (packetPassed p ∷ es) h = ap (λ (b : Bool). cond b (p ∷ passesOf n es) (passesOf n es)) (ne-eqb _ _ (h .0)) ∙ passes-none es (h .1)
+  passes-none (registersEmptied c ∷ es) h = passes-none es h

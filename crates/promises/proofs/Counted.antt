@@ -14,7 +14,7 @@ use Rattle.mesh.specs.Mesh.{Chip, Mesh, fresh}
 use Rattle.mesh.specs.Steps.{Tables, Arrival, setOut, emptiedChip, passAt}
 use Rattle.mesh.specs.Sound.{SoundMesh}
 use Rattle.lists.proofs.Changed.{set-keeps}
-use Rattle.promises.specs.History.{Tag, Passage, Event, passed, emptied, turned}
+use Rattle.promises.specs.History.{Tag, Passage, Event, packetPassed, registersEmptied, turned}
 use Rattle.promises.specs.Told.{sumOf}
 use Rattle.promises.specs.Demand3.{Always}
 use Rattle.promises.proofs.Told.{sum-append}
@@ -51,7 +51,7 @@ Counted m es = (chip k : ℕ) → chip < m .height * m .width → k < 10 → cou
 
 module _ (t : Tables) (n : ℕ) (m : Mesh Tag) (a : Arrival Tag) (es : List Event) (sound : SoundMesh m) (there : a .chip < m .height * m .width) (before : Counted m es) where
   abbrev later : List Event
-  later = es ++ passed (passage t n m a) ∷ []
+  later = es ++ packetPassed (passage t n m a) ∷ []
 
   abbrev left : List (Chip Tag)
   left = passAt t turned (setOut m) a .mesh .chips
@@ -59,7 +59,7 @@ module _ (t : Tables) (n : ℕ) (m : Mesh Tag) (a : Arrival Tag) (es : List Even
   sum-later : (chip k : ℕ) → sumOf (countedAt chip k) later ≡ sumOf (countedAt chip k) es + countedAt chip k (passage t n m a)
   unfolding sumOf
   sum-later chip k =
-      sum-append (countedAt chip k) es (passed (passage t n m a) ∷ [])
+      sum-append (countedAt chip k) es (packetPassed (passage t n m a) ∷ [])
       ∙ ap (λ (x : ℕ). sumOf (countedAt chip k) es + x) (add-zero (countedAt chip k (passage t n m a)))
 
   counted-here : (k : ℕ) → k < 10 → count left (a .chip) k ≡ sumOf (countedAt (a .chip) k) later % 2 ^ 32
@@ -91,9 +91,9 @@ module _ (t : Tables) (n : ℕ) (m : Mesh Tag) (a : Arrival Tag) (es : List Even
       go false e = counted-there chip k c h e
 
 -- registers read count nothing
-sum-emptied : (f : Passage → ℕ) (es : List Event) (chip : ℕ) → sumOf f (es ++ emptied chip ∷ []) ≡ sumOf f es
+sum-emptied : (f : Passage → ℕ) (es : List Event) (chip : ℕ) → sumOf f (es ++ registersEmptied chip ∷ []) ≡ sumOf f es
 unfolding sumOf
-sum-emptied f es chip = sum-append f es (emptied chip ∷ []) ∙ add-zero (sumOf f es)
+sum-emptied f es chip = sum-append f es (registersEmptied chip ∷ []) ∙ add-zero (sumOf f es)
 
 pub counts-kept : Always (λ f s. Counted (s .mesh) (s .events))
 unfolding sumOf

@@ -27,7 +27,7 @@ use Rattle.flood.proofs.WaysWithin.{within-way}
 use Rattle.flood.proofs.OnItsWay.{one-link-nearer, handed-to-the-monitor}
 use Rattle.flood.proofs.SameLinks.{many-same, fewest-same, code-same, codes-same}
 use Rattle.flood.proofs.WholeWay.{fewest-oneself}
-use Rattle.promises.specs.History.{Tag, Passage, Event, passed, turned}
+use Rattle.promises.specs.History.{Tag, Passage, Event, packetPassed, turned}
 use Rattle.promises.specs.FloodedWay.{passesOf}
 use Rattle.promises.proofs.Runs.{passage}
 use Rattle.promises.proofs.Copies.{copies, OfOthers, none-in-flight, own-pass, last-pass, passes-own}
@@ -167,12 +167,12 @@ module _ (w : Trip) (t : Tables) (lent : t .codes ≡ codesOf (w .mesh)) (r : �
     none-left : copies (w .number) next ≡ 0
     none-left = last-pass (w .number) t g a sound h own (over .sent) (over .leg-sent) ∙ alone
 
-  pub passes-by-code : (es : List Event) → Sent w j (passesOf (w .number) es) → ((chip ≡ to → ⊥) → has (readyOf k chip) (codeOf m chip to) ≡ true) → Stage w (suc j) next (es ++ passed p ∷ [])
+  pub passes-by-code : (es : List Event) → Sent w j (passesOf (w .number) es) → ((chip ≡ to → ⊥) → has (readyOf k chip) (codeOf m chip to) ≡ true) → Stage w (suc j) next (es ++ packetPassed p ∷ [])
   passes-by-code es before room = go (ℕ-discrete chip to)
     where
-      passes : passesOf (w .number) (es ++ passed p ∷ []) ≡ passesOf (w .number) es ++ p ∷ []
+      passes : passesOf (w .number) (es ++ packetPassed p ∷ []) ≡ passesOf (w .number) es ++ p ∷ []
       passes = passes-own (w .number) es p own
 
-      go : Dec (chip ≡ to) → Stage w (suc j) next (es ++ passed p ∷ [])
+      go : Dec (chip ≡ to) → Stage w (suc j) next (es ++ packetPassed p ∷ [])
       go (yes e) = inr (subst (Delivered w) (sym passes) (delivered e _ before), none-left e)
       go (no other) = let near = nearer other (room other) in inl (subst (Sent w (suc j)) (sym passes) (one-more near _ before), on-way near)

@@ -11,7 +11,7 @@ use Rattle.mesh.specs.Steps.{Tables, Arrival, Going, passAt}
 use Rattle.mesh.specs.Sound.{Arrives, SoundMesh}
 use Rattle.mesh.proofs.SoundSteps.{CodesFor, sound-pass}
 use Rattle.flood.specs.Codes.{codesOf}
-use Rattle.promises.specs.History.{Tag, Event, passed, turned, passages}
+use Rattle.promises.specs.History.{Tag, Event, packetPassed, turned, passages}
 use Rattle.promises.specs.Told.{EachPass}
 use Rattle.promises.specs.FloodedWay.{passesOf, HasRoom}
 use Rattle.promises.proofs.Runs.{passage}
@@ -32,7 +32,7 @@ module _ (w : Trip) (t : Tables) (r : ℕ) where
   -- ---- no pass is its own
 
   other-passes : (j : ℕ) (es : List Event) (g : Going Tag) (a : Arrival Tag) → SoundMesh (g .mesh) → Arrives (g .mesh .height * g .mesh .width) a → OfOthers n (a .flight) → Stage w j (g .mesh) es
-      → Stage w j (passAt t turned g a .mesh) (es ++ passed (passage t r (g .mesh) a) ∷ [])
+      → Stage w j (passAt t turned g a .mesh) (es ++ packetPassed (passage t r (g .mesh) a) ∷ [])
   other-passes j es g a sound h other =
       moved w j (g .mesh) (passAt t turned g a .mesh) es _
       (to-after-pass (Ours w j) t turned g a sound h (record { links = λ i near sent own. absurd (other own); leg = λ i near sent own. absurd (other own) }))
@@ -44,7 +44,7 @@ module _ (w : Trip) (t : Tables) (r : ℕ) where
   unfolding All total passages
   others-pass j es g [] sound codes h none s = subst (Stage w j (g .mesh)) (sym (append-nil es)) s
   others-pass j es g (a ∷ later) sound codes h none s =
-      subst (Stage w j (foldl (passAt t turned) (passAt t turned g a) later .mesh)) (append-assoc es (passed (passage t r (g .mesh) a) ∷ []) (passages t r (passAt t turned g a) later))
+      subst (Stage w j (foldl (passAt t turned) (passAt t turned g a) later .mesh)) (append-assoc es (packetPassed (passage t r (g .mesh) a) ∷ []) (passages t r (passAt t turned g a) later))
       (others-pass j _ (passAt t turned g a) later (sound-pass t turned g a sound codes (h .0)) codes (h .1) (omega arith) (other-passes j es g a sound (h .0) (of-others n (a .flight) (omega arith)) s))
 
   -- ---- one pass is its own
@@ -60,16 +60,16 @@ module _ (w : Trip) (t : Tables) (r : ℕ) where
     unfolding All total passages EachPass
     own-passes es g [] sound codes alike h due room before alone one = absurd (omega arith)
     own-passes es g (a ∷ later) sound codes alike h due room before alone one =
-        subst (Stage w (suc j) (foldl (passAt t turned) (passAt t turned g a) later .mesh)) (append-assoc es (passed (passage t r (g .mesh) a) ∷ []) (passages t r (passAt t turned g a) later))
+        subst (Stage w (suc j) (foldl (passAt t turned) (passAt t turned g a) later .mesh)) (append-assoc es (packetPassed (passage t r (g .mesh) a) ∷ []) (passages t r (passAt t turned g a) later))
         (go (ℕ-discrete (a .flight .tag .injection) n) (λ x y z. own-passes _ (passAt t turned g a) later (sound-pass t turned g a sound codes (h .0)) codes (alike-pass t turned g a alike) (h .1) (due .1) (room .1) x y z))
       where
         e : Event
-        e = passed (passage t r (g .mesh) a)
+        e = packetPassed (passage t r (g .mesh) a)
 
         Done : Type 0
-        Done = Stage w (suc j) (foldl (passAt t turned) (passAt t turned g a) later .mesh) ((es ++ passed (passage t r (g .mesh) a) ∷ []) ++ passages t r (passAt t turned g a) later)
+        Done = Stage w (suc j) (foldl (passAt t turned) (passAt t turned g a) later .mesh) ((es ++ packetPassed (passage t r (g .mesh) a) ∷ []) ++ passages t r (passAt t turned g a) later)
 
-        go : Dec (a .flight .tag .injection ≡ n) → (Sent w j (passesOf n (es ++ passed (passage t r (g .mesh) a) ∷ [])) → copies n (passAt t turned g a .mesh) ≡ 0 → coming later ≡ 1 → Done) → Done
+        go : Dec (a .flight .tag .injection ≡ n) → (Sent w j (passesOf n (es ++ packetPassed (passage t r (g .mesh) a) ∷ [])) → copies n (passAt t turned g a .mesh) ≡ 0 → coming later ≡ 1 → Done) → Done
         go (yes own) more =
             let here : copyOf n (a .flight) ≡ 1 = ap (λ (b : Bool). cond b 1 0) (eq-eqb _ _ own) in
             others-pass (suc j) (es ++ e ∷ []) (passAt t turned g a) later (sound-pass t turned g a sound codes (h .0)) codes (h .1) (omega arith)

@@ -32,13 +32,13 @@ use Rattle.promises.proofs.FloodedRound.{others-pass, own-passes}
 
 -- the links that it has crossed where it passes next: one after its injection, and one more with each round
 abbrev pub linksBy : Trip → State → ℕ
-linksBy w s = s .rounds + 1 - w .before
+linksBy w s = s .accepted + 1 - w .before
 
 pub record Since (w : Trip) (f : ℕ) (s : State) : Type 0 where
   pub ageing : Ageing f s
   pub alike : Alike (w .mesh) (s .mesh)
   pub given : w .number < length (s .given)
-  pub begun : w .before ≤ s .rounds
+  pub begun : w .before ≤ s .accepted
   pub stage : HasRoom (w .mesh) (w .number) (w .to) (s .events) → Stage w (linksBy w s) (s .mesh) (s .events)
 
 module _ (w : Trip) (f : ℕ) (most : far w ≤ f) where
@@ -58,14 +58,14 @@ module _ (w : Trip) (f : ℕ) (most : far w ≤ f) where
     -- ---- a round
 
     module _ (t : Tables) (codes : t .codes ≡ codesOf (w .mesh)) (lent : CodesFor t (s .mesh)) where
-      passes-of-round : HasRoom (w .mesh) n (w .to) (passages t (s .rounds) aside all) → Stage w j (s .mesh) (s .events)
-          → Stage w (suc j) (foldl (passAt t turned) aside all .mesh) (s .events ++ passages t (s .rounds) aside all)
+      passes-of-round : HasRoom (w .mesh) n (w .to) (passages t (s .accepted) aside all) → Stage w j (s .mesh) (s .events)
+          → Stage w (suc j) (foldl (passAt t turned) aside all .mesh) (s .events ++ passages t (s .accepted) aside all)
       passes-of-round room (inl x) =
-          own-passes w t (s .rounds) codes j (s .events) aside all (sound-aside sound) lent (alike-aside (h .alike)) (sound-arrivals sound)
-          (all-due w f (s .rounds) (clock-some sound (h .ageing .clock)) j (omega (arith, most, x .1 .most)) (s .mesh) sound (h .ageing .clock) (h .ageing .flights) (x .1 .each)) room (x .0)
+          own-passes w t (s .accepted) codes j (s .events) aside all (sound-aside sound) lent (alike-aside (h .alike)) (sound-arrivals sound)
+          (all-due w f (s .accepted) (clock-some sound (h .ageing .clock)) j (omega (arith, most, x .1 .most)) (s .mesh) sound (h .ageing .clock) (h .ageing .flights) (x .1 .each)) room (x .0)
           (aside-weighs (copyOf n) (s .mesh)) (arrivals-weigh-in (copyOf n) (s .mesh) sound ∙ x .1 .one)
       passes-of-round room (inr x) =
-          others-pass w t (s .rounds) (suc j) (s .events) aside all (sound-aside sound) lent (sound-arrivals sound)
+          others-pass w t (s .accepted) (suc j) (s .events) aside all (sound-aside sound) lent (sound-arrivals sound)
           (arrivals-weigh-in (copyOf n) (s .mesh) sound ∙ x .1) (inr (x .0, aside-weighs (copyOf n) (s .mesh)))
 
       since-round : Since w f (accepts.afterRound s t)
@@ -77,7 +77,7 @@ module _ (w : Trip) (f : ℕ) (most : far w ≤ f) where
             begun = omega (arith, h .begun);
             stage = λ room.
                 let parts = each-parts _ (s .events) _ room in
-                let later : suc j ≡ s .rounds + 1 + 1 - w .before = omega (arith, h .begun) in
+                let later : suc j ≡ s .accepted + 1 + 1 - w .before = omega (arith, h .begun) in
                 subst (λ (i : ℕ). Stage w i (accepts.afterRound s t .mesh) (accepts.afterRound s t .events)) later
                 (moved w (suc j) (foldl (passAt t turned) aside all .mesh) (accepts.afterRound s t .mesh) _ _ (λ each. each) refl refl (passes-of-round (parts .1) (h .stage (parts .0))));
           }
@@ -95,7 +95,7 @@ module _ (w : Trip) (f : ℕ) (most : far w ≤ f) where
           given = simp length-append (omega (arith, h .given));
           begun = h .begun;
           stage = λ room.
-              others-pass w t (s .rounds) j (s .events) (setOut (s .mesh)) (a ∷ []) sound (fine .codes) (record { there = fine .there; from = inr refl; passable = fine .passable }, tt) (omega arith)
+              others-pass w t (s .accepted) j (s .events) (setOut (s .mesh)) (a ∷ []) sound (fine .codes) (record { there = fine .there; from = inr refl; passable = fine .passable }, tt) (omega arith)
               (h .stage (each-parts _ (s .events) _ room .0));
         }
 
@@ -135,7 +135,7 @@ module _ (w : Trip) (f : ℕ) (most : far w ≤ f) where
           }
 
   -- after as many rounds as links it is there
-  pub reaches : (s : State) → w .before + far w ≤ s .rounds → Since w f s → HasRoom (w .mesh) n (w .to) (s .events) → Reaches (w .mesh) n (w .from) (w .to) s
+  pub reaches : (s : State) → w .before + far w ≤ s .accepted → Since w f s → HasRoom (w .mesh) n (w .to) (s .events) → Reaches (w .mesh) n (w .from) (w .to) s
   reaches s enough h room = go (h .stage room)
     where
       go : Stage w (linksBy w s) (s .mesh) (s .events) → Reaches (w .mesh) n (w .from) (w .to) s

@@ -60,7 +60,7 @@ module _ (w h f monitor : ℕ) (o : Opens w h f monitor) (xs : List Step) where
         record {
           mesh = m;
           number = n;
-          before = s .rounds;
+          before = s .accepted;
           from = from;
           to = to;
           few = few-links m sound from to (follows .at) (follows .there) links way;
@@ -72,15 +72,15 @@ module _ (w h f monitor : ℕ) (o : Opens w h f monitor) (xs : List Step) where
     first-pass fine =
         let a = accepts.arrivalNow s from bytes in
         let next = accepts.afterInjection s from bytes t in
-        let one : 1 ≡ s .rounds + 1 - s .rounds = omega arith in
+        let one : 1 ≡ s .accepted + 1 - s .accepted = omega arith in
         record {
           ageing = ageing-kept .injects f s from bytes t sound fine (ages-always w h f monitor o xs);
           alike = alike-pass t turned (setOut m) a (alike-itself m sound);
           given = simp length-append (omega arith);
-          begun = le-refl (s .rounds);
+          begun = le-refl (s .accepted);
           stage = λ room.
               subst (λ (j : ℕ). Stage trip j (next .mesh) (next .events)) one
-              (passes-by-code trip t (follows .codes) (s .rounds) (setOut m) (alike-itself m sound) sound a (record { there = fine .there; from = inr refl; passable = fine .passable }) refl 0
+              (passes-by-code trip t (follows .codes) (s .accepted) (setOut m) (alike-itself m sound) sound a (record { there = fine .there; from = inr refl; passable = fine .passable }) refl 0
               (record {
                 comes = record { left = add-zero (fewest m from to); kind = follows .kind; destination = follows .destination; crossed = refl };
                 errors = follows .errors;

@@ -21,7 +21,7 @@ use Rattle.mesh.specs.Weights.{onLine, onChip, inFlight}
 use Rattle.mesh.specs.Asked.{Call}
 use Rattle.mesh.specs.Sound.{SoundMesh}
 use Rattle.mesh.proofs.SoundSteps.{sound-injected}
-use Rattle.promises.specs.History.{Tag, Event, passed, emptied, State, Opens, turned, passages, after}
+use Rattle.promises.specs.History.{Tag, Event, packetPassed, registersEmptied, State, Opens, turned, passages, after}
 use Rattle.promises.specs.Sequence.{Step, sequence}
 use Rattle.promises.specs.Told.{EachPass, sumOf}
 use Rattle.promises.specs.GrownTree.{Only, AtMostDeep, Matching, handed, injecting, GrownTree}
@@ -56,10 +56,10 @@ quiet-line m quiet c i =
 none-handed : (n c q : ℕ) (es : List Event) → EachPass (λ p. OfOthers n (p .arrival .flight)) es → sumOf (handed n c q) es ≡ 0
 unfolding EachPass sumOf
 none-handed n c q [] h = refl
-none-handed n c q (passed p ∷ es) h =
+none-handed n c q (packetPassed p ∷ es) h =
     let here : handed n c q p ≡ 0 = ap (λ (b : Bool). cond (b && eqb (p .arrival .chip) c && has (processorsOf (p .outcome .wanted)) q) 1 0) (ne-eqb _ _ (h .0)) in
     omega (arith, here, none-handed n c q es (h .1))
-none-handed n c q (emptied k ∷ es) h = none-handed n c q es h
+none-handed n c q (registersEmptied k ∷ es) h = none-handed n c q es h
 
 -- ---- the pass at the source
 
@@ -73,7 +73,7 @@ module _ (w h f monitor : ℕ) (o : Opens w h f monitor) (xs : List Step) where
   sound : SoundMesh m
   sound = sound-always w h f monitor o xs
 
-  module _ (trip : Trip) (found : trip .mesh ≡ m) (number : trip .number ≡ length (s .given)) (before : trip .before ≡ s .rounds) (quiet : inFlight m ≡ 0) (bytes : List ℕ) (t : Tables) (only : Only (trip .asked) t)
+  module _ (trip : Trip) (found : trip .mesh ≡ m) (number : trip .number ≡ length (s .given)) (before : trip .before ≡ s .accepted) (quiet : inFlight m ≡ 0) (bytes : List ℕ) (t : Tables) (only : Only (trip .asked) t)
       (matching : Matching (trip .asked) (m .phase) (packetAt bytes)) (fine : accepts.Injects m (trip .asked .source) bytes t) where
     abbrev source : ℕ
     source = trip .asked .source
@@ -81,9 +81,9 @@ module _ (w h f monitor : ℕ) (o : Opens w h f monitor) (xs : List Step) where
     abbrev next : State
     next = accepts.afterInjection s source bytes t
 
-    passes : Passes trip source m (next .mesh) (passage t (s .rounds) m (accepts.arrivalNow s source bytes))
+    passes : Passes trip source m (next .mesh) (passage t (s .accepted) m (accepts.arrivalNow s source bytes))
     passes =
-        passes-by-tree trip t only (s .rounds) (setOut m) (accepts.arrivalNow s source bytes) sound (fine .codes) (record { there = fine .there; from = inr refl; passable = fine .passable }) (shape.source-there (trip .asked) (trip .none))
+        passes-by-tree trip t only (s .accepted) (setOut m) (accepts.arrivalNow s source bytes) sound (fine .codes) (record { there = fine .there; from = inr refl; passable = fine .passable }) (shape.source-there (trip .asked) (trip .none))
         (inl (refl, shape.rooted (trip .asked) (trip .none) .root))
         (record { own = sym number; begun = sym before; fits = record { multicast = matching .multicast; unmarked = matching .unmarked; matching = matching .matching } }) (matching .errors)
         (λ i near. subst (λ (k : Mesh Tag). source < many k → lineOf k source i .up ≡ true) found (λ there. trip .up source i there near) (fine .there)) (λ i near. quiet-line m quiet source i)
@@ -113,8 +113,8 @@ module _ (w h f monitor : ℕ) (o : Opens w h f monitor) (xs : List Step) where
     unfolding sumOf passages
     told-first c q there = go (ℕ-discrete c source)
       where
-        sum : (c : ℕ) → sumOf (handed (trip .number) c q) (s .events ++ passed (passage t (s .rounds) m (accepts.arrivalNow s source bytes)) ∷ []) ≡ handed (trip .number) c q (passage t (s .rounds) m (accepts.arrivalNow s source bytes))
-        sum c = sum-append (handed (trip .number) c q) (s .events) (passed (passage t (s .rounds) m (accepts.arrivalNow s source bytes)) ∷ []) ∙ omega (arith, none-handed (trip .number) c q (s .events) no-passes)
+        sum : (c : ℕ) → sumOf (handed (trip .number) c q) (s .events ++ packetPassed (passage t (s .accepted) m (accepts.arrivalNow s source bytes)) ∷ []) ≡ handed (trip .number) c q (passage t (s .accepted) m (accepts.arrivalNow s source bytes))
+        sum c = sum-append (handed (trip .number) c q) (s .events) (packetPassed (passage t (s .accepted) m (accepts.arrivalNow s source bytes)) ∷ []) ∙ omega (arith, none-handed (trip .number) c q (s .events) no-passes)
 
         off : (c : ℕ) → c < all trip → (c ≡ source → ⊥) → Dec (depth trip c ≡ 0) → handedDown trip 0 c q ≡ 0
         off c there other (yes e) = nobody trip 0 c q (off-source c there other e)
@@ -129,7 +129,7 @@ module _ (w h f monitor : ℕ) (o : Opens w h f monitor) (xs : List Step) where
     first-pass : Since trip f next
     unfolding EachPass passages
     first-pass =
-        let none : 0 ≡ s .rounds - trip .before = omega (arith, before) in
+        let none : 0 ≡ s .accepted - trip .before = omega (arith, before) in
         record {
           sound = sound-injected t turned m source (accepts.arrivalNow s source bytes .flight) sound (fine .there) (fine .passable) (fine .codes);
           ageing = ageing-kept .injects f s source bytes t sound fine (ages-always w h f monitor o xs);
@@ -145,7 +145,7 @@ grown-tree w h f monitor o xs a d bytes t room cs none wide high quiet up accept
     let s = sequence w h f monitor xs in
     let c : Call = injecting a s f d bytes t room in
     let x = accepts.arrivalNow s (a .source) bytes .flight in
-    let trip : Trip = record { asked = a; none = none; mesh = s .mesh; wide = wide; high = high; up = up; number = length (s .given); before = s .rounds } in
+    let trip : Trip = record { asked = a; none = none; mesh = s .mesh; wide = wide; high = high; up = up; number = length (s .given); before = s .accepted } in
     let fine = accepts.inject-accepts (s .mesh) (a .source) bytes t room (accepts.unless-accepts _ _ (s .mesh) (injected t turned (s .mesh) (a .source) x) accepted) in
     let first : accepts.afterInjection s (a .source) bytes t ≡ after s c = sym (after-accepted s c (eq-eqb _ 0 accepted) ∙ accepts.inject-leaves s (a .source) bytes t room accepted) in
     let since : Since trip f (after s c) = subst (Since trip f) first (first-pass w h f monitor o xs trip refl refl refl quiet bytes t only matching fine) in

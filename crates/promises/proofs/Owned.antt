@@ -31,7 +31,7 @@ use Rattle.mesh.specs.Calls.{chipOf}
 use Rattle.mesh.specs.Weights.{onChip}
 use Rattle.mesh.proofs.SoundChanges.{chip-sound}
 use Rattle.mesh.proofs.SoundSteps.{checked}
-use Rattle.promises.specs.History.{Passage, Event, passed, emptied, turned}
+use Rattle.promises.specs.History.{Passage, Event, packetPassed, registersEmptied, turned}
 use Rattle.promises.specs.Told.{EachPass, sumOf, isMiss, ownCounts, countAt}
 use Rattle.promises.specs.Demand3.{Always, Counts}
 use Rattle.promises.proofs.Counted.{countedAt, counts-kept}
@@ -126,9 +126,9 @@ sum-own : (chip k : ℕ) (es : List Event)
     → sumOf (countedAt chip k) es ≡ sumOf (countAt chip k) es
 unfolding sumOf EachPass
 sum-own chip k [] h more = refl
-sum-own chip k (passed p ∷ es) h more =
+sum-own chip k (packetPassed p ∷ es) h more =
     λ i. cond (eqb (p .arrival .chip) chip) (getD (own p (h .0 .0) (more .0) i) k 0) 0 + sum-own chip k es (h .1) (more .1) i
-sum-own chip k (emptied c ∷ es) h more = sum-own chip k es h more
+sum-own chip k (registersEmptied c ∷ es) h more = sum-own chip k es h more
 
 pub counts-told : Counts
 counts-told w h f monitor opens cs chip k c i =

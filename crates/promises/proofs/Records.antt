@@ -9,16 +9,16 @@ use Rattle.steps.specs.Deciding.{outcomeOf}
 use Rattle.links.specs.Line.{idle, isReady}
 use Rattle.mesh.specs.Steps.{logOf}
 use Rattle.steps.proofs.Sets.{has-set}
-use Rattle.promises.specs.History.{Passage, Event, passed, emptied}
+use Rattle.promises.specs.History.{Passage, Event, packetPassed, registersEmptied}
 use Rattle.promises.specs.Told.{recordsOf}
 use Rattle.promises.specs.Demand3.{Log, NoStaleBlock}
 use Rattle.promises.proofs.Told.{records-append}
 use Rattle.promises.proofs.Runs.{passage, always-steady, always-each}
 
-one-record : (p : Passage) (es : List Event) (log : List ℕ) → log ≡ recordsOf es → log ++ logOf (p .arrival .chip) (p .outcome) ≡ recordsOf (es ++ passed p ∷ [])
+one-record : (p : Passage) (es : List Event) (log : List ℕ) → log ≡ recordsOf es → log ++ logOf (p .arrival .chip) (p .outcome) ≡ recordsOf (es ++ packetPassed p ∷ [])
 unfolding recordsOf
 one-record p es log e =
-    (λ i. e i ++ sym (append-nil (logOf (p .arrival .chip) (p .outcome))) i) ∙ sym (records-append es (passed p ∷ []))
+    (λ i. e i ++ sym (append-nil (logOf (p .arrival .chip) (p .outcome))) i) ∙ sym (records-append es (packetPassed p ∷ []))
 
 pub log-told : Log
 unfolding recordsOf
@@ -30,7 +30,7 @@ log-told =
       passes = λ t n m a es log sound codes h p. one-record (passage t n m a) es log p;
       over = λ m es log p. p;
       links = λ m chip link up es log p. p;
-      reads = λ m chip es log sound h p. p ∙ sym (append-nil (recordsOf es)) ∙ sym (records-append es (emptied chip ∷ []));
+      reads = λ m chip es log sound h p. p ∙ sym (append-nil (recordsOf es)) ∙ sym (records-append es (registersEmptied chip ∷ []));
     })
 
 -- What is said of a pass: what decides it, and that the ready set has just the links that are up and hold at most 6.

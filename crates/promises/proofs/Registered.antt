@@ -17,7 +17,7 @@ use Rattle.mesh.specs.Steps.{Tables, Arrival, setOut, settingAt, emptiedChip, p
 use Rattle.mesh.specs.Calls.{withEmpty}
 use Rattle.mesh.specs.Sound.{Arrives, SoundMesh}
 use Rattle.lists.proofs.Changed.{set-keeps}
-use Rattle.promises.specs.History.{Tag, Event, passed, emptied, turned}
+use Rattle.promises.specs.History.{Tag, Event, packetPassed, registersEmptied, turned}
 use Rattle.promises.specs.Told.{droppedUnits, noted, dropsSince, firstOfUnits}
 use Rattle.promises.specs.Demand3 as demand
 use Rattle.promises.proofs.Dropped.{length-dropped, first-dropped, keeps-first}
@@ -38,7 +38,7 @@ drops-later chip es e = foldl-append (noted chip) [] es (e ∷ [])
 
 module _ (t : Tables) (n : ℕ) (m : Mesh Tag) (a : Arrival Tag) (es : List Event) (sound : SoundMesh m) (h : Arrives (m .height * m .width) a) (before : Registered m es) where
   abbrev later : List Event
-  later = es ++ passed (passage t n m a) ∷ []
+  later = es ++ packetPassed (passage t n m a) ∷ []
 
   abbrev left : List (Chip Tag)
   left = passAt t turned (setOut m) a .mesh .chips
@@ -61,15 +61,15 @@ module _ (t : Tables) (n : ℕ) (m : Mesh Tag) (a : Arrival Tag) (es : List Even
       ∙ keeps-first (p .outcome) (dropsSince (a .chip) es) (droppedUnits p) (length-dropped p sets) (first-dropped p sets source-told phase-told)
 
   registered-pass : Registered (passAt t turned (setOut m) a .mesh) later
-  registered-pass chip c = rw (drops-later chip es (passed (passage t n m a))) (go (eqb (a .chip) chip) refl)
+  registered-pass chip c = rw (drops-later chip es (packetPassed (passage t n m a))) (go (eqb (a .chip) chip) refl)
     where
       go : (b : Bool) → eqb (a .chip) chip ≡ b → registersAt left chip ≡ firstOfUnits (cond b (dropsSince chip es ++ droppedUnits (passage t n m a)) (dropsSince chip es))
       go true e = subst (λ (x : ℕ). registersAt left x ≡ firstOfUnits (dropsSince x es ++ droppedUnits (passage t n m a))) (eqb-true _ _ e) kept-here
       go false e = ap (λ (x : Chip Tag). x .registers) (getD-set-other (m .chips) (a .chip) chip _ fresh (λ z. eqb-false _ _ e (sym z))) ∙ before chip c
 
 module _ (m : Mesh Tag) (chip : ℕ) (es : List Event) (sound : SoundMesh m) (there : chip < m .height * m .width) (before : Registered m es) where
-  registered-read : Registered (withEmpty m chip) (es ++ emptied chip ∷ [])
-  registered-read x c = rw (drops-later x es (emptied chip)) (go (eqb chip x) refl)
+  registered-read : Registered (withEmpty m chip) (es ++ registersEmptied chip ∷ [])
+  registered-read x c = rw (drops-later x es (registersEmptied chip)) (go (eqb chip x) refl)
     where
       go : (b : Bool) → eqb chip x ≡ b → registersAt (withEmpty m chip .chips) x ≡ firstOfUnits (cond b [] (dropsSince x es))
       go true e =

@@ -15,7 +15,7 @@ use Rattle.lists.specs.Lists.{All}
 use Rattle.mesh.specs.Sound.{Arrives, SoundMesh}
 use Rattle.mesh.proofs.SoundArrivals.{sound-arrivals}
 use Rattle.mesh.proofs.SoundSteps.{CodesFor, sound-aside, sound-pass}
-use Rattle.promises.specs.History.{Tag, Passage, Event, passed, emptied, turned, passages}
+use Rattle.promises.specs.History.{Tag, Passage, Event, packetPassed, registersEmptied, turned, passages}
 use Rattle.promises.specs.Told.{EachPass}
 use Rattle.promises.specs.Demand3.{Always}
 use Rattle.promises.proofs.Told.{each-append}
@@ -27,7 +27,7 @@ abbrev pub passage : Tables → ℕ → Mesh Tag → Arrival Tag → Passage
 passage t n m a =
     record {
       arrival = a;
-      rounds = n;
+      accepted = n;
       here = getD (m .chips) (a .chip) fresh;
       left = getD (passAt t turned (setOut m) a .mesh .chips) (a .chip) fresh;
       tables = tablesAt t (m .height * m .width) (a .chip);
@@ -45,11 +45,11 @@ pub record Steady (P : Mesh Tag → List Event → List ℕ → Type 0) : Type 0
   pub opens : (w h f monitor : ℕ) → P (opened w h f monitor) [] []
   pub aside : (m : Mesh Tag) (es : List Event) (log : List ℕ) → P m es log → P (setAside m) es log
   pub passes : (t : Tables) (n : ℕ) (m : Mesh Tag) (a : Arrival Tag) (es : List Event) (log : List ℕ) → SoundMesh m → CodesFor t m → Arrives (m .height * m .width) a → P m es log
-      → P (passAt t turned (setOut m) a .mesh) (es ++ passed (passage t n m a) ∷ []) (log ++ logOf (a .chip) (outcomeAt t m (a .chip) (a .source) (a .flight .packet)))
+      → P (passAt t turned (setOut m) a .mesh) (es ++ packetPassed (passage t n m a) ∷ []) (log ++ logOf (a .chip) (outcomeAt t m (a .chip) (a .source) (a .flight .packet)))
   pub over : (m : Mesh Tag) (es : List Event) (log : List ℕ) → P m es log → P (roundOver m) es log
   pub links : (m : Mesh Tag) (chip link : ℕ) (up : Bool) (es : List Event) (log : List ℕ) → P m es log → P (withLink m chip link up) es log
   pub reads : (m : Mesh Tag) (chip : ℕ) (es : List Event) (log : List ℕ) → SoundMesh m → chip < m .height * m .width → P m es log
-      → P (withEmpty m chip) (es ++ emptied chip ∷ []) log
+      → P (withEmpty m chip) (es ++ registersEmptied chip ∷ []) log
 
 module _ (P : Mesh Tag → List Event → List ℕ → Type 0) (steady : Steady P) where
   -- the passes of some arrivals; `log` is what the log had before them
@@ -61,7 +61,7 @@ module _ (P : Mesh Tag → List Event → List ℕ → Type 0) (steady : Steady 
   run t n g [] es log sound codes h p = rw append-nil p
   run t n g (a ∷ later) es log sound codes h p =
       let o = outcomeAt t (g .mesh) (a .chip) (a .source) (a .flight .packet) in
-      let e = passed (passage t n (g .mesh) a) in
+      let e = packetPassed (passage t n (g .mesh) a) in
       let q = steady .passes t n (g .mesh) a es (log ++ g .log) sound codes (h .0) p in
       let q′ = subst (λ (l : List ℕ). P (passAt t turned g a .mesh) (es ++ e ∷ []) l) (append-assoc log (g .log) (logOf (a .chip) o)) q in
       subst (λ (l : List Event). P (foldl (passAt t turned) g (a ∷ later) .mesh) l (log ++ foldl (passAt t turned) g (a ∷ later) .log))
@@ -74,12 +74,12 @@ module _ (P : Mesh Tag → List Event → List ℕ → Type 0) (steady : Steady 
       record {
         opens = λ w h f monitor o. steady .opens w h f monitor;
         injects = λ f s chip bytes t sound h p.
-            run t (s .rounds) (setOut (s .mesh)) (arrivalNow s chip bytes ∷ []) (s .events) (s .log) sound (h .codes)
+            run t (s .accepted) (setOut (s .mesh)) (arrivalNow s chip bytes ∷ []) (s .events) (s .log) sound (h .codes)
             (record { there = h .there; from = inr refl; passable = h .passable }, tt)
             (rw append-nil p);
         rounds = λ f s t sound codes p.
             steady .over _ _ _
-            (run t (s .rounds) (setOut (setAside (s .mesh))) (arrivals (s .mesh)) (s .events) (s .log) (sound-aside sound) codes (sound-arrivals sound)
+            (run t (s .accepted) (setOut (setAside (s .mesh))) (arrivals (s .mesh)) (s .events) (s .log) (sound-aside sound) codes (sound-arrivals sound)
             (rw append-nil (steady .aside (s .mesh) (s .events) (s .log) p)));
         links = λ f s chip link up sound h k p. steady .links (s .mesh) chip link up (s .events) (s .log) p;
         reads = λ f s chip sound h p. steady .reads (s .mesh) chip (s .events) (s .log) sound h p;
@@ -98,8 +98,8 @@ always-each R shows =
     (record {
       opens = λ w h f monitor. tt;
       aside = λ m es log p. p;
-      passes = λ t n m a es log sound codes h p. each-append R es (passed (passage t n m a) ∷ []) p (shows t n m a sound codes h, tt);
+      passes = λ t n m a es log sound codes h p. each-append R es (packetPassed (passage t n m a) ∷ []) p (shows t n m a sound codes h, tt);
       over = λ m es log p. p;
       links = λ m chip link up es log p. p;
-      reads = λ m chip es log sound h p. each-append R es (emptied chip ∷ []) p tt;
+      reads = λ m chip es log sound h p. each-append R es (registersEmptied chip ∷ []) p tt;
     })

@@ -12,7 +12,7 @@ use Rattle.steps.proofs.Sets.{has-none}
 use Rattle.mesh.specs.Mesh.{Mesh}
 use Rattle.mesh.specs.Calls.{lineOf}
 use Rattle.flood.proofs.Levels.{apart}
-use Rattle.promises.specs.History.{Tag, Passage, Event, passed}
+use Rattle.promises.specs.History.{Tag, Passage, Event, packetPassed}
 use Rattle.promises.specs.Told.{EachPass, sumOf}
 use Rattle.promises.specs.GrownTree.{handed}
 use Rattle.promises.proofs.Told.{sum-append, each-append}
@@ -95,20 +95,20 @@ module _ (w : Trip) where
     -- ---- a chip that gets its copy
 
     module _ (level : depth w k ≡ suc j) (next : Mesh Tag) (p : Passage) (passes : Passes w k m next p) where
-      sum-more : (c q : ℕ) → sumOf (handed (w .number) c q) (es ++ passed p ∷ []) ≡ sumOf (handed (w .number) c q) es + handed (w .number) c q p
+      sum-more : (c q : ℕ) → sumOf (handed (w .number) c q) (es ++ packetPassed p ∷ []) ≡ sumOf (handed (w .number) c q) es + handed (w .number) c q p
       unfolding sumOf
-      sum-more c q = sum-append (handed (w .number) c q) es (passed p ∷ []) ∙ omega arith
+      sum-more c q = sum-append (handed (w .number) c q) es (packetPassed p ∷ []) ∙ omega arith
 
-      sum-same : (c q : ℕ) → (c ≡ k → ⊥) → sumOf (handed (w .number) c q) (es ++ passed p ∷ []) ≡ sumOf (handed (w .number) c q) es
+      sum-same : (c q : ℕ) → (c ≡ k → ⊥) → sumOf (handed (w .number) c q) (es ++ packetPassed p ∷ []) ≡ sumOf (handed (w .number) c q) es
       sum-same c q other = omega (arith, sum-more c q, passes .none-else c q other)
 
-      sum-here : (q : ℕ) → sumOf (handed (w .number) k q) (es ++ passed p ∷ []) ≡ handedDown (suc j) k q
+      sum-here : (q : ℕ) → sumOf (handed (w .number) k q) (es ++ packetPassed p ∷ []) ≡ handedDown (suc j) k q
       sum-here q =
           let before : handedDown j k q ≡ 0 = ap (λ (b : Bool). cond (b && has (route w k / 64) q) 1 0) (lt-leb (depth w k) j (omega arith)) in
           let after : handedDown (suc j) k q ≡ handedAt w k q = ap (λ (b : Bool). cond (b && has (route w k / 64) q) 1 0) (le-leb (depth w k) (suc j) (omega arith)) in
           omega (arith, sum-more k q, mid .untold k q (omega arith) there, passes .hands q, before, after)
 
-      pub copy-comes : Midway j (suc k) next (es ++ passed p ∷ [])
+      pub copy-comes : Midway j (suc k) next (es ++ packetPassed p ∷ [])
       unfolding EachPass
       copy-comes =
           record {
@@ -116,7 +116,7 @@ module _ (w : Trip) where
             todo = λ c i high below near. passes .elsewhere c i (λ e. omega arith) ∙ mid .todo c i (omega arith) below near;
             told = λ c q low. told-by c q low (ℕ-discrete c k);
             untold = λ c q high below. sum-same c q (λ e. omega arith) ∙ mid .untold c q (omega arith) below;
-            faultless = each-append OwnFaultless es (passed p ∷ []) (mid .faultless) ((λ own. passes .faultless), tt);
+            faultless = each-append OwnFaultless es (packetPassed p ∷ []) (mid .faultless) ((λ own. passes .faultless), tt);
           }
         where
           done-by : (c i : ℕ) → i < 6 → c < suc k → Dec (c ≡ k) → Holds w (leaves w (suc j) c i) (lineOf next c i .held)
@@ -125,6 +125,6 @@ module _ (w : Trip) where
               (subst (λ (b : Bool). Holds w b (lineOf next k i .held)) (sym (all-leave (suc j) k i level)) (passes .here i near))
           done-by c i near low (no other) = subst (Holds w (leaves w (suc j) c i)) (sym (passes .elsewhere c i other)) (mid .done c i (omega arith) near)
 
-          told-by : (c q : ℕ) → c < suc k → Dec (c ≡ k) → sumOf (handed (w .number) c q) (es ++ passed p ∷ []) ≡ handedDown (suc j) c q
-          told-by c q low (yes e) = subst (λ (c : ℕ). sumOf (handed (w .number) c q) (es ++ passed p ∷ []) ≡ handedDown (suc j) c q) (sym e) (sum-here q)
+          told-by : (c q : ℕ) → c < suc k → Dec (c ≡ k) → sumOf (handed (w .number) c q) (es ++ packetPassed p ∷ []) ≡ handedDown (suc j) c q
+          told-by c q low (yes e) = subst (λ (c : ℕ). sumOf (handed (w .number) c q) (es ++ packetPassed p ∷ []) ≡ handedDown (suc j) c q) (sym e) (sum-here q)
           told-by c q low (no other) = sum-same c q other ∙ mid .told c q (omega arith)

@@ -16,7 +16,7 @@ use Rattle.mesh.specs.Sound.{SoundPacket, Arrives, SoundMesh}
 use Rattle.mesh.proofs.SoundArrivals.{sound-passable, opposite-there}
 use Rattle.mesh.proofs.SoundSteps.{CodesFor, sound-pass}
 use Rattle.flood.proofs.SameLinks.{many-same}
-use Rattle.promises.specs.History.{Tag, Event, passed, turned, passages}
+use Rattle.promises.specs.History.{Tag, Event, packetPassed, turned, passages}
 use Rattle.promises.specs.Told.{EachFlight}
 use Rattle.promises.specs.GrownTree.{Only, AtMostDeep}
 use Rattle.promises.proofs.Runs.{passage}
@@ -105,8 +105,8 @@ module _ (w : Trip) (f : ℕ) (deep : AtMostDeep (w .asked) f) (t : Tables) (onl
           let x : Arrival Tag = a g sound codes alike phase k here free due in
           let p = passage t r (g .mesh) x in
           subst (λ (l : List (Arrival Tag)). Ended g es (l ++ arrivingFrom m (suc k) n)) (sym (one g sound codes alike phase k here free due .alone))
-          (subst (Midway w j (all w) (foldl (passAt t turned) (passAt t turned g x) (arrivingFrom m (suc k) n) .mesh)) (append-assoc es (passed p ∷ []) (passages t r (passAt t turned g x) (arrivingFrom m (suc k) n)))
-          (more (passAt t turned g x) (es ++ passed p ∷ []) (sound-pass t turned g x sound codes (arrives g sound codes alike phase k here free due)) codes (alike-pass t turned g x alike) phase
+          (subst (Midway w j (all w) (foldl (passAt t turned) (passAt t turned g x) (arrivingFrom m (suc k) n) .mesh)) (append-assoc es (packetPassed p ∷ []) (passages t r (passAt t turned g x) (arrivingFrom m (suc k) n)))
+          (more (passAt t turned g x) (es ++ packetPassed p ∷ []) (sound-pass t turned g x sound codes (arrives g sound codes alike phase k here free due)) codes (alike-pass t turned g x alike) phase
           (copy-comes w j k here (g .mesh) es mid (due .1) (passAt t turned g x .mesh) p (passes g sound codes alike phase k here free due))))
 
       go : Dec (entered w k < 6) → Dec (depth w k ≡ suc j) → More → Ended g es (arrivingAt m k ++ arrivingFrom m (suc k) n)

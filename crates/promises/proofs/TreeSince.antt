@@ -22,7 +22,7 @@ use Rattle.mesh.specs.Sound.{SoundMesh}
 use Rattle.mesh.proofs.SoundChanges.{chip-sound, sound-linked, sound-emptied}
 use Rattle.mesh.proofs.SoundSteps.{CodesFor, sound-aside, sound-rounded}
 use Rattle.tree.proofs.ATree.{a-tree}
-use Rattle.promises.specs.History.{Tag, emptied, State, turned, after}
+use Rattle.promises.specs.History.{Tag, registersEmptied, State, turned, after}
 use Rattle.promises.specs.Told.{EachPass, sumOf}
 use Rattle.promises.specs.GrownTree.{Only, AtMostDeep, Keeps, handed, Delivers}
 use Rattle.promises.proofs.Told.{sum-append, each-append, each-pass-weaken}
@@ -40,13 +40,13 @@ use Rattle.promises.proofs.TreeRound.{aside-holds, as-many, still-up, w
 
 -- the links that it has behind it where it is in flight
 abbrev pub roundsBy : Trip → State → ℕ
-roundsBy w s = s .rounds - w .before
+roundsBy w s = s .accepted - w .before
 
 pub record Since (w : Trip) (f : ℕ) (s : State) : Type 0 where
   pub sound : SoundMesh (s .mesh)
   pub ageing : Ageing f s
   pub alike : Alike (w .mesh) (s .mesh)
-  pub begun : w .before ≤ s .rounds
+  pub begun : w .before ≤ s .accepted
   pub full : Full w (roundsBy w s) (s .mesh)
   pub told : (c q : ℕ) → c < all w → sumOf (handed (w .number) c q) (s .events) ≡ handedDown w (roundsBy w s) c q
   pub faultless : EachPass (OwnFaultless w) (s .events)
@@ -73,13 +73,13 @@ module _ (w : Trip) (f : ℕ) (deep : AtMostDeep (w .asked) f) where
       ended =
           let m = s .mesh in
           let mid =
-          whole-round w f deep t only (s .rounds) j (omega (arith, h .begun)) m (h .alike) (h .full) (clock-some (h .sound) (h .ageing .clock)) (h .ageing .clock .phase) (h .ageing .flights) (sound-flights (h .sound)) (setOut (setAside m))
+          whole-round w f deep t only (s .accepted) j (omega (arith, h .begun)) m (h .alike) (h .full) (clock-some (h .sound) (h .ageing .clock)) (h .ageing .clock .phase) (h .ageing .flights) (sound-flights (h .sound)) (setOut (setAside m))
           (s .events) (sound-aside (h .sound)) lent (alike-aside (h .alike)) refl begins in
           record { done = mid .done; todo = mid .todo; told = mid .told; untold = mid .untold; faultless = mid .faultless }
 
       since-round : Since w f (accepts.afterRound s t)
       since-round =
-          let later : suc j ≡ s .rounds + 1 - w .before = omega (arith, h .begun) in
+          let later : suc j ≡ s .accepted + 1 - w .before = omega (arith, h .begun) in
           record {
             sound = sound-rounded t turned (h .sound) lent;
             ageing = ageing-kept .rounds f s t (h .sound) lent (h .ageing);
@@ -114,8 +114,8 @@ module _ (w : Trip) (f : ℕ) (deep : AtMostDeep (w .asked) f) where
             alike = alike-emptied (h .alike) chip;
             begun = h .begun;
             full = λ c i here low. subst (Holds w (leaves w j c i)) (sym (emptied-held (s .mesh) chip c i)) (h .full c i here low);
-            told = λ c q here. sum-append (handed (w .number) c q) (s .events) (emptied chip ∷ []) ∙ add-zero (sumOf (handed (w .number) c q) (s .events)) ∙ h .told c q here;
-            faultless = each-append (OwnFaultless w) (s .events) (emptied chip ∷ []) (h .faultless) tt;
+            told = λ c q here. sum-append (handed (w .number) c q) (s .events) (registersEmptied chip ∷ []) ∙ add-zero (sumOf (handed (w .number) c q) (s .events)) ∙ h .told c q here;
+            faultless = each-append (OwnFaultless w) (s .events) (registersEmptied chip ∷ []) (h .faultless) tt;
           }
 
   pub after-calls : (cs : List Call) (s : State) → All (Keeps (w .asked)) cs → SoundMesh (s .mesh) → Since w f s → Since w f (foldl after s cs)
@@ -142,7 +142,7 @@ module _ (w : Trip) (f d : ℕ) (deep : AtMostDeep (w .asked) d) where
   each-place P [] d h = tt
   each-place P (x ∷ xs) d h = (h 0 (omega arith), each-place P xs d (λ k low. h (suc k) (omega arith)))
 
-  module _ (s : State) (enough : w .before + d ≤ s .rounds) (h : Since w f s) where
+  module _ (s : State) (enough : w .before + d ≤ s .accepted) (h : Since w f s) where
     late : d ≤ roundsBy w s
     late = omega arith
 

@@ -69,16 +69,16 @@ LinksCrossed = Always (λ f s.
 
 -- "Each sending is one crossing": such a copy in flight has crossed one link when it was injected and one in every round since, no fewer and no more.
 abbrev pub CrossingsCounted : Type 0
-CrossingsCounted = Always (λ f s. EachFlight (λ x. Stamped (x .tag .packet) → x .tag .crossed + x .tag .before ≡ s .rounds + 1) (s .mesh))
+CrossingsCounted = Always (λ f s. EachFlight (λ x. Stamped (x .tag .packet) → x .tag .crossed + x .tag .before ≡ s .accepted + 1) (s .mesh))
 
 -- 2. It is gone after that many rounds: what is in flight was injected fewer rounds ago.
 abbrev pub GoneInTime : Type 0
-GoneInTime = Always (λ f s. EachFlight (λ x. Stamped (x .tag .packet) → s .rounds < x .tag .before + (span f (x .tag .before) + 1)) (s .mesh))
+GoneInTime = Always (λ f s. EachFlight (λ x. Stamped (x .tag .packet) → s .accepted < x .tag .before + (span f (x .tag .before) + 1)) (s .mesh))
 
 -- 3. It is not stopped for age in the first 2F-(r mod F): a pass that finds it too old is in a later further round.
 abbrev pub NotBeforeItsTime : Type 0
 NotBeforeItsTime = Always (λ f s.
-    EachPass (λ p. p .outcome .errors / 2 % 2 ≡ 1 → p .arrival .flight .tag .before + span f (p .arrival .flight .tag .before) ≤ p .rounds) (s .events))
+    EachPass (λ p. p .outcome .errors / 2 % 2 ≡ 1 → p .arrival .flight .tag .before + span f (p .arrival .flight .tag .before) ≤ p .accepted) (s .events))
 
 -- 4. The account of units closes throughout: units injected plus extra branches equal units delivered, ended in error, dropped, swallowed and in
 -- flight.

@@ -15,15 +15,15 @@ use Rattle.mesh.specs.Asked.{Call, inject, round, setLink, readRegisters, chang
 use Rattle.flood.specs.Ways.{Way, isUp, fewest}
 use Rattle.flood.specs.Codes.{codeOf, codesOf}
 use Rattle.flood.specs.OnItsWay.{Follows, SentOn, HandedOver}
-use Rattle.promises.specs.History.{Tag, Passage, Event, passed, emptied, State, Opens, turned, tagNow, after}
+use Rattle.promises.specs.History.{Tag, Passage, Event, packetPassed, registersEmptied, State, Opens, turned, tagNow, after}
 use Rattle.promises.specs.Sequence.{Step, sequence}
 use Rattle.promises.specs.Told.{EachFlight, EachPass}
 
 -- The passes of the copies of one injection, in order.
 unfoldable pub passesOf : ℕ → List Event → List Passage
 passesOf n [] = []
-passesOf n (passed p ∷ es) = cond (eqb (p .arrival .flight .tag .injection) n) (p ∷ passesOf n es) (passesOf n es)
-passesOf n (emptied c ∷ es) = passesOf n es
+passesOf n (packetPassed p ∷ es) = cond (eqb (p .arrival .flight .tag .injection) n) (p ∷ passesOf n es) (passesOf n es)
+passesOf n (registersEmptied c ∷ es) = passesOf n es
 
 -- "With the links as given": a call that leaves every link in the state that it has in m and, where it is a round, is lent these codes. All else is open: other packets, rows and fixed routes,
 -- looks, reads of registers, refused calls.
@@ -65,7 +65,7 @@ module _ (s : State) (f from to : ℕ) (bytes : List ℕ) (t : Tables) (room : �
   ReachesAfter links cs =
       leftBy turned (tagNow s injecting) (s .mesh) injecting .refusal ≡ 0 → Follows (s .mesh) t (packetAt bytes) 7 from to → Way (s .mesh) from to links → fewest (s .mesh) from to ≤ f → All (Keeps (s .mesh)) cs
       → HasRoom (s .mesh) (length (s .given)) to (afterwards cs .events)
-      → s .rounds + fewest (s .mesh) from to ≤ afterwards cs .rounds
+      → s .accepted + fewest (s .mesh) from to ≤ afterwards cs .accepted
       → Reaches (s .mesh) (length (s .given)) from to (afterwards cs)
 
 abbrev pub FloodedWay : Type 0

@@ -109,7 +109,7 @@ module _ (a : Asked) (s : State) (f d : ℕ) (bytes : List ℕ) (t : Tables) (ro
       → AtMostDeep a d
       → d ≤ f
       → All (Keeps a) cs
-      → s .rounds + d ≤ afterwards cs .rounds
+      → s .accepted + d ≤ afterwards cs .accepted
       → Delivers a (length (s .given)) (afterwards cs)
 
 abbrev pub GrownTree : Type 0

@@ -36,7 +36,7 @@ turned t = record { injection = t .injection; packet = t .packet; before = t .be
 -- that the pass did (errors, the wanted set with its branches, what was sent, dropped, delivered, swallowed).
 pub record Passage : Type 0 where
   pub arrival : Arrival Tag
-  pub rounds : ℕ
+  pub accepted : ℕ
   pub here : Chip Tag
   pub left : Chip Tag
   pub tables : ChipTables
@@ -45,8 +45,8 @@ pub record Passage : Type 0 where
 
 -- What happens: a pass, or a chip's registers are read.
 pub data Event : Type 0 where
-  passed : Passage → Event
-  emptied : ℕ → Event
+  packetPassed : Passage → Event
+  registersEmptied : ℕ → Event
 
 -- What an accepted injection handed in, and how many rounds had been accepted before it.
 pub record Given : Type 0 where
@@ -60,7 +60,7 @@ pub record State : Type 0 where
   pub mesh : Mesh Tag
   -- accepted injections, in order; accepted rounds
   pub given : List Given
-  pub rounds : ℕ
+  pub accepted : ℕ
   -- what happened, in order, and the records of all accepted calls, joined
   pub events : List Event
   pub log : List ℕ
@@ -71,9 +71,9 @@ pub record State : Type 0 where
 unfoldable pub passages : Tables → ℕ → Going Tag → List (Arrival Tag) → List Event
 passages t n g [] = []
 passages t n g (a ∷ later) =
-    passed (record {
+    packetPassed (record {
       arrival = a;
-      rounds = n;
+      accepted = n;
       here = getD (g .mesh .chips) (a .chip) fresh;
       left = getD (passAt t turned g a .mesh .chips) (a .chip) fresh;
       tables = tablesAt t (g .mesh .height * g .mesh .width) (a .chip);
@@ -85,15 +85,15 @@ passages t n g (a ∷ later) =
 -- What happens in a call that is accepted.
 abbrev pub eventsOf : State → Tag → Call → List Event
 eventsOf s tag (change (inject chip bytes t room)) =
-    passages t (s .rounds) (setOut (s .mesh)) (record { chip = chip; source = 7; flight = record { packet = packetAt bytes; tag = tag } } ∷ [])
-eventsOf s tag (change (round t room)) = passages t (s .rounds) (setOut (setAside (s .mesh))) (arrivals (s .mesh))
-eventsOf s tag (change (readRegisters chip)) = emptied chip ∷ []
+    passages t (s .accepted) (setOut (s .mesh)) (record { chip = chip; source = 7; flight = record { packet = packetAt bytes; tag = tag } } ∷ [])
+eventsOf s tag (change (round t room)) = passages t (s .accepted) (setOut (setAside (s .mesh))) (arrivals (s .mesh))
+eventsOf s tag (change (readRegisters chip)) = registersEmptied chip ∷ []
 eventsOf s tag (change (setLink chip link up)) = []
 eventsOf s tag (look l) = []
 
 -- The tag of a packet that is injected now: the number of the injection is how many there were before.
 abbrev pub tagOf : State → Packet → Tag
-tagOf s p = record { injection = length (s .given); packet = p; before = s .rounds; crossed = 0 }
+tagOf s p = record { injection = length (s .given); packet = p; before = s .accepted; crossed = 0 }
 
 abbrev pub tagNow : State → Call → Tag
 tagNow s c = tagOf s (handedIn c)
@@ -103,8 +103,8 @@ abbrev pub accepted : State → calls.Left Tag → Call → State
 accepted s r c =
     record {
       mesh = r .mesh;
-      given = s .given ++ replicate (isInjection c) (record { packet = handedIn c; before = s .rounds });
-      rounds = s .rounds + isRound c;
+      given = s .given ++ replicate (isInjection c) (record { packet = handedIn c; before = s .accepted });
+      accepted = s .accepted + isRound c;
       events = s .events ++ eventsOf s (tagNow s c) c;
       log = s .log ++ r .log;
     }
@@ -121,7 +121,7 @@ pub record Opens (width height rounds monitor : ℕ) : Type 0 where
   pub monitored : monitor ≤ 19
 
 abbrev pub begun : ℕ → ℕ → ℕ → ℕ → State
-begun width height rounds monitor = record { mesh = opened width height rounds monitor; given = []; rounds = 0; events = []; log = [] }
+begun width height rounds monitor = record { mesh = opened width height rounds monitor; given = []; accepted = 0; events = []; log = [] }
 
 unfoldable pub history : ℕ → ℕ → ℕ → ℕ → List Call → State
 history width height rounds monitor cs = foldl after (begun width height rounds monitor) cs

@@ -21,7 +21,7 @@ use Rattle.mesh.specs.Steps.{logOf}
 use Rattle.mesh.specs.Calls.{Left}
 use Rattle.lists.specs.Lists.{All}
 use Rattle.mesh.specs.Weights.{onChip}
-use Rattle.promises.specs.History.{Passage, Event, passed, emptied}
+use Rattle.promises.specs.History.{Passage, Event, packetPassed, registersEmptied}
 
 -- ---- copies
 
@@ -36,15 +36,15 @@ EachFlight P m = All (λ (c : Chip _). All (λ (l : Line _). All P (l .held)) (c
 -- What holds of every pass.
 unfoldable pub EachPass : (Passage → Type 0) → List Event → Type 0
 EachPass P [] = Unit {0}
-EachPass P (passed p ∷ es) = P p × EachPass P es
-EachPass P (emptied c ∷ es) = EachPass P es
+EachPass P (packetPassed p ∷ es) = P p × EachPass P es
+EachPass P (registersEmptied c ∷ es) = EachPass P es
 
 -- ---- sums
 
 unfoldable pub sumOf : (Passage → ℕ) → List Event → ℕ
 sumOf f [] = 0
-sumOf f (passed p ∷ es) = f p + sumOf f es
-sumOf f (emptied c ∷ es) = sumOf f es
+sumOf f (packetPassed p ∷ es) = f p + sumOf f es
+sumOf f (registersEmptied c ∷ es) = sumOf f es
 
 -- "A local miss is a local MC packet without error and without a matching row."
 abbrev pub isMiss : Passage → Bool
@@ -101,8 +101,8 @@ abbrev pub droppedUnits : Passage → List Registers
 droppedUnits p = unitsOf p (p .outcome .dropped) 0 ++ unitsOf p (p .outcome .«leg_dropped») 1
 
 abbrev pub noted : ℕ → List Registers → Event → List Registers
-noted chip units (passed p) = cond (eqb (p .arrival .chip) chip) (units ++ droppedUnits p) units
-noted chip units (emptied c) = cond (eqb c chip) [] units
+noted chip units (packetPassed p) = cond (eqb (p .arrival .chip) chip) (units ++ droppedUnits p) units
+noted chip units (registersEmptied c) = cond (eqb c chip) [] units
 
 -- The units dropped at a chip since its registers were last read.
 unfoldable pub dropsSince : ℕ → List Event → List Registers
@@ -118,8 +118,8 @@ firstOfUnits (u ∷ us) = withUnits u (capped (length (u ∷ us)))
 
 unfoldable pub recordsOf : List Event → List ℕ
 recordsOf [] = []
-recordsOf (passed p ∷ es) = logOf (p .arrival .chip) (p .outcome) ++ recordsOf es
-recordsOf (emptied c ∷ es) = recordsOf es
+recordsOf (packetPassed p ∷ es) = logOf (p .arrival .chip) (p .outcome) ++ recordsOf es
+recordsOf (registersEmptied c ∷ es) = recordsOf es
 
 -- ---- tags forgotten
 
