@@ -1,5 +1,5 @@
 -- Which buffers hold a mesh: "exactly when it is long enough and each stored number is within this document's range ... and each packet in
--- flight is of a used type, right in length and parity, not NN with T = 1."
+-- flight is .. right in length and parity, not NN with T = 1." Every type is used.
 use Prim.Native.Nat.{ℕ, zero, suc, _≤_, _<_}
 use mathlib.Core.Bool.{Bool, true, _&&_}
 use mathlib.Core.List.{List}

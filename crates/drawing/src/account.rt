@@ -136,7 +136,7 @@ fn flying_from(mesh: &[u32; WORDS], chip: u32) -> u64 {
     all
 }
 
-// The weight of the packet at a place of a link, 0 the oldest: two for an MC packet marked 01, none where there is no packet.
+// The weight of the packet at a place of a link, 0 the oldest: two for one marked 01 that is MC or fixed-route, none where there is no packet.
 fn weight_at(mesh: &[u32; WORDS], chip: u32, link: u32, place: u32) -> u64 {
     let f = look_flight(mesh, chip, link, place);
     if f.refusal != 0 {

@@ -13,7 +13,7 @@ use Rattle.steps.specs.Deciding.{markOn}
 use Rattle.kept.specs.Keeping.{dropCount}
 use Rattle.kept.specs.Counting.{delivered, swallowed}
 
--- "An in-flight MC packet marked 01 weighs two, every other packet one".
+-- "An in-flight MC packet marked 01 weighs two, every other packet one", and a fixed-route packet as MC's does.
 abbrev pub weight : Packet → ℕ
 weight p = cond (isMarked (p .control) && eqb (markOf (p .control)) 1) 2 1
 

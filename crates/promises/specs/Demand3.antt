@@ -61,7 +61,7 @@ WholeRun = (w h f monitor : ℕ) (before behind log : List ℕ) (xs : List Step)
 abbrev pub Always : (ℕ → State → Type 0) → Type 0
 Always P = (w h f monitor : ℕ) → Opens w h f monitor → (xs : List Step) → P f (sequence w h f monitor xs)
 
--- 1. An MC or P2P packet injected after r rounds crosses at most 2F-(r mod F)+1 links: every copy, in flight or where it passed.
+-- 1. An MC, P2P or fixed-route packet injected after r rounds crosses at most 2F-(r mod F)+1 links: every copy, in flight or where it passed.
 abbrev pub LinksCrossed : Type 0
 LinksCrossed = Always (λ f s.
     EachFlight (λ x. Stamped (x .tag .packet) → x .tag .crossed ≤ span f (x .tag .before) + 1) (s .mesh)

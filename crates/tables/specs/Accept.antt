@@ -1,5 +1,5 @@
--- Which lent tables are acceptable. Refusal 5: "over 1,024 rows for a chip, route bit 26 to 31 set, bad starts", and "a fixed route with bits 26 to 31 set is 5, and so is a
--- wrong number of them", a definition for each cause; 11: "P2P table of wrong size, or a code above 7".
+-- Which lent tables are acceptable, a definition for each refusal: "15 bad starts, 16 too many rows, 17 route bits", "a bad fixed route becomes 18", with a wrong number of them, and 11: "P2P table of
+-- wrong size, or a code above 7".
 use Prim.Native.Nat.{ℕ, _+_, _-_, _*_, _/_, _%_, _^_, _<_}
 use mathlib.Core.Path.{_≡_}
 use mathlib.Core.Bool.{Bool, true, _&&_}
