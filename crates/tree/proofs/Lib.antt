@@ -3,6 +3,7 @@ pub mod Acceptable
 pub mod AcrossBack
 pub mod Answers
 pub mod ComputedWays
+pub mod Counts
 pub mod Displaced
 pub mod FewestLinks
 pub mod FreshWay

@@ -7,10 +7,7 @@ use lib.Arith.{digits-lt, digits-div, digits-mod}
 use Rattle.tables.specs.Sizes.{sizeFine}
 use Rattle.tables.proofs.Sizes.{size}
 use Rattle.links.specs.Across.{stepEast, stepNorth, across}
-
-pub record Stands (width height x y : ℕ) : Type 0 where
-  pub east-low : x < width
-  pub north-low : y < height
+use Rattle.tree.specs.Walking.{Stands}
 
 pub chip-there : {width height chip x y : ℕ} → chip ≡ y * width + x → Stands width height x y → chip < height * width
 chip-there e at = rw e (digits-lt (at .north-low) (at .east-low))

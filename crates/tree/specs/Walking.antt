@@ -1,5 +1,5 @@
 -- No rule of the model, but what the steps of growing a tree promise each other: the least of four ways, a way's links by their places, and the part of a way that is left.
-use Prim.Native.Nat.{ℕ, _+_, _-_, _*_, _%_, _≤_, max}
+use Prim.Native.Nat.{ℕ, _+_, _-_, _*_, _%_, _≤_, _<_, max}
 use mathlib.Core.Path.{_≡_}
 use mathlib.Core.Bool.{cond}
 use mathlib.Core.List.{List, [], _∷_, _++_}
@@ -7,6 +7,7 @@ use lib.Dec.{ltb}
 use lib.IntN.{pos, negℤ, natAbs}
 use lib.ListN.{length, take, drop, replicate}
 use Rattle.tree.specs.declared.Way.{Way}
+use Rattle.tree.specs.declared.Counted.{Counted}
 use Rattle.tree.specs.declared.Legs.{Legs}
 use Rattle.tree.specs.declared.Rest.{Rest}
 use Rattle.tree.specs.Way.{shared, linksIn, diagonalLink, sidewaysLink, uprightLink}
@@ -18,6 +19,11 @@ use Rattle.tree.specs.Rows.{needsRow}
 pub record Small (w : Way) : Type 0 where
   pub east-small : natAbs (w .east) ≤ 11
   pub north-small : natAbs (w .north) ≤ 11
+
+-- A way that goes with the number of its links.
+pub record CountedRight (c : Counted) : Type 0 where
+  pub small : Small (c .way)
+  pub many : c .links ≡ linksIn (c .way)
 
 -- The first of two ways unless the other has fewer links.
 abbrev pub nearer : Way → Way → Way
@@ -68,6 +74,16 @@ wholeWay chip links = record { chip = chip; links = links }
 
 abbrev pub partFrom : List ℕ → Rest → Part
 partFrom links rest = record { chip = rest .chip; links = drop (rest .at) links }
+
+-- A place on the mesh: so far east and so far north.
+pub record Stands (width height x y : ℕ) : Type 0 where
+  pub east-low : x < width
+  pub north-low : y < height
+
+-- The chip that such a part leaves stands at its x and y.
+pub record LeavesFrom (width height : ℕ) (rest : Rest) : Type 0 where
+  pub there : rest .chip ≡ rest .y * width + rest .x
+  pub stands : Stands width height (rest .x) (rest .y)
 
 -- ---- the tree
 

@@ -16,7 +16,7 @@ ghost use Rattle.tables.specs.Sizes.{sizeFine};
 ghost use Rattle.tree.specs.Way.{linksOf};
 ghost use Rattle.tree.specs.Growing.{targetsOf, lastShared, withPart, withTarget, grownBy};
 ghost use Rattle.tree.specs.Call.{allThere, setsFine};
-ghost use Rattle.tree.specs.Walking.{Small, Marks, grownOf, targetOf, partFrom, wholeWay};
+ghost use Rattle.tree.specs.Walking.{Small, Marks, LeavesFrom, grownOf, targetOf, partFrom, wholeWay};
 
 // The mark of a chip outside the tree.
 pub const OUTSIDE: u8 = 7;
@@ -76,14 +76,18 @@ fn add_target(
 fn last_shared(width: u32, height: u32, source: u32, way: Way, entered: &[u8; 144]) -> Rest
     requires { ⌜ (sizeFine width height ≡ true) × ((source < height * width) × Small way) ⌝ }
     ensures { λ r. ⌜ partFrom (linksOf way) r ≡ lastShared width height (now (entered .entry)) (wholeWay source (linksOf way)) source (linksOf way) ⌝ }
-    ensures { λ r. ⌜ r .chip < height * width ⌝ }
+    ensures { λ r. ⌜ LeavesFrom width height r ⌝ }
 {
     let legs = legs_of(way);
     let end = legs.end;
-    let mut from = source;
-    let mut at: usize = 0;
     let mut x = source % width;
     let mut y = source / width;
+    let mut rest = Rest {
+        chip: source,
+        x: x,
+        y: y,
+        at: 0,
+    };
     let mut j: usize = 0;
     while j < end {
         let link = link_at(legs, j);
@@ -92,11 +96,15 @@ fn last_shared(width: u32, height: u32, source: u32, way: Way, entered: &[u8; 14
         j += 1;
         let chip = number_of(width, height, x, y);
         if entered[chip as usize] != OUTSIDE {
-            from = chip;
-            at = j;
+            rest = Rest {
+                chip: chip,
+                x: x,
+                y: y,
+                at: j,
+            };
         }
     }
-    Rest { chip: from, at: at }
+    rest
 }
 
 // The links of that part, one after the other.
@@ -108,7 +116,7 @@ fn add_links(
     entered: &mut [u8; 144],
     routes: &mut [u32; 144],
 )
-    requires { ⌜ (sizeFine width height ≡ true) × ((rest .chip < height * width) × Small way) ⌝ }
+    requires { ⌜ (sizeFine width height ≡ true) × (LeavesFrom width height rest × Small way) ⌝ }
     requires { ⌜ Marks (now entered) (now routes) ⌝ }
     ensures { λ _. ⌜ grownOf (now (entered .exit)) (now (routes .exit)) ≡ withPart width height (grownOf (now (entered .entry)) (now (routes .entry))) (partFrom (linksOf way) rest) ⌝ }
     ensures { λ _. ⌜ Marks (now (entered .exit)) (now (routes .exit)) ⌝ }
@@ -116,8 +124,8 @@ fn add_links(
     let legs = legs_of(way);
     let end = legs.end;
     let mut chip = rest.chip;
-    let mut x = chip % width;
-    let mut y = chip / width;
+    let mut x = rest.x;
+    let mut y = rest.y;
     let mut j = rest.at;
     while j < end {
         let link = link_at(legs, j);

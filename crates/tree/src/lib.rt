@@ -19,6 +19,12 @@ struct Way {
     north: i32,
 }
 
+// A way, and how many links it has.
+struct Counted {
+    way: Way,
+    links: u32,
+}
+
 // A way's links in order: diagonal ones up to `shared`, then those east or west up to `turn`, then those north or south up to `end`.
 struct Legs {
     shared: usize,
@@ -29,8 +35,10 @@ struct Legs {
     upright: u32,
 }
 
-// The part of a way that is still to be added: it leaves `chip` by the link at place `at`.
+// The part of a way that is still to be added: it leaves `chip`, which stands at x and y, by the link at place `at`.
 struct Rest {
     chip: u32,
+    x: u32,
+    y: u32,
     at: usize,
 }

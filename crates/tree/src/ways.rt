@@ -1,6 +1,6 @@
 // The way that is taken to a chip: signed steps east and north, least over all ways round the mesh.
+use super::Counted;
 use super::Way;
-use super::walking::legs_of;
 use links::across::wrapped;
 ghost use mathlib.Core.Path.{_≡_};
 ghost use mathlib.Core.Bool.{true};
@@ -8,7 +8,7 @@ ghost use lib.IntN.{pos, negℤ};
 ghost use Prim.Native.Nat.{_+_, _*_, _-_, _%_, _≤_, _<_, max};
 ghost use Rattle.tables.specs.Sizes.{sizeFine};
 ghost use Rattle.tree.specs.Way.{offset, wayTo, wayBetween};
-ghost use Rattle.tree.specs.Walking.{Small, nearer};
+ghost use Rattle.tree.specs.Walking.{Small, CountedRight, nearer};
 
 pub fn way_between(width: u32, height: u32, from: u32, to: u32) -> Way
     requires { ⌜ (sizeFine width height ≡ true) × ((from < height * width) × (to < height * width)) ⌝ }
@@ -33,45 +33,48 @@ fn way_to(width: u32, height: u32, east: u32, north: u32) -> Way
     ensures { λ r. ⌜ (r ≡ wayTo width height east north) × Small r ⌝ }
 {
     let far = larger(east, north);
-    let most_east = signed(far - within_ring(far - east, width));
-    let most_north = signed(far - within_ring(far - north, height));
-    let west = negative(wrapped(width - east, width));
-    let south = negative(wrapped(height - north, height));
-    let least_east = signed(east);
-    let least_north = signed(north);
-    let forwards = Way {
-        east: most_east,
-        north: most_north,
+    let back = wrapped(width - east, width);
+    let down = wrapped(height - north, height);
+    let forwards = Counted {
+        way: Way {
+            east: signed(far - within_ring(far - east, width)),
+            north: signed(far - within_ring(far - north, height)),
+        },
+        links: far,
     };
-    let first = fewer_links(
-        forwards,
-        Way {
-            east: least_east,
-            north: south,
+    let east_south = Counted {
+        way: Way {
+            east: signed(east),
+            north: negative(down),
         },
-    );
-    let second = fewer_links(
-        first,
-        Way {
-            east: west,
-            north: least_north,
+        links: east + down,
+    };
+    let west_north = Counted {
+        way: Way {
+            east: negative(back),
+            north: signed(north),
         },
-    );
+        links: back + north,
+    };
+    let backwards = Counted {
+        way: Way {
+            east: negative(back),
+            north: negative(down),
+        },
+        links: larger(back, down),
+    };
     fewer_links(
-        second,
-        Way {
-            east: west,
-            north: south,
-        },
-    )
+        fewer_links(fewer_links(forwards, east_south), west_north),
+        backwards,
+    ).way
 }
 
 // The first of two ways unless the other has fewer links.
-fn fewer_links(first: Way, other: Way) -> Way
-    requires { ⌜ Small first × Small other ⌝ }
-    ensures { λ r. ⌜ (r ≡ nearer first other) × Small r ⌝ }
+fn fewer_links(first: Counted, other: Counted) -> Counted
+    requires { ⌜ CountedRight first × CountedRight other ⌝ }
+    ensures { λ r. ⌜ (r .way ≡ nearer (first .way) (other .way)) × CountedRight r ⌝ }
 {
-    if legs_of(other).end < legs_of(first).end {
+    if other.links < first.links {
         other
     } else {
         first

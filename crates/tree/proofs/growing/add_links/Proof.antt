@@ -2,13 +2,12 @@
 use Prim.Native.Nat.{_+_, _*_, _-_, _<_}
 use mathlib.Core.Path.{_≡_, refl, sym, _∙_}
 use native.Mathlib.Omega.{arith}
-use native.Mathlib.Nat.{div-add-mod'}
 use lib.ListN.{drop, length-set}
 use Rattle.tables.proofs.Sizes.{size, chips-small}
 use Rattle.tree.specs.Growing.{added}
-use Rattle.tree.specs.Walking.{Marks, grownOf, linksBy}
+use Rattle.tree.specs.Walking.{Stands, Marks, grownOf, linksBy}
 use Rattle.tree.proofs.LinkByLink.{legs-in-order, legs-low, legs-links, one-added, all-added}
-use Rattle.tree.proofs.Standing.{Stands, chip-there, stands, stands-next, leads-across}
+use Rattle.tree.proofs.Standing.{chip-there, stands-next, leads-across}
 use Rattle.tree.proofs.growing.add_links.Statement.{statement}
 use Rattle.tree.proofs.growing.add_links.Tie as tie
 
@@ -21,16 +20,10 @@ abbrev μ-loop : tie.MeasureT-loop
 legs-of-requires : tie.Need-legs-of-requires Inv-loop μ-loop
 legs-of-requires c κs = c .pre .0 .1 .1
 
-rem-x : tie.Need-rem-x Inv-loop μ-loop
-rem-x c = let s = c .before in size (s .args .width) (s .args .height) (s .pre .0 .0) .width-low
-
-div-y : tie.Need-div-y Inv-loop μ-loop
-div-y c = let s = c .before in size (s .args .width) (s .args .height) (s .pre .0 .0) .width-low
-
 loop-holds : tie.Need-loop-holds Inv-loop μ-loop
 loop-holds c =
     let s = c .before in
-    (s .pre .1, (sym (div-add-mod' (s .args .rest .chip) (s .args .width)), (stands (s .pre .0 .0) (s .pre .0 .1 .0), refl)))
+    (s .pre .1, (s .pre .0 .1 .0 .there, (s .pre .0 .1 .0 .stands, refl)))
 
 link-at-requires : tie.Need-link-at-requires Inv-loop μ-loop
 link-at-requires c κs = tt
@@ -137,8 +130,6 @@ add-links-spec =
     Inv-loop
     μ-loop
     legs-of-requires
-    rem-x
-    div-y
     loop-holds
     link-at-requires
     cast-from

@@ -9,17 +9,17 @@ use lib.ListN.{drop, getD}
 use Rattle.tables.proofs.Sizes.{size, chips-small}
 use Rattle.links.specs.Across.{across}
 use Rattle.tree.specs.Growing.{Part, lastShared}
-use Rattle.tree.specs.Walking.{linksBy, wholeWay, partFrom}
+use Rattle.tree.specs.Walking.{Stands, LeavesFrom, linksBy, wholeWay, partFrom}
 use Rattle.tree.proofs.LinkByLink.{legs-in-order, legs-links, met, not-met, all-met}
-use Rattle.tree.proofs.Standing.{Stands, stands, stands-next, leads-across}
+use Rattle.tree.proofs.Standing.{stands, stands-next, leads-across}
 use Rattle.tree.proofs.growing.last_shared.Statement.{statement}
 use Rattle.tree.proofs.growing.last_shared.Tie as tie
 
 abbrev Inv-loop : tie.InvT-loop
-Inv-loop width height source entered legs end from₀ at₀ x₀ y₀ j₀ from at x y j = (lastShared width height entered (wholeWay source (linksBy legs)) source (linksBy legs) ≡ lastShared width height entered (partFrom (linksBy legs) (record { chip = from; at = at })) (y * width + x) (drop j (linksBy legs))) × (Stands width height x y × (from < height * width))
+Inv-loop width height source entered legs end x₀ y₀ rest₀ j₀ x y rest j = (lastShared width height entered (wholeWay source (linksBy legs)) source (linksBy legs) ≡ lastShared width height entered (partFrom (linksBy legs) rest) (y * width + x) (drop j (linksBy legs))) × (Stands width height x y × LeavesFrom width height rest)
 
 abbrev μ-loop : tie.MeasureT-loop
-μ-loop width height source entered legs end from₀ at₀ x₀ y₀ j₀ from at x y j = end - j
+μ-loop width height source entered legs end x₀ y₀ rest₀ j₀ x y rest j = end - j
 
 legs-of-requires : tie.Need-legs-of-requires Inv-loop μ-loop
 legs-of-requires c κs = c .pre .1 .1
@@ -35,7 +35,8 @@ loop-holds c =
     let s = c .before in
     let links = linksBy (c .legs-of .result) in
     let here = sym (div-add-mod' (s .args .source) (s .args .width)) in
-    (ap (λ (chip : ℕ). lastShared (s .args .width) (s .args .height) (s .args .entered .now) (wholeWay (s .args .source) links) chip links) here, (stands (s .pre .0) (s .pre .1 .0), s .pre .1 .0))
+    let at = stands (s .pre .0) (s .pre .1 .0) in
+    (ap (λ (chip : ℕ). lastShared (s .args .width) (s .args .height) (s .args .entered .now) (wholeWay (s .args .source) links) chip links) here, (at, record { there = here; stands = at }))
 
 link-at-requires : tie.Need-link-at-requires Inv-loop μ-loop
 link-at-requires c κs = tt
@@ -96,7 +97,7 @@ loop-again c =
     let s = walk .before in
     let legs = walk .legs-of .result in
     let in-tree = ap not (ne-eqb (getD (s .args .entered .now) (n .number-of .result) 0) 7 (c .if1 .taken)) in
-    (at .inv .0 ∙ met (s .args .width) (s .args .height) legs (legs-in-order legs (s .args .way) (walk .legs-of .ensures)) _ _ (at .j) _ (test .loop-test .taken) (n .before .before .before .link-at .ensures) (leads n) (s .args .entered .now) _ in-tree ∙ goes-on n _, (on-mesh (n .before), n .number-of .ensures .1))
+    (at .inv .0 ∙ met (s .args .width) (s .args .height) legs (legs-in-order legs (s .args .way) (walk .legs-of .ensures)) _ _ (at .j) _ (test .loop-test .taken) (n .before .before .before .link-at .ensures) (leads n) (s .args .entered .now) _ in-tree ∙ goes-on n _, (on-mesh (n .before), record { there = n .number-of .ensures .0; stands = on-mesh (n .before) }))
 
 loop-less-2 : tie.Need-loop-less-2 Inv-loop μ-loop
 loop-less-2 c = omega arith
@@ -119,7 +120,7 @@ returns c =
     let legs = c .before .before .legs-of .result in
     let same = legs-links legs (s .args .way) (c .before .before .legs-of .ensures) in
     let found = at .inv .0 ∙ all-met (s .args .width) (s .args .height) legs (legs-in-order legs (s .args .way) (c .before .before .legs-of .ensures)) _ (at .j) (c .loop-test .left) (s .args .entered .now) _ in
-    ((λ i. partFrom (sym same i) (record { chip = at .from; at = at .at })) ∙ sym found ∙ (λ i. lastShared (s .args .width) (s .args .height) (s .args .entered .now) (wholeWay (s .args .source) (same i)) (s .args .source) (same i)), at .inv .1 .1)
+    ((λ i. partFrom (sym same i) (at .rest)) ∙ sym found ∙ (λ i. lastShared (s .args .width) (s .args .height) (s .args .entered .now) (wholeWay (s .args .source) (same i)) (s .args .source) (same i)), at .inv .1 .1)
 
 pub last-shared-spec : {M : Type 1} → statement M
 last-shared-spec =
