@@ -50,8 +50,9 @@
 /* Raised with each change that a caller can see; 2 brings kept traces, 3 has a row match by its key itself,
  * 4 brings fixed-route packets, 5 has registers say where, when and how many, 6 brings P2P codes by flooding,
  * 7 makes tables fewer rows, 8 says of bad tables which start, chip, row or fixed route it is: 15 to 18, with a place,
- * 9 grows multicast trees, 10 lends room to pass, inject, round and replay, by which lookups skip rows. */
-#define YAGBOLSHEN_VERSION 10
+ * 9 grows multicast trees, 10 lends room to pass, inject, round and replay, by which lookups skip rows, 11 writes that
+ * room only where groups are built. */
+#define YAGBOLSHEN_VERSION 11
 
 /* The refusals by name. */
 #define YB_ACCEPTED 0
