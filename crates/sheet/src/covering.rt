@@ -1,10 +1,9 @@
 // Rows that match no key, and rows that an earlier row of their table covers.
 use super::storing::word_of;
+use covered::covers;
+use covered::used;
 use script::cells::word_at;
 use std::num::wrapping_add_usize;
-ghost use mathlib.Core.Path.{_≡_};
-ghost use Rattle.tables.specs.Rows.{used};
-ghost use Rattle.sheet.specs.Covering.{covers};
 
 // Whether a row matches any key at all.
 pub fn used_at(rows: &[u32], row: usize) -> bool {
@@ -42,17 +41,4 @@ fn covers_at(rows: &[u32], row: usize, later_key: u32, later_mask: u32) -> bool 
         later_key,
         later_mask,
     )
-}
-
-// Whether a row covers a later one: specs/Covered.antt has what follows from it.
-fn covers(key: u32, mask: u32, later_key: u32, later_mask: u32) -> bool
-    ensures { λ r. ⌜ r ≡ covers key mask «later_key» «later_mask» ⌝ }
-{
-    used(later_key, later_mask) & ((mask & later_mask) == mask) & ((later_key & mask) == key)
-}
-
-fn used(key: u32, mask: u32) -> bool
-    ensures { λ r. ⌜ r ≡ used key mask ⌝ }
-{
-    (key & mask) == key
 }

@@ -13,7 +13,7 @@ use Rattle.tables.specs.declared.Found.the-variants.{At, Nothing}
 use Rattle.tables.specs.Shown.{Shown, foundShown}
 use Rattle.tables.specs.Rows.{Entry, matches, used, next, firstMatch, blankEntry}
 use Rattle.tables.proofs.Masked.{through}
-use Rattle.sheet.specs.Covering.{covers}
+use Rattle.covered.specs.Covering.{covers}
 
 both : (a b : Bool) → (a && b) ≡ true → (a ≡ true) × (b ≡ true)
 both true b e = (refl, e)

@@ -1,6 +1,6 @@
 use borrow.Author.Needs.{needs}
-use Rattle.sheet.proofs.covering.covers.Statement.{statement}
-use Rattle.sheet.proofs.covering.covers.Tie as tie
+use Rattle.covered.proofs.covers.Statement.{statement}
+use Rattle.covered.proofs.covers.Tie as tie
 
 used-requires : tie.Need-used-requires
 used-requires c κs = search needs
