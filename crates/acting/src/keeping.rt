@@ -1,9 +1,9 @@
 // Accepted calls as records of a trace.
+use records::Call;
+use records::writing::write_record;
 use report::course::Course;
 use script::cells::between;
 use steps::errors::flag_of;
-use trace::Call;
-use trace::writing::write_record;
 
 // A record is 15 bytes at the most.
 const ROOM: usize = 16;

@@ -1,6 +1,8 @@
 // The calls of a kept trace, made again: up to the first that is refused.
 use super::calls;
 use buffer::opening::open;
+use records::Call;
+use records::reading::read_record;
 use report::course::Course;
 use report::course::answered;
 use report::records::RECORD;
@@ -13,8 +15,6 @@ use script::pieces::FAILED;
 use script::pieces::PIECE;
 use sheet::board::LOG;
 use sheet::board::WORDS;
-use trace::Call;
-use trace::reading::read_record;
 
 struct Replay {
     records: Records,

@@ -1,5 +1,7 @@
 // A trace as lines that FILE could hold: kept again behind FILE's mesh and tables they give the same bytes.
 use libc::STDOUT_FILENO;
+use records::Call;
+use records::reading::read_record;
 use report::records::RECORD;
 use report::records::RECORD_THERE;
 use report::records::Records;
@@ -14,8 +16,6 @@ use script::names::say_link;
 use script::pieces::FAILED;
 use script::pieces::PIECE;
 use script::say;
-use trace::Call;
-use trace::reading::read_record;
 
 // As many rounds as a line takes are shown by one line.
 const MOST: u32 = 4294967295;

@@ -16,7 +16,8 @@ use Rattle.mesh.specs.Steps.{Tables, setOut, injected, rounded, same}
 use Rattle.mesh.specs.Weights.{inFlight}
 use Rattle.mesh.specs.Calls.{placeIn, Left, many, withLink, withEmpty, injectRefusals, roundRefusals, linkRefusals, chipRefusals, loggedOn}
 use Rattle.mesh.specs.Asked.{Call, inject, round, setLink, readRegisters, change, look, leftBy, answerOf}
-use Rattle.trace.specs.Replay.{Trace, over, refused, then, making, stopped, behind, replaying}
+use Rattle.records.specs.Traces.{Trace, over, refused, then}
+use Rattle.trace.specs.Replay.{making, stopped, behind, replaying}
 use Rattle.trace.proofs.KeptSizes.{Keeps, size-injected, size-rounded, keeps-unless, keeps-made}
 use Rattle.trace.proofs.MadeCalls.{unless-quiet}
 use Rattle.promises.specs.History.{Tag, State, turned, tagNow, accepted, after}

@@ -21,9 +21,10 @@ use Rattle.mesh.specs.Steps.{Tables, Going, injected, rounded, same}
 use Rattle.mesh.specs.Calls.{Left, many, unless, tablesRefusals, injectRefusals, roundRefusals, placeIn, injecting, rounding, linking, emptying, addedOf}
 use Rattle.mesh.specs.Weights.{inFlight}
 use Rattle.mesh.specs.Asked.{change, look, inject, round, setLink, readRegisters, ofAdded}
-use Rattle.trace.specs.declared.Call.{Call}
-use Rattle.trace.specs.Records.{packetOf}
-use Rattle.trace.specs.Replay.{Trace, over, refused, then, making, Replay, stopped, behind, replaying}
+use Rattle.records.specs.declared.Call.{Call}
+use Rattle.records.specs.Records.{packetOf}
+use Rattle.records.specs.Traces.{Trace, over, refused, then}
+use Rattle.trace.specs.Replay.{making, Replay, stopped, behind, replaying}
 use Rattle.promises.specs.RoomCountsForNothing.{withoutRoom, AtACall, AtAReplay, AtOneRouter, RoomCountsForNothing}
 
 -- ---- a refusal that is not told

@@ -8,10 +8,11 @@ use lib.ListN.{length}
 use Rattle.mesh.specs.Mesh.{Mesh}
 use Rattle.mesh.specs.Steps.{Tables, same}
 use Rattle.mesh.specs.Calls.{Left}
-use Rattle.trace.specs.declared.Call.{Call as KeptCall}
-use Rattle.trace.specs.Records.{packetOf}
-use Rattle.trace.specs.Replay.{Trace, over, refused, then, traceOf, making, Replay, stopped, behind, replaying, replayOf}
-use Rattle.trace.proofs.ByKind.{by-made}
+use Rattle.records.specs.declared.Call.{Call as KeptCall}
+use Rattle.records.specs.Records.{packetOf}
+use Rattle.records.specs.Traces.{Trace, over, refused, then, traceOf}
+use Rattle.trace.specs.Replay.{making, Replay, stopped, behind, replaying, replayOf}
+use Rattle.records.proofs.ByKind.{by-made}
 use Rattle.mesh.specs.Asked.{Change, Call, inject, round, setLink, readRegisters, change, leftBy}
 use Rattle.promises.specs.History.{Tag, State, turned, tagNow, accepted, after, begun, history}
 use Rattle.promises.specs.Told.{plain, plainLeft}

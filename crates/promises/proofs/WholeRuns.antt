@@ -7,7 +7,8 @@ use lib.ListN.{replicate, length, take, drop}
 use Rattle.mesh.specs.Mesh.{fresh, opened, Mesh}
 use Rattle.buffer.specs.Layout.{meshOf}
 use Rattle.buffer.specs.Holding.{holdsMesh}
-use Rattle.trace.specs.Replay.{replayOf, Replays, traceOf, Replay, replaying, replayedOf}
+use Rattle.records.specs.Traces.{traceOf}
+use Rattle.trace.specs.Replay.{replayOf, Replays, Replay, replaying, replayedOf}
 use Rattle.promises.specs.History.{Tag, State, begun, turned, tagNow, after}
 use native.Mathlib.Omega.{arith}
 use lib.Seq.{take-at}

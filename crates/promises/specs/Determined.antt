@@ -34,10 +34,10 @@ use Rattle.fewer.specs.declared.Fewer.{Fewer}
 use Rattle.fewer.specs.Call.{fewerOf, leftAfter, goneAfter}
 use Rattle.tree.specs.declared.Tree.{Tree}
 use Rattle.tree.specs.Call.{treeOf, rowsAfter, startsAfter}
-use Rattle.trace.specs.declared.Call.{Call}
-use Rattle.trace.specs.declared.Written.{Written}
-use Rattle.trace.specs.declared.Record.{Record}
-use Rattle.trace.specs.Records.{writtenOf, writtenOn, recordRead}
+use Rattle.records.specs.declared.Call.{Call}
+use Rattle.records.specs.declared.Written.{Written}
+use Rattle.records.specs.declared.Record.{Record}
+use Rattle.records.specs.Records.{writtenOf, writtenOn, recordRead}
 use Rattle.trace.specs.Replay.{replayRoom}
 use Rattle.trace.specs.Directly.{OneReplay}
 use Rattle.trace.proofs.Directly.{one-replay}

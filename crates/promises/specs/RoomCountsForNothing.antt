@@ -11,7 +11,8 @@ use Rattle.router.specs.Call.{passRefusals, passOf}
 use Rattle.mesh.specs.Mesh.{Mesh}
 use Rattle.mesh.specs.Steps.{Tables, tablesOf}
 use Rattle.mesh.specs.Asked.{Call, change, look, inject, round, setLink, readRegisters, leftBy, answerOf}
-use Rattle.trace.specs.Replay.{Trace, replaying}
+use Rattle.records.specs.Traces.{Trace}
+use Rattle.trace.specs.Replay.{replaying}
 
 abbrev pub withoutRoom : Tables → Tables
 withoutRoom t = tablesOf (t .rows) (t .starts) (t .codes) (t .fixed) 0

@@ -14,10 +14,11 @@ use Rattle.mesh.specs.Steps.{Tables, same}
 use Rattle.buffer.specs.Leaving.{Gives}
 use Rattle.buffer.specs.Opening.{openRefusals, opening}
 use Rattle.flood.specs.Codes.{floodRefusal, flooded}
-use Rattle.trace.specs.declared.Call.{Call as KeptCall}
+use Rattle.records.specs.declared.Call.{Call as KeptCall}
+use Rattle.records.specs.Records.{byKind, packetOf}
+use Rattle.records.specs.Traces.{Trace, over, refused, then, traceOf}
 use Rattle.trace.specs.declared.Replayed.{Replayed}
-use Rattle.trace.specs.Records.{byKind, packetOf}
-use Rattle.trace.specs.Replay.{Trace, over, refused, then, traceOf, making, replaying, replayOf, replayedOf, Replays}
+use Rattle.trace.specs.Replay.{making, replaying, replayOf, replayedOf, Replays}
 use Rattle.mesh.specs.Asked.{Call, inject, round, setLink, readRegisters, change, Answer, ofAdded, ofRefusal, ofRegisters, ofLook, leftBy, answerOf}
 use Rattle.promises.specs.History.{State, turned, tagNow, after, begun}
 use Rattle.promises.specs.Told.{plain}

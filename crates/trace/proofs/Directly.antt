@@ -13,9 +13,10 @@ use Rattle.buffer.specs.Holding.{holdsMesh}
 use Rattle.mesh.specs.Steps.{Tables, same}
 use Rattle.buffer.specs.Leaving.{Moves}
 use Rattle.mesh.specs.Calls.{Left, loggedOn}
-use Rattle.trace.specs.declared.Call.{Call}
+use Rattle.records.specs.declared.Call.{Call}
+use Rattle.records.specs.Traces.{Trace, refused, then}
 use Rattle.trace.specs.declared.Replayed.{Replayed}
-use Rattle.trace.specs.Replay.{Trace, refused, then, madeLeft, Replay, stopped, behind, replaying}
+use Rattle.trace.specs.Replay.{madeLeft, Replay, stopped, behind, replaying}
 use Rattle.trace.specs.Directly.{Made, injected, rounded, changed, emptied, Directly, done, unread, stops, goes, AsDirectly, OneReplay}
 use Rattle.trace.proofs.KeptSizes.{Keeps, keeps-made}
 use Rattle.trace.proofs.MadeCalls.{made-injection, made-round, made-change, made-read}

@@ -1,44 +1,18 @@
 -- One record of a replay: one that is refused, and one whose call is made.
 use mathlib.Core.Path.{_≡_, refl, sym, ap, _∙_, subst}
-use mathlib.Core.Bool.{Bool, true, false, cond}
+use mathlib.Core.Bool.{Bool, cond}
 use mathlib.Core.List.{List, []}
-use Prim.Native.Nat.{ℕ, _+_, _/_, _≤_}
-use lib.Dec.{eqb, lit≤}
-use lib.ListN.{length, getD}
+use Prim.Native.Nat.{ℕ, _/_}
+use lib.ListN.{length}
 use borrow.Author.Tests.{eq-eqb, ne-eqb}
-use Rattle.packet.specs.Refusal.{firstOf}
 use Rattle.mesh.specs.declared.Added.{Added}
 use Rattle.buffer.specs.Layout.{meshOf}
 use Rattle.mesh.specs.Steps.{Tables}
 use Rattle.mesh.specs.Calls.{Left, loggedOn}
 use Rattle.buffer.specs.Leaving.{Leaves, Moves}
-use Rattle.trace.specs.declared.Call.{Call}
-use Rattle.trace.specs.declared.Record.{Record}
-use Rattle.trace.specs.Records.{bodyLength, readRefusals, chipAt, fiveAt, nineAt, callOf, recordRead}
+use Rattle.records.specs.declared.Record.{Record}
+use Rattle.records.specs.Records.{recordRead}
 use Rattle.trace.specs.Replay.{madeLeft, oneLeft, OneDone}
-
--- a packet that is read has at most nine bytes
-pub read-packet : (s : List ℕ) → recordRead s .call .length ≤ 9
-read-packet s = go (eqb (firstOf (readRefusals s)) 0) (eqb (getD s 3 0) 1) (eqb (getD s 3 0) 2) (eqb (getD s 3 0) 3) (eqb (bodyLength s) 13)
-  where
-    go : (a b c d e : Bool)
-        → cond {A = Record} a
-        (record {
-          refusal = 0;
-          length = 2 + bodyLength s;
-          call = cond {A = Call} b
-              (cond {A = Call} e (record { kind = 1; chip = chipAt s; link = 0; up = 0; length = 9; bytes = nineAt s }) (record { kind = 1; chip = chipAt s; link = 0; up = 0; length = 5; bytes = fiveAt s }))
-              (cond {A = Call} c (callOf 2 0 0 0) (cond {A = Call} d (callOf 3 (chipAt s) (getD s 6 0) (getD s 7 0)) (callOf 4 (chipAt s) 0 0)));
-        })
-        (record { refusal = firstOf (readRefusals s); length = 0; call = callOf 0 0 0 0 })
-        .call
-        .length ≤ 9
-    go false b c d e = lit≤ tt
-    go true true c d true = lit≤ tt
-    go true true c d false = lit≤ tt
-    go true false true d e = lit≤ tt
-    go true false false true e = lit≤ tt
-    go true false false false e = lit≤ tt
 
 module _ (t : Tables) (s l log : List ℕ) (r : Record) (read : r ≡ recordRead s) where
   refusal : r .refusal ≡ recordRead s .refusal

@@ -15,8 +15,8 @@ use Rattle.mesh.specs.Mesh.{Mesh}
 use Rattle.mesh.specs.Steps.{Tables, Arrival, Going, setOut, outcomeAt, logOf, setAside, arrivals, passAt, injected, rounded}
 use Rattle.mesh.specs.Weights.{inFlight}
 use Rattle.mesh.specs.Calls.{Left, many, unless, placeIn, withLink, withEmpty, injectRefusals, roundRefusals, linkRefusals, chipRefusals}
-use Rattle.trace.specs.declared.Call.{Call}
-use Rattle.trace.specs.Records.{packetOf}
+use Rattle.records.specs.declared.Call.{Call}
+use Rattle.records.specs.Records.{packetOf}
 use Rattle.trace.specs.Replay.{making}
 
 -- What is kept, of a mesh before and what a call leaves.

@@ -15,10 +15,10 @@ use Rattle.buffer.specs.Holding.{holdsMesh}
 use Rattle.mesh.specs.Steps.{Tables, Going, setOut}
 use Rattle.mesh.specs.Calls.{Left, many, unless, chipRefusals, linkRefusals, withLink, withEmpty, addedOf, loggedOn, registersRead}
 use Rattle.buffer.specs.Leaving.{Leaves, Moves, injectLeft, roundLeft, linkLeft, registersLeft}
-use Rattle.trace.specs.declared.Call.{Call}
-use Rattle.trace.specs.Records.{packetOf}
+use Rattle.records.specs.declared.Call.{Call}
+use Rattle.records.specs.Records.{packetOf}
+use Rattle.records.proofs.ByKind.{by-1, by-2, by-3, by-else}
 use Rattle.trace.specs.Replay.{madeLeft}
-use Rattle.trace.proofs.ByKind.{by-1, by-2, by-3, by-else}
 
 -- ---- refused or not, a call that makes no pass adds no record, and answers its number
 

@@ -12,12 +12,13 @@ use Rattle.buffer.specs.Layout.{meshOf, wordsFor}
 use Rattle.buffer.specs.Holding.{holdsMesh}
 use Rattle.mesh.specs.Steps.{Tables}
 use Rattle.mesh.specs.Calls.{Left, loggedOn}
+use Rattle.records.specs.Records.{recordRead}
+use Rattle.records.specs.Traces.{Trace, traceOf}
+use Rattle.records.proofs.Traces.{read-within, trace-over}
 use Rattle.trace.specs.declared.Replayed.{Replayed}
 use Rattle.trace.specs.declared.replaying.Done.{Done}
-use Rattle.trace.specs.Records.{recordRead}
-use Rattle.trace.specs.Replay.{Trace, traceOf, stopped, behind, replaying, replayOf, Replays, oneLeft, OneDone}
+use Rattle.trace.specs.Replay.{stopped, behind, replaying, replayOf, Replays, oneLeft, OneDone}
 use Rattle.trace.proofs.KeptSizes.{Keeps}
-use Rattle.trace.proofs.Traces.{read-within, trace-over}
 use Rattle.trace.proofs.SoFar.{onward, accepted-record, keeps-one, onward-step, onward-stop, SoFar}
 
 -- a log whose part from k on was lent and came back as w

@@ -7,9 +7,9 @@ use lib.ListN.{length, take, drop, length-drop}
 use Rattle.mesh.specs.Steps.{Tables}
 use Rattle.buffer.specs.Layout.{meshOf}
 use Rattle.buffer.specs.Holding.{holdsMesh}
+use Rattle.records.proofs.Traces.{trace-over}
 use Rattle.trace.specs.declared.replaying.Done.{Done}
 use Rattle.trace.specs.Replay.{roomReplaying, replayRoom, oneLeft, OneDone, oneRoom}
-use Rattle.trace.proofs.Traces.{trace-over}
 use Rattle.trace.proofs.SoFar.{SoFar}
 use Rattle.trace.proofs.Replays.{backIn, part-rest, d, some-left, fine, onward-left}
 use Rattle.trace.proofs.Rooms.{room-step, room-stop, room-refused}

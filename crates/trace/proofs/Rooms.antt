@@ -15,15 +15,16 @@ use Rattle.mesh.specs.Weights.{inFlight}
 use Rattle.mesh.specs.Room.{roomAfterRound}
 use Rattle.mesh.specs.Calls.{Left, many, placeIn, roundRefusals}
 use Rattle.buffer.specs.Leaving.{injectLeft, roundLeft, roundRoom, linkLeft, registersLeft}
-use Rattle.trace.specs.declared.Call.{Call}
-use Rattle.trace.specs.declared.Record.{Record}
-use Rattle.trace.specs.Records.{packetOf, recordRead}
-use Rattle.trace.specs.Replay.{traceOf, madeLeft, Replay, roomMade, roomReplaying, replayRoom, oneLeft, madeRoom, oneRoom}
+use Rattle.records.specs.declared.Call.{Call}
+use Rattle.records.specs.declared.Record.{Record}
+use Rattle.records.specs.Records.{packetOf, recordRead}
+use Rattle.records.specs.Traces.{traceOf}
+use Rattle.records.proofs.ByKind.{by-1, by-2, by-3, by-else}
+use Rattle.records.proofs.Traces.{read-within, trace-over, trace-step, trace-stop}
+use Rattle.trace.specs.Replay.{madeLeft, Replay, roomMade, roomReplaying, replayRoom, oneLeft, madeRoom, oneRoom}
 use Rattle.trace.specs.Stops.{RoomAsItCame}
-use Rattle.trace.proofs.ByKind.{by-1, by-2, by-3, by-else}
 use Rattle.trace.proofs.MadeCalls.{unless-number}
 use Rattle.trace.proofs.SoFar.{accepted-record, onward-step}
-use Rattle.trace.proofs.Traces.{read-within, trace-over, trace-step, trace-stop}
 
 -- ---- a call
 

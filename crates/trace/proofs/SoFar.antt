@@ -14,10 +14,11 @@ use Rattle.buffer.specs.Holding.{holdsMesh}
 use Rattle.mesh.specs.Steps.{Tables, same}
 use Rattle.mesh.specs.Calls.{Left, tablesRefusals, placeIn}
 use Rattle.buffer.specs.Testing.{testedOf}
-use Rattle.trace.specs.Records.{recordRead}
-use Rattle.trace.specs.Replay.{traceOf, madeLeft, Replay, stopped, behind, replaying, replayOf, oneLeft}
+use Rattle.records.specs.Records.{recordRead}
+use Rattle.records.specs.Traces.{traceOf}
+use Rattle.records.proofs.Traces.{trace-step, trace-stop}
+use Rattle.trace.specs.Replay.{madeLeft, Replay, stopped, behind, replaying, replayOf, oneLeft}
 use Rattle.trace.proofs.KeptSizes.{Keeps, keeps-made}
-use Rattle.trace.proofs.Traces.{trace-step, trace-stop}
 use Rattle.links.specs.Offsets.{widthAt, heightAt}
 
 -- What a replay of the bytes s does on a buffer l with so much room, from where it stands.

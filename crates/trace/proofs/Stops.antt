@@ -11,10 +11,11 @@ use borrow.Author.Tests.{eq-eqb, ne-eqb, eqb-true, eqb-false}
 use Rattle.mesh.specs.Mesh.{Mesh}
 use Rattle.mesh.specs.Steps.{Tables, same}
 use Rattle.mesh.specs.Calls.{Left}
-use Rattle.trace.specs.Records.{recordRead}
-use Rattle.trace.specs.Replay.{traceOf, making, Replay, stopped, behind, replaying}
+use Rattle.records.specs.Records.{recordRead}
+use Rattle.records.specs.Traces.{traceOf}
+use Rattle.records.proofs.Traces.{read-within, trace-over, trace-step, trace-stop}
+use Rattle.trace.specs.Replay.{making, Replay, stopped, behind, replaying}
 use Rattle.trace.specs.Stops.{numberAt, StoppedRight, Stops}
-use Rattle.trace.proofs.Traces.{read-within, trace-over, trace-step, trace-stop}
 
 module _ (holds : Bool) (t : Tables) where
   -- a replay that stops before the record at its start

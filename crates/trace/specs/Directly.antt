@@ -11,10 +11,11 @@ use Rattle.buffer.specs.Holding.{holdsMesh}
 use Rattle.mesh.specs.Steps.{Tables}
 use Rattle.mesh.specs.Calls.{registersRead}
 use Rattle.buffer.specs.Leaving.{Leaves, Moves, injectLeft, roundLeft, linkLeft, registersLeft}
-use Rattle.trace.specs.declared.Call.{Call}
+use Rattle.records.specs.declared.Call.{Call}
+use Rattle.records.specs.Records.{packetOf}
+use Rattle.records.specs.Traces.{Trace, over, refused, then, traceOf}
 use Rattle.trace.specs.declared.Replayed.{Replayed}
-use Rattle.trace.specs.Records.{packetOf}
-use Rattle.trace.specs.Replay.{Trace, over, refused, then, traceOf, replayOf, Replays}
+use Rattle.trace.specs.Replay.{replayOf, Replays}
 
 -- One kept call made by itself, by the contract of the call that it is: injection, round, link change, read of registers. The last two are lent no log
 -- and add no record.

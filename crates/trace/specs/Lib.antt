@@ -1,5 +1,3 @@
-pub mod BothWays
 pub mod Directly
-pub mod Records
 pub mod Replay
 pub mod Stops

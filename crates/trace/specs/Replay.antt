@@ -1,5 +1,5 @@
 -- A replay is the calls that its trace keeps, made one after another: what it leaves, and what it answers.
-use Prim.Native.Nat.{ℕ, zero, suc, _+_, _-_, _/_}
+use Prim.Native.Nat.{ℕ, _+_, _-_, _/_}
 use mathlib.Core.Path.{_≡_}
 use mathlib.Core.Bool.{Bool, cond}
 use mathlib.Core.List.{List, [], _++_}
@@ -12,29 +12,11 @@ use Rattle.mesh.specs.Steps.{Tables, same}
 use Rattle.mesh.specs.Room.{roomAfterRound}
 use Rattle.mesh.specs.Calls.{Left, injecting, rounding, linking, emptying, loggedOn}
 use Rattle.buffer.specs.Leaving.{Leaves}
-use Rattle.trace.specs.declared.Call.{Call}
+use Rattle.records.specs.declared.Call.{Call}
+use Rattle.records.specs.Records.{byKind, packetOf, recordRead}
+use Rattle.records.specs.Traces.{Trace, over, refused, then, traceOf}
 use Rattle.trace.specs.declared.Replayed.{Replayed}
 use Rattle.trace.specs.declared.replaying.Done.{Done}
-use Rattle.trace.specs.Records.{byKind, packetOf, recordRead}
-
--- ---- what a trace keeps
-
--- "A trace is a sequence of records": nothing more; a record that is refused, with its number; or a call, the bytes of its record, and what follows.
-pub data Trace : Type 0 where
-  over : Trace
-  refused : ℕ → Trace
-  then : Call → ℕ → Trace → Trace
-
--- The records of some bytes, at most n of them.
-unfoldable pub traceFrom : ℕ → List ℕ → Trace
-traceFrom zero s = over
-traceFrom (suc n) s =
-    let r = recordRead s in
-    cond (eqb (length s) 0) over (cond (eqb (r .refusal) 0) (then (r .call) (r .length) (traceFrom n (drop (r .length) s))) (refused (r .refusal)))
-
--- No record is shorter than a byte.
-abbrev pub traceOf : List ℕ → Trace
-traceOf s = traceFrom (length s) s
 
 -- ---- one call
 

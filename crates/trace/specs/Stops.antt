@@ -7,8 +7,9 @@ use lib.Dec.{eqb}
 use lib.ListN.{length, drop}
 use Rattle.mesh.specs.Mesh.{Mesh}
 use Rattle.mesh.specs.Steps.{Tables, same}
-use Rattle.trace.specs.Records.{recordRead}
-use Rattle.trace.specs.Replay.{traceOf, making, Replay, replaying, replayOf, replayRoom}
+use Rattle.records.specs.Records.{recordRead}
+use Rattle.records.specs.Traces.{traceOf}
+use Rattle.trace.specs.Replay.{making, Replay, replaying, replayOf, replayRoom}
 
 -- What the record at the start of s is refused with, or 0: its own number first, then its call's.
 abbrev pub numberAt : Bool → Tables → Mesh (Unit {0}) → ℕ → List ℕ → ℕ

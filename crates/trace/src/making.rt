@@ -1,11 +1,11 @@
 // Making a kept call on a mesh whose buffer and tables were tested.
-use super::Call;
 use buffer::changing::read_registers_tested;
 use buffer::changing::set_link_tested;
 use buffer::moving::inject_tested;
 use buffer::moving::round_tested;
 use buffer::testing::Tested;
 use mesh::Added;
+use records::Call;
 ghost use mathlib.Core.Path.{_≡_};
 ghost use lib.ListN.{length};
 ghost use Prim.Native.Nat.{_≤_};

@@ -1,9 +1,9 @@
 // Replaying a trace: its calls, one after another, on one mesh with one set of tables, each with the rest of the log.
 use super::Replayed;
 use super::making::make;
-use super::reading::read_record;
 use buffer::testing::Tested;
 use buffer::testing::test;
+use records::reading::read_record;
 ghost use mathlib.Core.Path.{_≡_};
 ghost use lib.ListN.{length};
 ghost use Rattle.mesh.specs.Steps.{tablesOf};

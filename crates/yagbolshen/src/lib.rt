@@ -10,14 +10,14 @@ use mesh::RegistersRead;
 use packet::Fields;
 use packet::FieldsRead;
 use packet::Packed;
+use records::Call;
+use records::Record;
+use records::Written;
 use router::Pass;
 use steps::Setting;
 use tables::Row;
 use tables::RowFound;
-use trace::Call;
-use trace::Record;
 use trace::Replayed;
-use trace::Written;
 use tree::Tree;
 ghost use mathlib.Core.Path.{_≡_};
 ghost use lib.ListN.{length};
@@ -35,7 +35,7 @@ ghost use Rattle.mesh.specs.Calls.{registersRead, countRead, meshRead, linkRead
 ghost use Rattle.buffer.specs.Leaving.{Leaves, Moves, injectLeft, roundLeft, roundRoom, linkLeft, registersLeft};
 ghost use Rattle.tree.specs.Call.{treeOf, rowsAfter, startsAfter};
 ghost use Rattle.fewer.specs.Call.{fewerOf, leftAfter, goneAfter};
-ghost use Rattle.trace.specs.Records.{recordRead, writtenOf, writtenOn};
+ghost use Rattle.records.specs.Records.{recordRead, writtenOf, writtenOn};
 ghost use Rattle.trace.specs.Replay.{replayOf, Replays, replayRoom};
 ghost use Rattle.flood.specs.Codes.{floodRefusal, flooded};
 ghost use Rattle.yagbolshen.specs.Settings.{settingOf};
@@ -217,7 +217,7 @@ pub extern "C" fn yagbolshen_write_record(trace: &mut [u8], call: Call) -> Writt
     ensures { λ r. ⌜ r ≡ writtenOf (length (now (trace .entry))) call ⌝ }
     ensures { λ r. ⌜ now (trace .exit) ≡ writtenOn call (now (trace .entry)) ⌝ }
 {
-    trace::writing::write_record(trace, call)
+    records::writing::write_record(trace, call)
 }
 
 // The record at the start of a trace.
@@ -225,7 +225,7 @@ pub extern "C" fn yagbolshen_write_record(trace: &mut [u8], call: Call) -> Writt
 pub extern "C" fn yagbolshen_read_record(trace: &[u8]) -> Record
     ensures { λ r. ⌜ r ≡ recordRead (now (trace .entry)) ⌝ }
 {
-    trace::reading::read_record(trace)
+    records::reading::read_record(trace)
 }
 
 // Makes the calls that a trace keeps, up to the first refusal.

@@ -2,7 +2,8 @@ use borrow.Author.Needs.{needs}
 use mathlib.Core.Path.{_∙_}
 use lib.ListN.{length}
 use Rattle.mesh.specs.Steps.{tablesOf}
-use Rattle.trace.proofs.DoneRecords.{read-packet, record-refused, record-made}
+use Rattle.records.proofs.ReadRecords.{read-packet}
+use Rattle.trace.proofs.DoneRecords.{record-refused, record-made}
 use Rattle.trace.proofs.Rooms.{room-refused, room-made}
 use Rattle.trace.proofs.replaying.replay_one.Statement.{statement}
 use Rattle.trace.proofs.replaying.replay_one.Tie as tie

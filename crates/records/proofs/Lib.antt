@@ -1,0 +1,9 @@
+pub mod Bodies
+pub mod BothWays
+pub mod ByKind
+pub mod Keepables
+pub mod ReadRecords
+pub mod ReadThenWritten
+pub mod Traces
+pub mod WriteRecords
+pub mod WrittenThenRead

@@ -1,0 +1,3 @@
+pub mod BothWays
+pub mod Records
+pub mod Traces
