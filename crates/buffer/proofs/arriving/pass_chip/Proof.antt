@@ -16,6 +16,12 @@ use borrow.Author.Needs.{needs}
 use Rattle.buffer.proofs.arriving.pass_chip.Statement.{statement}
 use Rattle.buffer.proofs.arriving.pass_chip.Tie as tie
 
+-- the chip's tables, cut out of all that is lent
+cut-here : (s : tie.Start) → goings.Cuts (tablesOf (s .args .rows .now) (s .args .starts .now) (s .args .codes .now) (s .args .fixed .now) 0) (chipsOf (s .args .mesh .now)) (s .args .chip)
+cut-here s =
+    goings.cuts (tablesOf (s .args .rows .now) (s .args .starts .now) (s .args .codes .now) (s .args .fixed .now) 0) (chipsOf (s .args .mesh .now)) (s .args .chip) (s .pre .0 .1 .1) (s .pre .0 .0)
+    (head-range (s .args .mesh .now) (s .pre .0 .1 .0 .due .head) .few)
+
 slice-read-chips : tie.Need-slice-read-chips
 slice-read-chips c = omega (arith, c .before .before .before .before .before .before .before .before .pre .0 .1 .0 .due .long)
 
@@ -26,122 +32,78 @@ chips-requires : tie.Need-chips-requires
 chips-requires c κs = head-size (c .before .before .before .before .before .before .before .before .before .args .mesh .now) (c .before .before .before .before .before .before .before .before .before .pre .0 .1 .0 .due .head)
 
 mul-at : tie.Need-mul-at
-mul-at c =
-    let a = c .before .before .before .before .before .before .before .before .before .before .args in
-    let pre = c .before .before .before .before .before .before .before .before .before .before .pre in
-    let cut = goings.cuts (tablesOf (a .rows .now) (a .starts .now) (a .codes .now) (a .fixed .now) 0) (chipsOf (a .mesh .now)) (a .chip) (pre .0 .1 .1) (pre .0 .0) (head-range (a .mesh .now) (pre .0 .1 .0 .due .head) .few) in
-    rw (c .chips .ensures) (omega (arith, cut .code-small))
+mul-at c = rw (c .chips .ensures) (omega (arith, cut-here (c .before .before .before .before .before .before .before .before .before .before) .code-small))
 
 mul-row-place : tie.Need-mul-row-place
-mul-row-place c =
-    let a = c .before .before .before .before .before .before .before .before .before .before .args in
-    let pre = c .before .before .before .before .before .before .before .before .before .before .pre in
-    let cut = goings.cuts (tablesOf (a .rows .now) (a .starts .now) (a .codes .now) (a .fixed .now) 0) (chipsOf (a .mesh .now)) (a .chip) (pre .0 .1 .1) (pre .0 .0) (head-range (a .mesh .now) (pre .0 .1 .0 .due .head) .few) in
-    omega (arith, cut .small)
+mul-row-place c = omega (arith, cut-here (c .before .before .before .before .before .before .before .before .before .before) .small)
 
 shared-slice-read-row-place : tie.Need-shared-slice-read-row-place
-shared-slice-read-row-place c =
-    let a = c .before .before .before .before .before .before .before .before .before .before .before .args in
-    let pre = c .before .before .before .before .before .before .before .before .before .before .before .pre in
-    let cut = goings.cuts (tablesOf (a .rows .now) (a .starts .now) (a .codes .now) (a .fixed .now) 0) (chipsOf (a .mesh .now)) (a .chip) (pre .0 .1 .1) (pre .0 .0) (head-range (a .mesh .now) (pre .0 .1 .0 .due .head) .few) in
-    omega (arith, cut .start)
+shared-slice-read-row-place c = omega (arith, cut-here (c .before .before .before .before .before .before .before .before .before .before .before) .start)
 
 row-place-requires : tie.Need-row-place-requires
 row-place-requires c κs = search needs
 
 add-row-place : tie.Need-add-row-place
-add-row-place c =
-    let a = c .before .before .before .before .before .before .before .before .before .before .before .before .args in
-    let pre = c .before .before .before .before .before .before .before .before .before .before .before .before .pre in
-    let cut = goings.cuts (tablesOf (a .rows .now) (a .starts .now) (a .codes .now) (a .fixed .now) 0) (chipsOf (a .mesh .now)) (a .chip) (pre .0 .1 .1) (pre .0 .0) (head-range (a .mesh .now) (pre .0 .1 .0 .due .head) .few) in
-    omega (arith, cut .small)
+add-row-place c = omega (arith, cut-here (c .before .before .before .before .before .before .before .before .before .before .before .before) .small)
 
 mul-row-place-2 : tie.Need-mul-row-place-2
-mul-row-place-2 c =
-    let a = c .before .before .before .before .before .before .before .before .before .before .before .before .args in
-    let pre = c .before .before .before .before .before .before .before .before .before .before .before .before .pre in
-    let cut = goings.cuts (tablesOf (a .rows .now) (a .starts .now) (a .codes .now) (a .fixed .now) 0) (chipsOf (a .mesh .now)) (a .chip) (pre .0 .1 .1) (pre .0 .0) (head-range (a .mesh .now) (pre .0 .1 .0 .due .head) .few) in
-    omega (arith, cut .small)
+mul-row-place-2 c = omega (arith, cut-here (c .before .before .before .before .before .before .before .before .before .before .before .before) .small)
 
 shared-slice-read-row-place-2 : tie.Need-shared-slice-read-row-place-2
-shared-slice-read-row-place-2 c =
-    let a = c .before .before .before .before .before .before .before .before .before .before .before .before .before .args in
-    let pre = c .before .before .before .before .before .before .before .before .before .before .before .before .before .pre in
-    let cut = goings.cuts (tablesOf (a .rows .now) (a .starts .now) (a .codes .now) (a .fixed .now) 0) (chipsOf (a .mesh .now)) (a .chip) (pre .0 .1 .1) (pre .0 .0) (head-range (a .mesh .now) (pre .0 .1 .0 .due .head) .few) in
-    cut .start
+shared-slice-read-row-place-2 c = cut-here (c .before .before .before .before .before .before .before .before .before .before .before .before .before) .start
 
 row-place-requires-2 : tie.Need-row-place-requires-2
 row-place-requires-2 c κs = search needs
 
 mul-group-chip : tie.Need-mul-group-chip
 mul-group-chip c =
-    let a = c .before .before .before .before .before .before .before .before .before .before .before .before .before .before .before .args in
-    let pre = c .before .before .before .before .before .before .before .before .before .before .before .before .before .before .before .pre in
-    let cut = goings.cuts (tablesOf (a .rows .now) (a .starts .now) (a .codes .now) (a .fixed .now) 0) (chipsOf (a .mesh .now)) (a .chip) (pre .0 .1 .1) (pre .0 .0) (head-range (a .mesh .now) (pre .0 .1 .0 .due .head) .few) in
+    let cut = cut-here (c .before .before .before .before .before .before .before .before .before .before .before .before .before .before .before) in
     omega (arith, c .before .before .before .row-place .ensures, c .before .row-place2 .ensures, cut .row-below, cut .row-end)
 
 sub-group-chip : tie.Need-sub-group-chip
 sub-group-chip c =
-    let a = c .before .before .before .before .before .before .before .before .before .before .before .before .before .before .before .args in
-    let pre = c .before .before .before .before .before .before .before .before .before .before .before .before .before .before .before .pre in
-    let cut = goings.cuts (tablesOf (a .rows .now) (a .starts .now) (a .codes .now) (a .fixed .now) 0) (chipsOf (a .mesh .now)) (a .chip) (pre .0 .1 .1) (pre .0 .0) (head-range (a .mesh .now) (pre .0 .1 .0 .due .head) .few) in
+    let cut = cut-here (c .before .before .before .before .before .before .before .before .before .before .before .before .before .before .before) in
     omega (arith, c .before .before .before .row-place .ensures, c .before .row-place2 .ensures, cut .row-below, cut .row-end)
 
 part-group-chip-start : tie.Need-part-group-chip-start
 part-group-chip-start c =
-    let a = c .before .before .before .before .before .before .before .before .before .before .before .before .before .before .before .args in
-    let pre = c .before .before .before .before .before .before .before .before .before .before .before .before .before .before .before .pre in
-    let cut = goings.cuts (tablesOf (a .rows .now) (a .starts .now) (a .codes .now) (a .fixed .now) 0) (chipsOf (a .mesh .now)) (a .chip) (pre .0 .1 .1) (pre .0 .0) (head-range (a .mesh .now) (pre .0 .1 .0 .due .head) .few) in
+    let cut = cut-here (c .before .before .before .before .before .before .before .before .before .before .before .before .before .before .before) in
     omega (arith, c .before .before .before .row-place .ensures, c .before .row-place2 .ensures, cut .row-below, cut .row-end)
 
 part-group-chip-end : tie.Need-part-group-chip-end
 part-group-chip-end c =
-    let a = c .before .before .before .before .before .before .before .before .before .before .before .before .before .before .before .args in
-    let pre = c .before .before .before .before .before .before .before .before .before .before .before .before .before .before .before .pre in
-    let cut = goings.cuts (tablesOf (a .rows .now) (a .starts .now) (a .codes .now) (a .fixed .now) 0) (chipsOf (a .mesh .now)) (a .chip) (pre .0 .1 .1) (pre .0 .0) (head-range (a .mesh .now) (pre .0 .1 .0 .due .head) .few) in
+    let cut = cut-here (c .before .before .before .before .before .before .before .before .before .before .before .before .before .before .before) in
     omega (arith, c .before .before .before .row-place .ensures, c .before .row-place2 .ensures, cut .row-below, cut .row-end)
 
 group-chip-requires : tie.Need-group-chip-requires
 group-chip-requires c κs =
     let a = c .before .before .before .before .before .before .before .before .before .before .before .before .before .before .before .before .before .args in
     let pre = c .before .before .before .before .before .before .before .before .before .before .before .before .before .before .before .before .before .pre in
-    let cut = goings.cuts (tablesOf (a .rows .now) (a .starts .now) (a .codes .now) (a .fixed .now) 0) (chipsOf (a .mesh .now)) (a .chip) (pre .0 .1 .1) (pre .0 .0) (head-range (a .mesh .now) (pre .0 .1 .0 .due .head) .few) in
+    let cut = cut-here (c .before .before .before .before .before .before .before .before .before .before .before .before .before .before .before .before .before) in
     (chip-there (a .chip) _ (a .mesh .now) (a .log .now) (a .n) (pre .0 .0) (pre .0 .1 .0), fits-cut (tablesOf (a .rows .now) (a .starts .now) (a .codes .now) (a .fixed .now) 0) (chipsOf (a .mesh .now)) (a .chip) _ _ cut (c .before .before .before .before .before .row-place .ensures) (c .before .before .before .row-place2 .ensures) (length (a .room .now)) (pre .1))
 
 mul-pass-links : tie.Need-mul-pass-links
 mul-pass-links c =
-    let a = c .before .before .before .before .before .before .before .before .before .before .before .before .before .before .before .before .before .before .before .before .before .before .args in
-    let pre = c .before .before .before .before .before .before .before .before .before .before .before .before .before .before .before .before .before .before .before .before .before .before .pre in
-    let cut = goings.cuts (tablesOf (a .rows .now) (a .starts .now) (a .codes .now) (a .fixed .now) 0) (chipsOf (a .mesh .now)) (a .chip) (pre .0 .1 .1) (pre .0 .0) (head-range (a .mesh .now) (pre .0 .1 .0 .due .head) .few) in
+    let cut = cut-here (c .before .before .before .before .before .before .before .before .before .before .before .before .before .before .before .before .before .before .before .before .before .before) in
     omega (arith, c .before .before .before .before .before .before .before .before .before .before .row-place .ensures, c .before .before .before .before .before .before .before .before .row-place2 .ensures, cut .row-below, cut .row-end, c .before .before .before .before .before .before .before .before .before .before .before .before .before .before .before .before .before .before .before .before .before .before .good .1 .1 .1 .1 .0)
 
 sub-pass-links : tie.Need-sub-pass-links
 sub-pass-links c =
-    let a = c .before .before .before .before .before .before .before .before .before .before .before .before .before .before .before .before .before .before .before .before .before .before .args in
-    let pre = c .before .before .before .before .before .before .before .before .before .before .before .before .before .before .before .before .before .before .before .before .before .before .pre in
-    let cut = goings.cuts (tablesOf (a .rows .now) (a .starts .now) (a .codes .now) (a .fixed .now) 0) (chipsOf (a .mesh .now)) (a .chip) (pre .0 .1 .1) (pre .0 .0) (head-range (a .mesh .now) (pre .0 .1 .0 .due .head) .few) in
+    let cut = cut-here (c .before .before .before .before .before .before .before .before .before .before .before .before .before .before .before .before .before .before .before .before .before .before) in
     omega (arith, c .before .before .before .before .before .before .before .before .before .before .row-place .ensures, c .before .before .before .before .before .before .before .before .row-place2 .ensures, cut .row-below, cut .row-end)
 
 part-pass-links-start : tie.Need-part-pass-links-start
 part-pass-links-start c =
-    let a = c .before .before .before .before .before .before .before .before .before .before .before .before .before .before .before .before .before .before .before .before .before .before .args in
-    let pre = c .before .before .before .before .before .before .before .before .before .before .before .before .before .before .before .before .before .before .before .before .before .before .pre in
-    let cut = goings.cuts (tablesOf (a .rows .now) (a .starts .now) (a .codes .now) (a .fixed .now) 0) (chipsOf (a .mesh .now)) (a .chip) (pre .0 .1 .1) (pre .0 .0) (head-range (a .mesh .now) (pre .0 .1 .0 .due .head) .few) in
+    let cut = cut-here (c .before .before .before .before .before .before .before .before .before .before .before .before .before .before .before .before .before .before .before .before .before .before) in
     omega (arith, c .before .before .before .before .before .before .before .before .before .before .row-place .ensures, c .before .before .before .before .before .before .before .before .row-place2 .ensures, cut .row-below, cut .row-end)
 
 part-pass-links-end : tie.Need-part-pass-links-end
 part-pass-links-end c =
-    let a = c .before .before .before .before .before .before .before .before .before .before .before .before .before .before .before .before .before .before .before .before .before .before .args in
-    let pre = c .before .before .before .before .before .before .before .before .before .before .before .before .before .before .before .before .before .before .before .before .before .before .pre in
-    let cut = goings.cuts (tablesOf (a .rows .now) (a .starts .now) (a .codes .now) (a .fixed .now) 0) (chipsOf (a .mesh .now)) (a .chip) (pre .0 .1 .1) (pre .0 .0) (head-range (a .mesh .now) (pre .0 .1 .0 .due .head) .few) in
+    let cut = cut-here (c .before .before .before .before .before .before .before .before .before .before .before .before .before .before .before .before .before .before .before .before .before .before) in
     omega (arith, c .before .before .before .before .before .before .before .before .before .before .row-place .ensures, c .before .before .before .before .before .before .before .before .row-place2 .ensures, cut .row-below, cut .row-end)
 
 add-pass-links : tie.Need-add-pass-links
-add-pass-links c =
-    let a = c .before .before .before .before .before .before .before .before .before .before .before .before .before .before .before .before .before .before .before .before .before .before .before .args in
-    let pre = c .before .before .before .before .before .before .before .before .before .before .before .before .before .before .before .before .before .before .before .before .before .before .before .pre in
-    let cut = goings.cuts (tablesOf (a .rows .now) (a .starts .now) (a .codes .now) (a .fixed .now) 0) (chipsOf (a .mesh .now)) (a .chip) (pre .0 .1 .1) (pre .0 .0) (head-range (a .mesh .now) (pre .0 .1 .0 .due .head) .few) in
-    rw (c .before .before .before .before .before .before .before .before .before .before .before .before .before .chips .ensures) (omega (arith, cut .code-small))
+add-pass-links c = rw (c .before .before .before .before .before .before .before .before .before .before .before .before .before .chips .ensures) (omega (arith, cut-here (c .before .before .before .before .before .before .before .before .before .before .before .before .before .before .before .before .before .before .before .before .before .before .before) .code-small))
 
 sub-pass-links-2 : tie.Need-sub-pass-links-2
 sub-pass-links-2 c = search needs
@@ -150,25 +112,13 @@ part-pass-links-start-2 : tie.Need-part-pass-links-start-2
 part-pass-links-start-2 c = search needs
 
 part-pass-links-end-2 : tie.Need-part-pass-links-end-2
-part-pass-links-end-2 c =
-    let a = c .before .before .before .before .before .before .before .before .before .before .before .before .before .before .before .before .before .before .before .before .before .before .before .args in
-    let pre = c .before .before .before .before .before .before .before .before .before .before .before .before .before .before .before .before .before .before .before .before .before .before .before .pre in
-    let cut = goings.cuts (tablesOf (a .rows .now) (a .starts .now) (a .codes .now) (a .fixed .now) 0) (chipsOf (a .mesh .now)) (a .chip) (pre .0 .1 .1) (pre .0 .0) (head-range (a .mesh .now) (pre .0 .1 .0 .due .head) .few) in
-    rw (c .before .before .before .before .before .before .before .before .before .before .before .before .before .chips .ensures) (omega (arith, cut .code-end))
+part-pass-links-end-2 c = rw (c .before .before .before .before .before .before .before .before .before .before .before .before .before .chips .ensures) (omega (arith, cut-here (c .before .before .before .before .before .before .before .before .before .before .before .before .before .before .before .before .before .before .before .before .before .before .before) .code-end))
 
 mul-pass-links-2 : tie.Need-mul-pass-links-2
-mul-pass-links-2 c =
-    let a = c .before .before .before .before .before .before .before .before .before .before .before .before .before .before .before .before .before .before .before .before .before .before .before .before .args in
-    let pre = c .before .before .before .before .before .before .before .before .before .before .before .before .before .before .before .before .before .before .before .before .before .before .before .before .pre in
-    let cut = goings.cuts (tablesOf (a .rows .now) (a .starts .now) (a .codes .now) (a .fixed .now) 0) (chipsOf (a .mesh .now)) (a .chip) (pre .0 .1 .1) (pre .0 .0) (head-range (a .mesh .now) (pre .0 .1 .0 .due .head) .few) in
-    omega (arith, cut .small)
+mul-pass-links-2 c = omega (arith, cut-here (c .before .before .before .before .before .before .before .before .before .before .before .before .before .before .before .before .before .before .before .before .before .before .before .before) .small)
 
 shared-slice-read-pass-links : tie.Need-shared-slice-read-pass-links
-shared-slice-read-pass-links c =
-    let a = c .before .before .before .before .before .before .before .before .before .before .before .before .before .before .before .before .before .before .before .before .before .before .before .before .before .args in
-    let pre = c .before .before .before .before .before .before .before .before .before .before .before .before .before .before .before .before .before .before .before .before .before .before .before .before .before .pre in
-    let cut = goings.cuts (tablesOf (a .rows .now) (a .starts .now) (a .codes .now) (a .fixed .now) 0) (chipsOf (a .mesh .now)) (a .chip) (pre .0 .1 .1) (pre .0 .0) (head-range (a .mesh .now) (pre .0 .1 .0 .due .head) .few) in
-    cut .fixed
+shared-slice-read-pass-links c = cut-here (c .before .before .before .before .before .before .before .before .before .before .before .before .before .before .before .before .before .before .before .before .before .before .before .before .before) .fixed
 
 slice-reshare-prefix-pass-links : tie.Need-slice-reshare-prefix-pass-links
 slice-reshare-prefix-pass-links c = search needs
@@ -180,7 +130,7 @@ pass-links-requires : tie.Need-pass-links-requires
 pass-links-requires c κs =
     let a = c .before .before .before .before .before .before .before .before .before .before .before .before .before .before .before .before .before .before .before .before .before .before .before .before .before .before .args in
     let pre = c .before .before .before .before .before .before .before .before .before .before .before .before .before .before .before .before .before .before .before .before .before .before .before .before .before .before .pre in
-    let cut = goings.cuts (tablesOf (a .rows .now) (a .starts .now) (a .codes .now) (a .fixed .now) 0) (chipsOf (a .mesh .now)) (a .chip) (pre .0 .1 .1) (pre .0 .0) (head-range (a .mesh .now) (pre .0 .1 .0 .due .head) .few) in
+    let cut = cut-here (c .before .before .before .before .before .before .before .before .before .before .before .before .before .before .before .before .before .before .before .before .before .before .before .before .before .before) in
     (pre .0 .0, (pre .0 .1 .0, (goings.codes-enough (tablesOf (a .rows .now) (a .starts .now) (a .codes .now) (a .fixed .now) 0) (chipsOf (a .mesh .now)) (a .chip) (pre .0 .1 .1) (pre .0 .0) _ (c .before .before .before .before .before .before .before .before .before .before .before .before .before .before .before .before .chips .ensures), c .before .before .before .before .before .before .before .before .group-chip .ensures .1 .0)))
 
 same-length : tie.Need-same-length

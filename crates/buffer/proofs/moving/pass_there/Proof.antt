@@ -13,6 +13,12 @@ use borrow.Author.Needs.{needs}
 use Rattle.buffer.proofs.moving.pass_there.Statement.{statement}
 use Rattle.buffer.proofs.moving.pass_there.Tie as tie
 
+-- the chip's tables, cut out of all that is lent
+cut-here : (s : tie.Start) → goings.Cuts (tablesOf (s .args .rows .now) (s .args .starts .now) (s .args .codes .now) (s .args .fixed .now) 0) (chipsOf (s .args .mesh .now)) (s .args .chip)
+cut-here s =
+    goings.cuts (tablesOf (s .args .rows .now) (s .args .starts .now) (s .args .codes .now) (s .args .fixed .now) 0) (chipsOf (s .args .mesh .now)) (s .args .chip) (s .pre .1) (goings.arrives _ _ _ _ (s .pre .0) .there)
+    (head-range (s .args .mesh .now) (s .pre .0 .head) .few)
+
 slice-read-chips : tie.Need-slice-read-chips
 slice-read-chips c = omega (arith, c .before .before .before .before .before .before .before .pre .0 .long)
 
@@ -23,98 +29,51 @@ chips-requires : tie.Need-chips-requires
 chips-requires c κs = head-size (c .before .before .before .before .before .before .before .before .args .mesh .now) (c .before .before .before .before .before .before .before .before .pre .0 .head)
 
 mul-at : tie.Need-mul-at
-mul-at c =
-    let a = c .before .before .before .before .before .before .before .before .before .args in
-    let pre = c .before .before .before .before .before .before .before .before .before .pre in
-    let below = goings.arrives _ _ _ _ (pre .0) .there in
-    let cut = goings.cuts (tablesOf (a .rows .now) (a .starts .now) (a .codes .now) (a .fixed .now) 0) (chipsOf (a .mesh .now)) (a .chip) (pre .1) below (head-range (a .mesh .now) (pre .0 .head) .few) in
-    rw (c .chips .ensures) (omega (arith, cut .code-small))
+mul-at c = rw (c .chips .ensures) (omega (arith, cut-here (c .before .before .before .before .before .before .before .before .before) .code-small))
 
 mul-row-place : tie.Need-mul-row-place
-mul-row-place c =
-    let a = c .before .before .before .before .before .before .before .before .before .args in
-    let pre = c .before .before .before .before .before .before .before .before .before .pre in
-    let below = goings.arrives _ _ _ _ (pre .0) .there in
-    let cut = goings.cuts (tablesOf (a .rows .now) (a .starts .now) (a .codes .now) (a .fixed .now) 0) (chipsOf (a .mesh .now)) (a .chip) (pre .1) below (head-range (a .mesh .now) (pre .0 .head) .few) in
-    omega (arith, cut .small)
+mul-row-place c = omega (arith, cut-here (c .before .before .before .before .before .before .before .before .before) .small)
 
 shared-slice-read-row-place : tie.Need-shared-slice-read-row-place
-shared-slice-read-row-place c =
-    let a = c .before .before .before .before .before .before .before .before .before .before .args in
-    let pre = c .before .before .before .before .before .before .before .before .before .before .pre in
-    let below = goings.arrives _ _ _ _ (pre .0) .there in
-    let cut = goings.cuts (tablesOf (a .rows .now) (a .starts .now) (a .codes .now) (a .fixed .now) 0) (chipsOf (a .mesh .now)) (a .chip) (pre .1) below (head-range (a .mesh .now) (pre .0 .head) .few) in
-    omega (arith, cut .start)
+shared-slice-read-row-place c = omega (arith, cut-here (c .before .before .before .before .before .before .before .before .before .before) .start)
 
 row-place-requires : tie.Need-row-place-requires
 row-place-requires c κs = search needs
 
 add-row-place : tie.Need-add-row-place
-add-row-place c =
-    let a = c .before .before .before .before .before .before .before .before .before .before .before .args in
-    let pre = c .before .before .before .before .before .before .before .before .before .before .before .pre in
-    let below = goings.arrives _ _ _ _ (pre .0) .there in
-    let cut = goings.cuts (tablesOf (a .rows .now) (a .starts .now) (a .codes .now) (a .fixed .now) 0) (chipsOf (a .mesh .now)) (a .chip) (pre .1) below (head-range (a .mesh .now) (pre .0 .head) .few) in
-    omega (arith, cut .small)
+add-row-place c = omega (arith, cut-here (c .before .before .before .before .before .before .before .before .before .before .before) .small)
 
 mul-row-place-2 : tie.Need-mul-row-place-2
-mul-row-place-2 c =
-    let a = c .before .before .before .before .before .before .before .before .before .before .before .args in
-    let pre = c .before .before .before .before .before .before .before .before .before .before .before .pre in
-    let below = goings.arrives _ _ _ _ (pre .0) .there in
-    let cut = goings.cuts (tablesOf (a .rows .now) (a .starts .now) (a .codes .now) (a .fixed .now) 0) (chipsOf (a .mesh .now)) (a .chip) (pre .1) below (head-range (a .mesh .now) (pre .0 .head) .few) in
-    omega (arith, cut .small)
+mul-row-place-2 c = omega (arith, cut-here (c .before .before .before .before .before .before .before .before .before .before .before) .small)
 
 shared-slice-read-row-place-2 : tie.Need-shared-slice-read-row-place-2
-shared-slice-read-row-place-2 c =
-    let a = c .before .before .before .before .before .before .before .before .before .before .before .before .args in
-    let pre = c .before .before .before .before .before .before .before .before .before .before .before .before .pre in
-    let below = goings.arrives _ _ _ _ (pre .0) .there in
-    let cut = goings.cuts (tablesOf (a .rows .now) (a .starts .now) (a .codes .now) (a .fixed .now) 0) (chipsOf (a .mesh .now)) (a .chip) (pre .1) below (head-range (a .mesh .now) (pre .0 .head) .few) in
-    cut .start
+shared-slice-read-row-place-2 c = cut-here (c .before .before .before .before .before .before .before .before .before .before .before .before) .start
 
 row-place-requires-2 : tie.Need-row-place-requires-2
 row-place-requires-2 c κs = search needs
 
 mul-pass-one : tie.Need-mul-pass-one
 mul-pass-one c =
-    let a = c .before .before .before .before .before .before .before .before .before .before .before .before .before .before .before .args in
-    let pre = c .before .before .before .before .before .before .before .before .before .before .before .before .before .before .before .pre in
-    let below = goings.arrives _ _ _ _ (pre .0) .there in
-    let cut = goings.cuts (tablesOf (a .rows .now) (a .starts .now) (a .codes .now) (a .fixed .now) 0) (chipsOf (a .mesh .now)) (a .chip) (pre .1) below (head-range (a .mesh .now) (pre .0 .head) .few) in
+    let cut = cut-here (c .before .before .before .before .before .before .before .before .before .before .before .before .before .before .before) in
     omega (arith, c .before .before .before .before .row-place .ensures, c .before .before .row-place2 .ensures, cut .row-below, cut .row-end)
 
 sub-pass-one : tie.Need-sub-pass-one
 sub-pass-one c =
-    let a = c .before .before .before .before .before .before .before .before .before .before .before .before .before .before .before .args in
-    let pre = c .before .before .before .before .before .before .before .before .before .before .before .before .before .before .before .pre in
-    let below = goings.arrives _ _ _ _ (pre .0) .there in
-    let cut = goings.cuts (tablesOf (a .rows .now) (a .starts .now) (a .codes .now) (a .fixed .now) 0) (chipsOf (a .mesh .now)) (a .chip) (pre .1) below (head-range (a .mesh .now) (pre .0 .head) .few) in
+    let cut = cut-here (c .before .before .before .before .before .before .before .before .before .before .before .before .before .before .before) in
     omega (arith, c .before .before .before .before .row-place .ensures, c .before .before .row-place2 .ensures, cut .row-below, cut .row-end)
 
 part-pass-one-start : tie.Need-part-pass-one-start
 part-pass-one-start c =
-    let a = c .before .before .before .before .before .before .before .before .before .before .before .before .before .before .before .args in
-    let pre = c .before .before .before .before .before .before .before .before .before .before .before .before .before .before .before .pre in
-    let below = goings.arrives _ _ _ _ (pre .0) .there in
-    let cut = goings.cuts (tablesOf (a .rows .now) (a .starts .now) (a .codes .now) (a .fixed .now) 0) (chipsOf (a .mesh .now)) (a .chip) (pre .1) below (head-range (a .mesh .now) (pre .0 .head) .few) in
+    let cut = cut-here (c .before .before .before .before .before .before .before .before .before .before .before .before .before .before .before) in
     omega (arith, c .before .before .before .before .row-place .ensures, c .before .before .row-place2 .ensures, cut .row-below, cut .row-end)
 
 part-pass-one-end : tie.Need-part-pass-one-end
 part-pass-one-end c =
-    let a = c .before .before .before .before .before .before .before .before .before .before .before .before .before .before .before .args in
-    let pre = c .before .before .before .before .before .before .before .before .before .before .before .before .before .before .before .pre in
-    let below = goings.arrives _ _ _ _ (pre .0) .there in
-    let cut = goings.cuts (tablesOf (a .rows .now) (a .starts .now) (a .codes .now) (a .fixed .now) 0) (chipsOf (a .mesh .now)) (a .chip) (pre .1) below (head-range (a .mesh .now) (pre .0 .head) .few) in
+    let cut = cut-here (c .before .before .before .before .before .before .before .before .before .before .before .before .before .before .before) in
     omega (arith, c .before .before .before .before .row-place .ensures, c .before .before .row-place2 .ensures, cut .row-below, cut .row-end)
 
 add-pass-one : tie.Need-add-pass-one
-add-pass-one c =
-    let a = c .before .before .before .before .before .before .before .before .before .before .before .before .before .before .before .before .args in
-    let pre = c .before .before .before .before .before .before .before .before .before .before .before .before .before .before .before .before .pre in
-    let below = goings.arrives _ _ _ _ (pre .0) .there in
-    let cut = goings.cuts (tablesOf (a .rows .now) (a .starts .now) (a .codes .now) (a .fixed .now) 0) (chipsOf (a .mesh .now)) (a .chip) (pre .1) below (head-range (a .mesh .now) (pre .0 .head) .few) in
-    rw (c .before .before .before .before .before .before .before .chips .ensures) (omega (arith, cut .code-small))
+add-pass-one c = rw (c .before .before .before .before .before .before .before .chips .ensures) (omega (arith, cut-here (c .before .before .before .before .before .before .before .before .before .before .before .before .before .before .before .before) .code-small))
 
 sub-pass-one-2 : tie.Need-sub-pass-one-2
 sub-pass-one-2 c = search needs
@@ -123,35 +82,20 @@ part-pass-one-start-2 : tie.Need-part-pass-one-start-2
 part-pass-one-start-2 c = search needs
 
 part-pass-one-end-2 : tie.Need-part-pass-one-end-2
-part-pass-one-end-2 c =
-    let a = c .before .before .before .before .before .before .before .before .before .before .before .before .before .before .before .before .args in
-    let pre = c .before .before .before .before .before .before .before .before .before .before .before .before .before .before .before .before .pre in
-    let below = goings.arrives _ _ _ _ (pre .0) .there in
-    let cut = goings.cuts (tablesOf (a .rows .now) (a .starts .now) (a .codes .now) (a .fixed .now) 0) (chipsOf (a .mesh .now)) (a .chip) (pre .1) below (head-range (a .mesh .now) (pre .0 .head) .few) in
-    rw (c .before .before .before .before .before .before .before .chips .ensures) (omega (arith, cut .code-end))
+part-pass-one-end-2 c = rw (c .before .before .before .before .before .before .before .chips .ensures) (omega (arith, cut-here (c .before .before .before .before .before .before .before .before .before .before .before .before .before .before .before .before) .code-end))
 
 mul-pass-one-2 : tie.Need-mul-pass-one-2
-mul-pass-one-2 c =
-    let a = c .before .before .before .before .before .before .before .before .before .before .before .before .before .before .before .before .before .args in
-    let pre = c .before .before .before .before .before .before .before .before .before .before .before .before .before .before .before .before .before .pre in
-    let below = goings.arrives _ _ _ _ (pre .0) .there in
-    let cut = goings.cuts (tablesOf (a .rows .now) (a .starts .now) (a .codes .now) (a .fixed .now) 0) (chipsOf (a .mesh .now)) (a .chip) (pre .1) below (head-range (a .mesh .now) (pre .0 .head) .few) in
-    omega (arith, cut .small)
+mul-pass-one-2 c = omega (arith, cut-here (c .before .before .before .before .before .before .before .before .before .before .before .before .before .before .before .before .before) .small)
 
 shared-slice-read-pass-one : tie.Need-shared-slice-read-pass-one
-shared-slice-read-pass-one c =
-    let a = c .before .before .before .before .before .before .before .before .before .before .before .before .before .before .before .before .before .before .args in
-    let pre = c .before .before .before .before .before .before .before .before .before .before .before .before .before .before .before .before .before .before .pre in
-    let below = goings.arrives _ _ _ _ (pre .0) .there in
-    let cut = goings.cuts (tablesOf (a .rows .now) (a .starts .now) (a .codes .now) (a .fixed .now) 0) (chipsOf (a .mesh .now)) (a .chip) (pre .1) below (head-range (a .mesh .now) (pre .0 .head) .few) in
-    cut .fixed
+shared-slice-read-pass-one c = cut-here (c .before .before .before .before .before .before .before .before .before .before .before .before .before .before .before .before .before .before) .fixed
 
 pass-one-requires : tie.Need-pass-one-requires
 pass-one-requires c κs =
     let a = c .before .before .before .before .before .before .before .before .before .before .before .before .before .before .before .before .before .before .args in
     let pre = c .before .before .before .before .before .before .before .before .before .before .before .before .before .before .before .before .before .before .pre in
     let below = goings.arrives _ _ _ _ (pre .0) .there in
-    let cut = goings.cuts (tablesOf (a .rows .now) (a .starts .now) (a .codes .now) (a .fixed .now) 0) (chipsOf (a .mesh .now)) (a .chip) (pre .1) below (head-range (a .mesh .now) (pre .0 .head) .few) in
+    let cut = cut-here (c .before .before .before .before .before .before .before .before .before .before .before .before .before .before .before .before .before .before) in
     (pre .0, goings.codes-enough (tablesOf (a .rows .now) (a .starts .now) (a .codes .now) (a .fixed .now) 0) (chipsOf (a .mesh .now)) (a .chip) (pre .1) below _ (c .before .before .before .before .before .before .before .before .before .chips .ensures))
 
 same-length : tie.Need-same-length
@@ -166,7 +110,7 @@ returns c =
     let a = c .before .before .before .before .before .before .before .before .before .before .before .before .before .before .before .before .before .before .before .before .before .before .before .args in
     let pre = c .before .before .before .before .before .before .before .before .before .before .before .before .before .before .before .before .before .before .before .before .before .before .before .pre in
     let below = goings.arrives _ _ _ _ (pre .0) .there in
-    let cut = goings.cuts (tablesOf (a .rows .now) (a .starts .now) (a .codes .now) (a .fixed .now) 0) (chipsOf (a .mesh .now)) (a .chip) (pre .1) below (head-range (a .mesh .now) (pre .0 .head) .few) in
+    let cut = cut-here (c .before .before .before .before .before .before .before .before .before .before .before .before .before .before .before .before .before .before .before .before .before .before .before) in
     goings.passed-chip (tablesOf (a .rows .now) (a .starts .now) (a .codes .now) (a .fixed .now) 0) _ (a .chip) (arrival (a .chip) 7 (a .p) ∷ []) (a .mesh .now) (a .log .now) 0 _ _ _ (refl, tt) (goings.tables-places (tablesOf (a .rows .now) (a .starts .now) (a .codes .now) (a .fixed .now) 0) (chipsOf (a .mesh .now)) (a .chip) (pre .1) below _ _ _ (c .before .before .before .before .before .before .before .before .before .before .before .before .row-place .ensures) (c .before .before .before .before .before .before .before .before .before .before .row-place2 .ensures) (c .before .before .before .before .before .before .before .before .before .before .before .before .before .before .chips .ensures)) (c .before .before .before .before .pass-one .ensures)
 
 pub pass-there-spec : {M : Type 1} → statement M
