@@ -118,7 +118,7 @@ fn keep(words: &mut [u32], o: Outcome)
 
 // Counts a pass in the ten words of the counters.
 fn count(words: &mut [u32], o: Outcome)
-    requires { ⌜ length (now words) ≡ countersLong ⌝ }
+    requires { ⌜ (length (now words) ≡ countersLong) × (o .sent < 64) ⌝ }
     ensures { λ _. ⌜ now (words .exit) ≡ countedOf (record { count = now (words .entry) }) o .count ⌝ }
 {
     if only_sends(o) {
@@ -134,7 +134,7 @@ fn count(words: &mut [u32], o: Outcome)
 }
 
 fn count_all(words: &mut [u32], o: Outcome)
-    requires { ⌜ length (now words) ≡ countersLong ⌝ }
+    requires { ⌜ (length (now words) ≡ countersLong) × (o .sent < 64) ⌝ }
     ensures { λ _. ⌜ now (words .exit) ≡ countedOf (record { count = now (words .entry) }) o .count ⌝ }
 {
     let c = Counters {

@@ -8,10 +8,13 @@ use steps::Outcome;
 use steps::errors::flag_of;
 ghost use mathlib.Core.Path.{_≡_};
 ghost use mathlib.Core.Bool.{true};
+ghost use Prim.Native.Nat.{_<_};
+ghost use lib.Count.{ones};
 ghost use Rattle.kept.specs.Counting.{delivered, swallows, swallowed, sentCount, countsOf, onlySent, countedOf, zeros};
 
 // The counters after a pass.
 pub fn counted_of(c: Counters, o: Outcome) -> Counters
+    requires { ⌜ o .sent < 64 ⌝ }
     ensures { λ r. ⌜ r ≡ countedOf c o ⌝ }
 {
     let e = o.errors;
@@ -45,12 +48,24 @@ pub fn only_sends(o: Outcome) -> bool
 }
 
 pub fn sent_count(o: Outcome) -> u32
+    requires { ⌜ o .sent < 64 ⌝ }
     ensures { λ n. ⌜ n ≡ sentCount o ⌝ }
 {
+    let sent = links_in(o.sent);
     if o.leg_sent == 0 {
-        return u32::count_ones(o.sent);
+        return sent;
     }
-    u32::count_ones(o.sent) + u32::count_ones(o.leg_sent)
+    sent + u32::count_ones(o.leg_sent)
+}
+
+// How many of six links a set has. Its bits are set apart, three places or more between them, and a product adds them up in the bits
+// from 21 on: a third of what counting the ones of 32 bits takes.
+fn links_in(set: u32) -> u32
+    requires { ⌜ set < 64 ⌝ }
+    ensures { λ n. ⌜ n ≡ ones set ⌝ }
+{
+    let apart = (set as u64 * 65793) & 2363913;
+    ((apart * 2363913 >> 21) % 8) as u32
 }
 
 fn delivered_count(o: Outcome) -> u32
@@ -68,6 +83,9 @@ fn delivered_count(o: Outcome) -> u32
 fn swallowed_count(o: Outcome) -> u32
     ensures { λ n. ⌜ n ≡ swallowed o ⌝ }
 {
+    if o.wanted != 0 {
+        return 0;
+    }
     flag_of(swallows_pass(o), 1)
 }
 

@@ -13,9 +13,7 @@ use steps::deciding::decide;
 use steps::deciding::no_outcome;
 use steps::errors::errors_of;
 use steps::errors::stamped_of;
-use steps::wants::by_rows;
-use steps::wants::looked_up;
-use steps::wants::wanted_given;
+use steps::wants::wanted_of;
 use tables::accept::MOST_ROWS;
 use tables::accept::codes_fine;
 use tables::accept::route_fine;
@@ -74,9 +72,7 @@ fn outcome_unless(
     if refusal == 0 {
         let errors = errors_of(p, source, t.phase);
         let stamped = stamped_of(p, source, errors, t.phase);
-        let goes = by_rows(errors, p.control);
-        let found = looked_up(goes, p.word, rows);
-        let wanted = wanted_given(errors, p, source, found, codes, fixed, t);
+        let wanted = wanted_of(errors, p, source, rows, codes, fixed, t);
         decide(errors, stamped, source, t.phase, wanted, t.ready)
     } else {
         no_outcome()

@@ -50,7 +50,7 @@ pub fn shown(refusal: u32, place: u32, o: Outcome) -> Pass
 
 // Of a pass that did not take place, all but two of the counts are 0 as it is: no need to choose between two lists of ten.
 fn counts_shown(refusal: u32, o: Outcome) -> Counters
-    requires { ⌜ o ≡ cond (eqb refusal 0) o noOutcome ⌝ }
+    requires { ⌜ (o ≡ cond (eqb refusal 0) o noOutcome) × (o .sent < 64) ⌝ }
     ensures { λ r. ⌜ r ≡ cond (eqb refusal 0) (countedOf zeros o) zeros ⌝ }
 {
     let c = counted_of(no_counts(), o);

@@ -54,6 +54,7 @@ pub fn no_outcome() -> Outcome
         payload: 0,
     };
     Outcome {
+        source: 0,
         errors: 0,
         packet,
         wanted: 0,
@@ -63,7 +64,6 @@ pub fn no_outcome() -> Outcome
         dropped: 0,
         leg_sent: 0,
         leg_dropped: 0,
-        source: 0,
         phase: 0,
     }
 }
@@ -105,6 +105,7 @@ pub fn decide(errors: u32, p: Packet, source: u32, phase: u32, w: Wanted, ready:
     let links = w.set % 64;
     if is_marked(p.control) {
         Outcome {
+            source,
             errors,
             packet: p,
             wanted: w.set,
@@ -114,11 +115,11 @@ pub fn decide(errors: u32, p: Packet, source: u32, phase: u32, w: Wanted, ready:
             dropped: drop_set(links, ready),
             leg_sent: plain_send_set(leg, ready),
             leg_dropped: plain_drop_set(leg, ready),
-            source,
             phase,
         }
     } else {
         Outcome {
+            source,
             errors,
             packet: p,
             wanted: w.set,
@@ -128,7 +129,6 @@ pub fn decide(errors: u32, p: Packet, source: u32, phase: u32, w: Wanted, ready:
             dropped: plain_drop_set(links, ready),
             leg_sent: plain_send_set(leg, ready),
             leg_dropped: plain_drop_set(leg, ready),
-            source,
             phase,
         }
     }

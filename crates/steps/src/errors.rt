@@ -39,10 +39,10 @@ fn source_errors(control: u32, source: u32, phase: u32) -> u32
     requires { ⌜ phase ≤ 3 ⌝ }
     ensures { λ r. ⌜ (r ≡ flag (tooOld control source phase) 2 + flag (badLocal control source) 8) × (r ≤ 8) ⌝ }
 {
-    if source == 7 {
-        flag_of(bad_local(control, source), 8)
-    } else {
+    if source < 6 {
         flag_of(too_old(control, source, phase), 2)
+    } else {
+        flag_of(bad_local(control, source), 8)
     }
 }
 

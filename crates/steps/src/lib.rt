@@ -21,10 +21,12 @@ pub struct Wanted {
     pub missed: u32,
 }
 
-// What a pass does: the errors found, the packet after stamping, the wanted set, whether a local packet found no row, the
-// links that send the packet and those of them that carry a detour, the links dropped for, and the second leg's link as a
-// set, where it is sent and where it is dropped; and where the packet came from, and the phase.
+// What a pass does: where the packet came from, the errors found, the packet after stamping, the wanted set, whether a local packet found
+// no row, the links that send the packet and those of them that carry a detour, the links dropped for, and the second leg's link
+// as a set, where it is sent and where it is dropped; and the phase. Source and phase stand apart: side by side the compiler takes
+// them for one number, which a pass then puts together and takes apart again.
 pub struct Outcome {
+    pub source: u32,
     pub errors: u32,
     pub packet: Packet,
     pub wanted: u32,
@@ -34,6 +36,5 @@ pub struct Outcome {
     pub dropped: u32,
     pub leg_sent: u32,
     pub leg_dropped: u32,
-    pub source: u32,
     pub phase: u32,
 }

@@ -13,10 +13,11 @@ ghost use mathlib.Core.Path.{_≡_};
 ghost use lib.ListN.{length};
 ghost use Prim.Native.Nat.{_*_, _^_, _≤_, _<_};
 ghost use Rattle.steps.specs.Links.{monitorBit};
-ghost use mathlib.Core.Bool.{cond};
+ghost use mathlib.Core.Bool.{cond, false};
 ghost use Rattle.tables.specs.declared.Matched.the-variants.{Missed};
 ghost use Rattle.tables.specs.Rows.{rowsOf, routeFor};
-ghost use Rattle.steps.specs.Wants.{wants, missWanted, matchWanted, markWanted, numberWanted, p2pWanted, nnWanted, fixedWanted, wantedGiven, byRows};
+ghost use Rattle.tables.specs.Tables.{chipTables};
+ghost use Rattle.steps.specs.Wants.{wants, missWanted, matchWanted, numberWanted, p2pWanted, nnWanted, fixedWanted, wantedGiven, wantedOf, byRows};
 
 // Whether a packet goes by the rows.
 pub fn by_rows(errors: u32, control: u32) -> bool
@@ -25,8 +26,33 @@ pub fn by_rows(errors: u32, control: u32) -> bool
     (errors == 0) & is_mc(control) & (mark_of(control) != 2)
 }
 
-// What the rows say to a key, where it is to be looked up. It is a step of its own, and small, so that the compiler puts it in
-// place in both passes, the one-router call's and the mesh's, and keeps their numbers out of memory.
+// The wanted set of a packet: what the rows say to it, where it goes by them. The one-router call's; the mesh's pass takes `looked_up` and
+// `wanted_given` instead, which say the same in two steps: what has one caller the compiler puts in place, and keeps its numbers out of memory.
+pub fn wanted_of(
+    errors: u32,
+    p: Packet,
+    source: u32,
+    rows: &[u32],
+    codes: &[u8],
+    fixed: u32,
+    t: Setting,
+) -> Wanted
+    requires { ⌜ (source < 8) × ((t .monitor < 20) × ((t .width ≤ 12) × ((t .height ≤ 12) × (t .height * t .width ≤ length (now codes))))) ⌝ }
+    ensures { λ r. ⌜ r ≡ wantedOf errors p source (chipTables (now (rows .entry)) (now (codes .entry)) fixed) t ⌝ }
+{
+    if by_rows(errors, p.control) {
+        match_wanted(
+            route_for(rows, p.word),
+            mark_of(p.control),
+            source,
+            t.monitor,
+        )
+    } else {
+        alone(other_wanted(errors, p, source, codes, fixed, t))
+    }
+}
+
+// What the rows say to a key, where it is to be looked up.
 pub fn looked_up(goes: bool, key: u32, rows: &[u32]) -> Matched
     ensures { λ r. ⌜ r ≡ cond goes (routeFor key (rowsOf (now (rows .entry)))) Missed ⌝ }
 {
@@ -50,16 +76,10 @@ pub fn wanted_given(
     requires { ⌜ (source < 8) × ((t .monitor < 20) × ((t .width ≤ 12) × ((t .height ≤ 12) × (t .height * t .width ≤ length (now codes))))) ⌝ }
     ensures { λ r. ⌜ r ≡ wantedGiven errors p source found (now (codes .entry)) fixed t ⌝ }
 {
-    if errors == 0 {
-        let kind = kind_of(p.control);
-        match kind {
-            0 => mark_wanted(found, mark_of(p.control), source, t.monitor),
-            1 => alone(p2p_wanted(p, codes, t)),
-            2 => alone(nn_wanted(p, source, t.monitor)),
-            _ => alone(fixed_wanted(mark_of(p.control), fixed)),
-        }
+    if by_rows(errors, p.control) {
+        match_wanted(found, mark_of(p.control), source, t.monitor)
     } else {
-        alone(monitor_bit(t.monitor))
+        alone(other_wanted(errors, p, source, codes, fixed, t))
     }
 }
 
@@ -70,13 +90,21 @@ pub fn bit(i: u32) -> u32
     1 << i
 }
 
-fn mark_wanted(found: Matched, mark: u32, source: u32, monitor: u32) -> Wanted
-    requires { ⌜ (source < 8) × (monitor < 20) ⌝ }
-    ensures { λ r. ⌜ r ≡ markWanted found mark source monitor ⌝ }
+// What a packet wants that does not go by the rows.
+fn other_wanted(errors: u32, p: Packet, source: u32, codes: &[u8], fixed: u32, t: Setting) -> u32
+    requires { ⌜ (byRows errors (p .control) ≡ false) × ((t .monitor < 20) × ((t .width ≤ 12) × ((t .height ≤ 12) × (t .height * t .width ≤ length (now codes))))) ⌝ }
+    ensures { λ r. ⌜ wants r ≡ wantedGiven errors p source Missed (now (codes .entry)) fixed t ⌝ }
 {
-    match mark {
-        2 => alone(0),
-        _ => match_wanted(found, mark, source, monitor),
+    if errors == 0 {
+        let kind = kind_of(p.control);
+        match kind {
+            0 => 0,
+            1 => p2p_wanted(p, codes, t),
+            2 => nn_wanted(p, source, t.monitor),
+            _ => fixed_wanted(mark_of(p.control), fixed),
+        }
+    } else {
+        monitor_bit(t.monitor)
     }
 }
 

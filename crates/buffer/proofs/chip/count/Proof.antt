@@ -50,7 +50,7 @@ returns c =
     let w = s .args .words .now in
     let o = s .args .o in
     (λ i. set (set (set w 0 (c .before .before .before .before .before .wrapping-add-u32 .ensures i)) 5 ((c .before .before .wrapping-add-u322 .ensures ∙ ap (plus (getD w 5 0)) (c .before .before .before .sent-count .ensures)) i)) 9 (c .wrapping-add-u323 .ensures i))
-    ∙ three-counted w (sentCount o) (o .missed) (s .pre) (λ i. omega (arith, c .before .before .before .before .before .before .before .before .before .slice-known .given i))
+    ∙ three-counted w (sentCount o) (o .missed) (s .pre .0) (λ i. omega (arith, c .before .before .before .before .before .before .before .before .before .slice-known .given i))
     ∙ ap (added w) (sym (c .before .before .before .before .before .before .before .before .only-sends .ensures (c .before .before .before .before .before .before .before .if1 .taken)))
 
 count-all-requires : tie.Need-count-all-requires

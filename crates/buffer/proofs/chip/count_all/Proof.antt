@@ -107,7 +107,7 @@ same-length c = simp length-set
 returns : tie.Need-returns
 returns c =
     let l = c .before .before .before .before .before .before .before .before .before .before .before .before .before .before .before .before .before .before .before .before .before .before .args .words .now in
-    ten-stores l _ _ _ _ _ _ _ _ _ _ (c .before .before .before .before .before .before .before .before .before .before .before .before .before .before .before .before .before .before .before .before .before .before .pre)
+    ten-stores l _ _ _ _ _ _ _ _ _ _ (c .before .before .before .before .before .before .before .before .before .before .before .before .before .before .before .before .before .before .before .before .before .before .pre .0)
     ∙ ap (λ (x : Counters). getD (x .count) 0 0 ∷ getD (x .count) 1 0 ∷ getD (x .count) 2 0 ∷ getD (x .count) 3 0 ∷ getD (x .count) 4 0 ∷ getD (x .count) 5 0 ∷ getD (x .count) 6 0 ∷ getD (x .count) 7 0 ∷ getD (x .count) 8 0 ∷ getD (x .count) 9 0 ∷ []) (c .before .before .before .before .before .before .before .before .before .before .counted-of .ensures)
 
 pub count-all-spec : {M : Type 1} → statement M

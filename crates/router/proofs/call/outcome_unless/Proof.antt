@@ -1,11 +1,9 @@
 use mathlib.Core.Path.{_∙_}
 use borrow.Author.Tests.{eq-eqb, ne-eqb}
 use Rattle.steps.specs.Deciding.{outcomeOf}
-use Rattle.steps.proofs.ByRows.{wanted-by-rows}
 use borrow.Author.Needs.{needs}
 use Rattle.router.proofs.call.outcome_unless.Statement.{statement}
 use Rattle.router.proofs.call.outcome_unless.Tie as tie
-use Rattle.tables.specs.Tables.{chipTables}
 
 errors-of-requires : tie.Need-errors-of-requires
 errors-of-requires c κs = (c .before .before .before .pre (c .if1 .taken)) .phase
@@ -13,17 +11,11 @@ errors-of-requires c κs = (c .before .before .before .pre (c .if1 .taken)) .pha
 stamped-of-requires : tie.Need-stamped-of-requires
 stamped-of-requires c κs = search needs
 
-by-rows-requires : tie.Need-by-rows-requires
-by-rows-requires c κs = search needs
-
-looked-up-requires : tie.Need-looked-up-requires
-looked-up-requires c κs = search needs
-
-wanted-given-requires : tie.Need-wanted-given-requires
-wanted-given-requires c κs = let h = c .before .before .before .before .before .before .before .pre (c .before .before .before .before .if1 .taken) in (h .from, (h .monitor, (h .width, (h .height, h .enough))))
+wanted-of-requires : tie.Need-wanted-of-requires
+wanted-of-requires c κs = let h = c .before .before .before .before .before .pre (c .before .before .if1 .taken) in (h .from, (h .monitor, (h .width, (h .height, h .enough))))
 
 decide-requires : tie.Need-decide-requires
-decide-requires c κs = let h = c .before .before .before .before .before .before .before .before .pre (c .before .before .before .before .before .if1 .taken) in (h .from, h .ready)
+decide-requires c κs = let h = c .before .before .before .before .before .before .pre (c .before .before .before .if1 .taken) in (h .from, h .ready)
 
 no-outcome-requires : tie.Need-no-outcome-requires
 no-outcome-requires c κs = search needs
@@ -31,13 +23,8 @@ no-outcome-requires c κs = search needs
 returns : tie.Need-returns
 unfolding outcomeOf
 returns c =
-    let a = c .before .before .before .before .before .before .before .before .before .args in
-    let errors = c .before .before .before .before .before .errors-of .result in
-    let wanted =
-    c .before .wanted-given .ensures
-    ∙ wanted-by-rows errors (a .p) (a .source) (chipTables (a .rows .now) (a .codes .now) (a .fixed)) (a .t) _ _ (c .before .before .before .by-rows .ensures) (c .before .before .looked-up .ensures) in
     c .decide .ensures
-    ∙ simp (wanted, c .before .before .before .before .stamped-of .ensures, c .before .before .before .before .before .errors-of .ensures .0, eq-eqb _ _ (c .before .before .before .before .before .before .if1 .taken))
+    ∙ simp (c .before .wanted-of .ensures, c .before .before .stamped-of .ensures, c .before .before .before .errors-of .ensures .0, eq-eqb _ _ (c .before .before .before .before .if1 .taken))
 
 returns-2 : tie.Need-returns-2
 returns-2 c = c .no-outcome .ensures ∙ simp (ne-eqb _ _ (c .before .if1 .left))
@@ -48,9 +35,7 @@ outcome-unless-spec =
     (tie.spec
     errors-of-requires
     stamped-of-requires
-    by-rows-requires
-    looked-up-requires
-    wanted-given-requires
+    wanted-of-requires
     decide-requires
     no-outcome-requires
     returns

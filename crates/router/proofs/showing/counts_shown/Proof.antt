@@ -49,7 +49,7 @@ returns : tie.Need-returns
 returns c =
     let a = c .before .before .before .before .before .before .before .before .before .before .before .before .before .before .args in
     rw (c .before .before .before .before .before .before .before .before .before .before .flag-of .ensures .0, c .before .before .before .before .before .before .before .before .flag-of2 .ensures .0, c .before .before .before .before .before .before .before .before .before .before .before .before .counted-of .ensures, c .before .before .before .before .before .before .before .before .before .before .before .before .before .no-counts .ensures)
-    (counts-picked (a .refusal) (a .o) (c .before .before .before .before .before .before .before .before .before .before .before .before .before .before .pre))
+    (counts-picked (a .refusal) (a .o) (c .before .before .before .before .before .before .before .before .before .before .before .before .before .before .pre .0))
 
 pub counts-shown-spec : {M : Type 1} → statement M
 counts-shown-spec =
