@@ -7,14 +7,14 @@ use lib.Dec.{lit<}
 use lib.ListN.{length, getD, drop, length-append, length-map, List·getD-map}
 use lib.Seq.{getD-drop, drop-drop}
 use Rattle.packet.specs.declared.Packet.{Packet}
-use Rattle.links.specs.Offsets.{widthAt, heightAt, heldAt, placeLong, depth, asideAt, asidePlacesAt, chipPlace, linePlace}
-use Rattle.links.specs.Line.{Flight}
+use Rattle.links.specs.Offsets.{widthAt, heightAt, heldAt, placeLong, depth, asideAt, asidePlacesAt, chipPlace, linkPlace}
+use Rattle.links.specs.Link.{Flight}
 use Rattle.links.specs.Across.{across, opposite}
 use Rattle.links.specs.Words.{asidePlace, packetIn, placesIn, asideIn}
-use Rattle.links.specs.LineWords.{still}
+use Rattle.links.specs.LinkWords.{still}
 use Rattle.buffer.specs.Layout.{chipsOf, wordsOf}
 use Rattle.mesh.specs.Steps.{Arrival, Going}
-use Rattle.buffer.specs.ChipWords.{lineWords}
+use Rattle.buffer.specs.ChipWords.{linkWords}
 use Rattle.buffer.specs.Passing.{chipWords}
 use Rattle.mesh.specs.Sound.{Arrives}
 use Rattle.buffer.specs.PassesInTurn.{arrival, asideFor, asideBy, asideFrom, AsideFew, Due, DueAside, Passed}
@@ -42,13 +42,13 @@ module _ (step : Going (Unit {0}) → Arrival (Unit {0}) → Going (Unit {0})) (
   pub aside-same : (chip source : ℕ) → asideBy l₁ chip source ≡ asideBy l chip source
   aside-same chip source =
       ap (map (λ (f : Flight (Unit {0})). record { chip = chip; source = source; flight = f }))
-      ((λ i. asideIn (lineWords (opposite source) (chipWords (across (number widthAt (lit< tt) i) (number heightAt (lit< tt) i) chip source) l₁)))
-      ∙ aside-still (asideFor l chip source) (lineWords (opposite source) (chipWords (across (getD l widthAt 0) (getD l heightAt 0) chip source) l₁)) (p .still (across (getD l widthAt 0) (getD l heightAt 0) chip source) (opposite source) (opposite-there source)))
+      ((λ i. asideIn (linkWords (opposite source) (chipWords (across (number widthAt (lit< tt) i) (number heightAt (lit< tt) i) chip source) l₁)))
+      ∙ aside-still (asideFor l chip source) (linkWords (opposite source) (chipWords (across (getD l widthAt 0) (getD l heightAt 0) chip source) l₁)) (p .still (across (getD l widthAt 0) (getD l heightAt 0) chip source) (opposite source) (opposite-there source)))
 
   pub few-same : AsideFew l → AsideFew l₁
   few-same few c j hc hj =
-      let e : getD (lineWords j (chipWords c l₁)) asideAt 0 ≡ getD (lineWords j (chipWords c l)) asideAt 0 =
-      sym (getD-drop asideAt (lineWords j (chipWords c l₁)) 0 0) ∙ ap (λ (w : List ℕ). getD w heldAt 0) (p .still c j hj) ∙ getD-drop asideAt (lineWords j (chipWords c l)) 0 0 in
+      let e : getD (linkWords j (chipWords c l₁)) asideAt 0 ≡ getD (linkWords j (chipWords c l)) asideAt 0 =
+      sym (getD-drop asideAt (linkWords j (chipWords c l₁)) 0 0) ∙ ap (λ (w : List ℕ). getD w heldAt 0) (p .still c j hj) ∙ getD-drop asideAt (linkWords j (chipWords c l)) 0 0 in
       subst (λ (k : ℕ). k ≤ 8) (sym e) (few c j (subst (λ (k : ℕ). c < k) (λ i. number heightAt (lit< tt) i * number widthAt (lit< tt) i) hc) hj)
 
 all-upto : (P : Arrival (Unit {0}) → Type 0) (f : ℕ → List (Arrival (Unit {0}))) (k m : ℕ) → k < m → All P (upTo f m) → All P (f k)
@@ -123,7 +123,7 @@ module _ (l : List ℕ) (chip source : ℕ) (fine : Head l) (enough : wordsOf l 
       read : (k : ℕ) → k < getD l place 0 → getD (asideBy l chip source) k d ≡ arrival chip source (packetIn (drop (place + 1 + k * placeLong) l))
       read k h =
           let small : getD l place 0 ≤ 8 = count-few in
-          let e : place + 1 + k * placeLong ≡ chipPlace from + linePlace (opposite source) + (asidePlacesAt + k * placeLong) = omega arith in
+          let e : place + 1 + k * placeLong ≡ chipPlace from + linkPlace (opposite source) + (asidePlacesAt + k * placeLong) = omega arith in
           let f : Flight (Unit {0}) → Arrival (Unit {0}) = λ x. record { chip = chip; source = source; flight = x } in
           List·getD-map f (asideIn (asideFor l chip source)) k nothing
           ∙ ap f (places-at (getD (asideFor l chip source) asideAt 0) k (drop asidePlacesAt (asideFor l chip source)) nothing (subst (λ (m : ℕ). k < m) (sym (word-at from (opposite source) asideAt l (opposite-there source) (lit< tt))) h))
@@ -136,11 +136,11 @@ module _ (l : List ℕ) (chip source : ℕ) (fine : Head l) (enough : wordsOf l 
       → packetIn (drop (asidePlace (getD l widthAt 0) (getD l heightAt 0) chip source + 1 + k * placeLong) l₁) ≡ packetIn (drop (asidePlace (getD l widthAt 0) (getD l heightAt 0) chip source + 1 + k * placeLong) l)
   packet-same step xs log n l₁ log₁ n₁ p k h =
       let j = opposite source in
-      let e : place + 1 + k * placeLong ≡ chipPlace from + linePlace j + (asidePlacesAt + k * placeLong) = omega arith in
+      let e : place + 1 + k * placeLong ≡ chipPlace from + linkPlace j + (asidePlacesAt + k * placeLong) = omega arith in
       let shift : asidePlacesAt + k * placeLong ≡ asideAt + (1 + k * placeLong) = omega arith in
-      let there : (m : List ℕ) → packetIn (drop (place + 1 + k * placeLong) m) ≡ packetIn (drop (1 + k * placeLong) (drop asideAt (lineWords j (chipWords from m)))) =
+      let there : (m : List ℕ) → packetIn (drop (place + 1 + k * placeLong) m) ≡ packetIn (drop (1 + k * placeLong) (drop asideAt (linkWords j (chipWords from m)))) =
       λ m. ap (λ (i : ℕ). packetIn (drop i m)) e ∙ sym (packet-there from j (asidePlacesAt + k * placeLong) m (opposite-there source) (omega arith))
-      ∙ ap packetIn (ap (λ (i : ℕ). drop i (lineWords j (chipWords from m))) shift ∙ sym (drop-drop (1 + k * placeLong) asideAt (lineWords j (chipWords from m)))) in
+      ∙ ap packetIn (ap (λ (i : ℕ). drop i (linkWords j (chipWords from m))) shift ∙ sym (drop-drop (1 + k * placeLong) asideAt (linkWords j (chipWords from m)))) in
       there l₁ ∙ ap (λ (w : List ℕ). packetIn (drop (1 + k * placeLong) (drop 1 w))) (p .still from j (opposite-there source)) ∙ sym (there l)
 
 pub passed-begin : (step : Going (Unit {0}) → Arrival (Unit {0}) → Going (Unit {0})) (f : ℕ → List (Arrival (Unit {0}))) (l log : List ℕ) (n : ℕ) → Passed step (upTo f 0) l log n l log n

@@ -6,17 +6,17 @@ use native.Mathlib.Omega.{arith}
 use lib.Dec.{eqb}
 use lib.ListN.{length, getD, take, drop, set, length-set, length-drop, List·getD-append}
 use lib.Seq.{paste, length-paste, length-take-le, length-paste-head, getD-take, getD-set-same, getD-set-other, drop-set-lt, drop-append-le, drop-at}
-use Rattle.links.specs.Offsets.{stateAt, heldAt, placesAt, placeLong, depth, asideAt, asidePlacesAt, lineLong}
-use Rattle.links.specs.Line.{Flight}
-use Rattle.links.specs.Words.{packetIn, placesIn, lineIn, asideIn}
+use Rattle.links.specs.Offsets.{stateAt, heldAt, placesAt, placeLong, depth, asideAt, asidePlacesAt, linkLong}
+use Rattle.links.specs.Link.{Flight}
+use Rattle.links.specs.Words.{packetIn, placesIn, linkIn, asideIn}
 use Rattle.mesh.specs.Steps.{emptied}
 use Rattle.buffer.specs.Aside.{asideWords}
 
-module _ (w : List ℕ) (n : ℕ) (long : length w ≡ lineLong) (few : n ≤ depth * placeLong) where
+module _ (w : List ℕ) (n : ℕ) (long : length w ≡ linkLong) (few : n ≤ depth * placeLong) where
   behind : n ≤ length (drop placesAt w)
   behind = simp length-drop (omega arith)
 
-  pub length-copied : length (paste w asidePlacesAt (drop placesAt w) n) ≡ lineLong
+  pub length-copied : length (paste w asidePlacesAt (drop placesAt w) n) ≡ linkLong
   length-copied = length-paste w asidePlacesAt (drop placesAt w) n (omega arith) behind ∙ long
 
   -- the words before the copy are as they were
@@ -48,17 +48,17 @@ places-front (suc n) (x ∷ y ∷ z ∷ l) rest h =
     ap (λ (k : ℕ). placesIn (suc n) (take k (x ∷ y ∷ z ∷ l) ++ rest)) e
     ∙ ap (λ (fs : List (Flight (Unit {0}))). record { packet = packetIn (x ∷ y ∷ z ∷ l); tag = tt } ∷ fs) (places-front n l rest (omega arith))
 
-module _ (w : List ℕ) (long : length w ≡ lineLong) (few : getD w heldAt 0 ≤ 8) where
+module _ (w : List ℕ) (long : length w ≡ linkLong) (few : getD w heldAt 0 ≤ 8) where
   abbrev copied : List ℕ
   copied = paste w asidePlacesAt (drop placesAt w) (getD w heldAt 0 * placeLong)
 
   within : getD w heldAt 0 * placeLong ≤ depth * placeLong
   within = omega arith
 
-  sized : length (paste w asidePlacesAt (drop placesAt w) (getD w heldAt 0 * placeLong)) ≡ lineLong
+  sized : length (paste w asidePlacesAt (drop placesAt w) (getD w heldAt 0 * placeLong)) ≡ linkLong
   sized = length-copied w (getD w heldAt 0 * placeLong) long within
 
-  pub length-aside : length (asideWords w) ≡ lineLong
+  pub length-aside : length (asideWords w) ≡ linkLong
   length-aside = simp length-set sized
 
   pub state-aside : getD (asideWords w) stateAt 0 ≡ getD w stateAt 0
@@ -74,12 +74,12 @@ module _ (w : List ℕ) (long : length w ≡ lineLong) (few : getD w heldAt 0 �
   count-aside =
       getD-set-other (set copied asideAt (getD w heldAt 0)) heldAt asideAt 0 0 (λ e. omega arith) ∙ getD-set-same copied asideAt (getD w heldAt 0) 0 (omega (arith, sized))
 
-  pub line-aside : lineIn (asideWords w) ≡ emptied (lineIn w)
+  pub link-aside : linkIn (asideWords w) ≡ emptied (linkIn w)
   unfolding placesIn
-  line-aside =
+  link-aside =
       (λ i. record { up = eqb (state-aside i) 0; held = placesIn (none-held i) (drop 2 (asideWords w)) })
 
-  pub aside-held : asideIn (asideWords w) ≡ lineIn w .held
+  pub aside-held : asideIn (asideWords w) ≡ linkIn w .held
   aside-held =
       (λ i. placesIn (count-aside i) (drop asidePlacesAt (asideWords w)))
       ∙ ap (placesIn (getD w heldAt 0))

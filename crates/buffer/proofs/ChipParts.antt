@@ -10,17 +10,17 @@ use lib.Dec.{lit<}
 use lib.Seq.{getD-set-same, getD-set-other}
 use Rattle.kept.specs.declared.Registers.{Registers}
 use Rattle.lists.proofs.Six.{six}
-use Rattle.links.specs.Offsets.{widthAt, heightAt, roundsAt, monitorAt, phaseAt, elapsedAt, lineLong, registersLong, countersLong, countersAt, chipLong, linePlace}
-use Rattle.links.specs.Line.{Line, idle}
+use Rattle.links.specs.Offsets.{widthAt, heightAt, roundsAt, monitorAt, phaseAt, elapsedAt, linkLong, registersLong, countersLong, countersAt, chipLong, linkPlace}
+use Rattle.links.specs.Link.{Link, idle}
 use Rattle.lists.specs.Lists.{part, putBack}
-use Rattle.links.specs.Words.{lineIn}
+use Rattle.links.specs.Words.{linkIn}
 use Rattle.mesh.specs.Mesh.{Chip}
 use Rattle.buffer.specs.Layout.{registersIn, registerWords, chipIn}
-use Rattle.buffer.specs.ChipWords.{lineWords}
+use Rattle.buffer.specs.ChipWords.{linkWords}
 use Rattle.lists.proofs.Parts.{part-same, part-before, part-behind}
 
-abbrev pub withLine : Chip (Unit {0}) → ℕ → Line (Unit {0}) → Chip (Unit {0})
-withLine c i x = record { registers = c .registers; counters = c .counters; lines = set (c .lines) i x }
+abbrev pub linkPut : Chip (Unit {0}) → ℕ → Link (Unit {0}) → Chip (Unit {0})
+linkPut c i x = record { registers = c .registers; counters = c .counters; links = set (c .links) i x }
 
 -- two numbers, one below the other or equal
 -- registers put into words are there
@@ -35,57 +35,57 @@ order i j = go (decLt i j) (decLt j i)
     go (no h) (yes k) = inr (inr k)
     go (no h) (no k) = inr (inl (omega arith))
 
-abbrev pub lines-of : List ℕ → List (Line (Unit {0}))
-lines-of l = chipIn l .lines
+abbrev pub links-of : List ℕ → List (Link (Unit {0}))
+links-of l = chipIn l .links
 
-pub line-at : (j : ℕ) → j < 6 → (l : List ℕ) → getD (lines-of l) j idle ≡ lineIn (lineWords j l)
-line-at zero h l = refl
-line-at (suc zero) h l = refl
-line-at (suc (suc zero)) h l = refl
-line-at (suc (suc (suc zero))) h l = refl
-line-at (suc (suc (suc (suc zero)))) h l = refl
-line-at (suc (suc (suc (suc (suc zero))))) h l = refl
-line-at (suc (suc (suc (suc (suc (suc j)))))) h l = absurd (omega arith)
+pub link-at : (j : ℕ) → j < 6 → (l : List ℕ) → getD (links-of l) j idle ≡ linkIn (linkWords j l)
+link-at zero h l = refl
+link-at (suc zero) h l = refl
+link-at (suc (suc zero)) h l = refl
+link-at (suc (suc (suc zero))) h l = refl
+link-at (suc (suc (suc (suc zero)))) h l = refl
+link-at (suc (suc (suc (suc (suc zero))))) h l = refl
+link-at (suc (suc (suc (suc (suc (suc j)))))) h l = absurd (omega arith)
 
-module _ (i : ℕ) (hi : i < 6) (ys l : List ℕ) (long : length l ≡ chipLong) (sized : length ys ≡ lineLong) where
+module _ (i : ℕ) (hi : i < 6) (ys l : List ℕ) (long : length l ≡ chipLong) (sized : length ys ≡ linkLong) where
   back : List ℕ
-  back = putBack (linePlace i) lineLong ys l
+  back = putBack (linkPlace i) linkLong ys l
 
-  fits : linePlace i + lineLong ≤ length l
+  fits : linkPlace i + linkLong ≤ length l
   fits = omega arith
 
   -- the words of every link after one of them has changed
-  pub words-other : (j : ℕ) → (i ≡ j → ⊥) → lineWords j (putBack (linePlace i) lineLong ys l) ≡ lineWords j l
+  pub words-other : (j : ℕ) → (i ≡ j → ⊥) → linkWords j (putBack (linkPlace i) linkLong ys l) ≡ linkWords j l
   words-other j d = go (order i j)
     where
-      go : (i < j) ⊎ ((i ≡ j) ⊎ (j < i)) → lineWords j (putBack (linePlace i) lineLong ys l) ≡ lineWords j l
-      go (inl h) = part-behind (linePlace i) lineLong ys l fits sized (linePlace j) lineLong (omega arith)
+      go : (i < j) ⊎ ((i ≡ j) ⊎ (j < i)) → linkWords j (putBack (linkPlace i) linkLong ys l) ≡ linkWords j l
+      go (inl h) = part-behind (linkPlace i) linkLong ys l fits sized (linkPlace j) linkLong (omega arith)
       go (inr (inl h)) = absurd (d h)
-      go (inr (inr h)) = part-before (linePlace i) lineLong ys l fits sized (linePlace j) lineLong (omega arith)
+      go (inr (inr h)) = part-before (linkPlace i) linkLong ys l fits sized (linkPlace j) linkLong (omega arith)
 
-  pub words-same : lineWords i (putBack (linePlace i) lineLong ys l) ≡ ys
-  words-same = part-same (linePlace i) lineLong ys l fits sized
+  pub words-same : linkWords i (putBack (linkPlace i) linkLong ys l) ≡ ys
+  words-same = part-same (linkPlace i) linkLong ys l fits sized
 
-  line-of : (j : ℕ) → j < 6 → lineIn (lineWords j (putBack (linePlace i) lineLong ys l)) ≡ getD (set (lines-of l) i (lineIn ys)) j idle
-  line-of j hj = go (order i j)
+  link-of : (j : ℕ) → j < 6 → linkIn (linkWords j (putBack (linkPlace i) linkLong ys l)) ≡ getD (set (links-of l) i (linkIn ys)) j idle
+  link-of j hj = go (order i j)
     where
-      other : (i ≡ j → ⊥) → lineIn (lineWords j (putBack (linePlace i) lineLong ys l)) ≡ getD (set (lines-of l) i (lineIn ys)) j idle
-      other d = ap lineIn (words-other j d) ∙ sym (getD-set-other (lines-of l) i j (lineIn ys) idle (λ e. d (sym e)) ∙ line-at j hj l)
+      other : (i ≡ j → ⊥) → linkIn (linkWords j (putBack (linkPlace i) linkLong ys l)) ≡ getD (set (links-of l) i (linkIn ys)) j idle
+      other d = ap linkIn (words-other j d) ∙ sym (getD-set-other (links-of l) i j (linkIn ys) idle (λ e. d (sym e)) ∙ link-at j hj l)
 
-      go : (i < j) ⊎ ((i ≡ j) ⊎ (j < i)) → lineIn (lineWords j (putBack (linePlace i) lineLong ys l)) ≡ getD (set (lines-of l) i (lineIn ys)) j idle
+      go : (i < j) ⊎ ((i ≡ j) ⊎ (j < i)) → linkIn (linkWords j (putBack (linkPlace i) linkLong ys l)) ≡ getD (set (links-of l) i (linkIn ys)) j idle
       go (inl h) = other (λ e. omega arith)
-      go (inr (inl h)) = subst (λ (k : ℕ). lineIn (lineWords k (putBack (linePlace i) lineLong ys l)) ≡ getD (set (lines-of l) i (lineIn ys)) k idle) h
-          (ap lineIn words-same ∙ sym (getD-set-same (lines-of l) i (lineIn ys) idle hi))
+      go (inr (inl h)) = subst (λ (k : ℕ). linkIn (linkWords k (putBack (linkPlace i) linkLong ys l)) ≡ getD (set (links-of l) i (linkIn ys)) k idle) h
+          (ap linkIn words-same ∙ sym (getD-set-same (links-of l) i (linkIn ys) idle hi))
       go (inr (inr h)) = other (λ e. omega arith)
 
   -- a chip with one link's words changed is the chip with that link changed
-  all-lines : lines-of (putBack (linePlace i) lineLong ys l) ≡ set (lines-of l) i (lineIn ys)
-  all-lines =
-      (λ k. line-of widthAt (lit< tt) k ∷ line-of heightAt (lit< tt) k ∷ line-of roundsAt (lit< tt) k ∷ line-of monitorAt (lit< tt) k ∷ line-of phaseAt (lit< tt) k ∷ line-of elapsedAt (lit< tt) k ∷ [])
-      ∙ sym (six idle (set (lines-of l) i (lineIn ys)) (length-set (lines-of l) i (lineIn ys)))
+  all-links : links-of (putBack (linkPlace i) linkLong ys l) ≡ set (links-of l) i (linkIn ys)
+  all-links =
+      (λ k. link-of widthAt (lit< tt) k ∷ link-of heightAt (lit< tt) k ∷ link-of roundsAt (lit< tt) k ∷ link-of monitorAt (lit< tt) k ∷ link-of phaseAt (lit< tt) k ∷ link-of elapsedAt (lit< tt) k ∷ [])
+      ∙ sym (six idle (set (links-of l) i (linkIn ys)) (length-set (links-of l) i (linkIn ys)))
 
-  pub chip-line : chipIn (putBack (linePlace i) lineLong ys l) ≡ withLine (chipIn l) i (lineIn ys)
-  chip-line =
-      let r : part 0 registersLong (putBack (linePlace i) lineLong ys l) ≡ part 0 registersLong l = part-before (linePlace i) lineLong ys l fits sized 0 registersLong (omega arith) in
-      let c : part countersAt countersLong (putBack (linePlace i) lineLong ys l) ≡ part countersAt countersLong l = part-before (linePlace i) lineLong ys l fits sized countersAt countersLong (omega arith) in
-      λ k. record { registers = registersIn (r k); counters = record { count = c k }; lines = all-lines k }
+  pub chip-link : chipIn (putBack (linkPlace i) linkLong ys l) ≡ linkPut (chipIn l) i (linkIn ys)
+  chip-link =
+      let r : part 0 registersLong (putBack (linkPlace i) linkLong ys l) ≡ part 0 registersLong l = part-before (linkPlace i) linkLong ys l fits sized 0 registersLong (omega arith) in
+      let c : part countersAt countersLong (putBack (linkPlace i) linkLong ys l) ≡ part countersAt countersLong l = part-before (linkPlace i) linkLong ys l fits sized countersAt countersLong (omega arith) in
+      λ k. record { registers = registersIn (r k); counters = record { count = c k }; links = all-links k }

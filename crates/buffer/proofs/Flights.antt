@@ -8,14 +8,14 @@ use native.Mathlib.Omega.{arith}
 use lib.Dec.{lit<}
 use lib.ListN.{getD, drop}
 use lib.Seq.{getD-take, getD-drop}
-use Rattle.links.specs.Offsets.{heldAt, placesAt, lineLong, linePlace}
-use Rattle.links.specs.Words.{lineIn}
+use Rattle.links.specs.Offsets.{heldAt, placesAt, linkLong, linkPlace}
+use Rattle.links.specs.Words.{linkIn}
 use Rattle.buffer.specs.Layout.{chipsIn, meshOf, chipsOf}
-use Rattle.buffer.specs.ChipWords.{lineWords}
+use Rattle.buffer.specs.ChipWords.{linkWords}
 use Rattle.buffer.specs.Passing.{chipWords}
 use Rattle.buffer.specs.Holding.{holdsMesh}
 use Rattle.lists.specs.Lists.{total}
-use Rattle.mesh.specs.Weights.{onLine, onChip, inFlight}
+use Rattle.mesh.specs.Weights.{onLink, onChip, inFlight}
 use Rattle.buffer.specs.Held.{chipFlight, Few}
 use Rattle.buffer.proofs.HoldsMesh.{few-held}
 use Rattle.links.proofs.Places.{length-places}
@@ -23,30 +23,30 @@ use Rattle.lists.proofs.Totals.{total-ones}
 
 -- ---- on one chip
 
-word-at : (j : ℕ) (l : List ℕ) → getD (lineWords j l) heldAt 0 ≡ getD l (linePlace j + 1) 0
-word-at j l = getD-take lineLong (drop (linePlace j) l) 1 0 (lit< tt) ∙ getD-drop (linePlace j) l 1 0
+word-at : (j : ℕ) (l : List ℕ) → getD (linkWords j l) heldAt 0 ≡ getD l (linkPlace j + 1) 0
+word-at j l = getD-take linkLong (drop (linkPlace j) l) 1 0 (lit< tt) ∙ getD-drop (linkPlace j) l 1 0
 
-line-count : (l : List ℕ) → onLine (λ f. 1) (lineIn l) ≡ getD l heldAt 0
-line-count l = total-ones (lineIn l .held) ∙ length-places (getD l heldAt 0) (drop placesAt l)
+link-count : (l : List ℕ) → onLink (λ f. 1) (linkIn l) ≡ getD l heldAt 0
+link-count l = total-ones (linkIn l .held) ∙ length-places (getD l heldAt 0) (drop placesAt l)
 
-pub chip-count : (l : List ℕ) → chipFlight l ≡ getD l (linePlace 0 + heldAt) 0 + getD l (linePlace 1 + heldAt) 0 + getD l (linePlace 2 + heldAt) 0 + getD l (linePlace 3 + heldAt) 0 + getD l (linePlace 4 + heldAt) 0 + getD l (linePlace 5 + heldAt) 0
+pub chip-count : (l : List ℕ) → chipFlight l ≡ getD l (linkPlace 0 + heldAt) 0 + getD l (linkPlace 1 + heldAt) 0 + getD l (linkPlace 2 + heldAt) 0 + getD l (linkPlace 3 + heldAt) 0 + getD l (linkPlace 4 + heldAt) 0 + getD l (linkPlace 5 + heldAt) 0
 unfolding total
 chip-count l =
-    let e : (j : ℕ) → onLine (λ f. 1) (lineIn (lineWords j l)) ≡ getD l (linePlace j + 1) 0 = λ j. line-count (lineWords j l) ∙ word-at j l in
+    let e : (j : ℕ) → onLink (λ f. 1) (linkIn (linkWords j l)) ≡ getD l (linkPlace j + 1) 0 = λ j. link-count (linkWords j l) ∙ word-at j l in
     omega (arith, e 0, e 1, e 2, e 3, e 4, e 5)
 
 -- each of the six words is at most 8, and all together at most 48
 pub record Small (l : List ℕ) : Type 0 where
-  pub east : getD l (linePlace 0 + heldAt) 0 ≤ 8
-  pub north-east : getD l (linePlace 1 + heldAt) 0 ≤ 8
-  pub north : getD l (linePlace 2 + heldAt) 0 ≤ 8
-  pub west : getD l (linePlace 3 + heldAt) 0 ≤ 8
-  pub south-west : getD l (linePlace 4 + heldAt) 0 ≤ 8
-  pub south : getD l (linePlace 5 + heldAt) 0 ≤ 8
+  pub east : getD l (linkPlace 0 + heldAt) 0 ≤ 8
+  pub north-east : getD l (linkPlace 1 + heldAt) 0 ≤ 8
+  pub north : getD l (linkPlace 2 + heldAt) 0 ≤ 8
+  pub west : getD l (linkPlace 3 + heldAt) 0 ≤ 8
+  pub south-west : getD l (linkPlace 4 + heldAt) 0 ≤ 8
+  pub south : getD l (linkPlace 5 + heldAt) 0 ≤ 8
 
 pub words-small : (l : List ℕ) → Few l → Small l
 words-small l h =
-    let w : (j : ℕ) → j < 6 → getD l (linePlace j + 1) 0 ≤ 8 = λ j hj. omega (arith, h .few j hj, word-at j l) in
+    let w : (j : ℕ) → j < 6 → getD l (linkPlace j + 1) 0 ≤ 8 = λ j hj. omega (arith, h .few j hj, word-at j l) in
     record {
       east = w 0 (lit< tt);
       north-east = w 1 (lit< tt);

@@ -24,8 +24,8 @@ use Rattle.tables.specs.declared.Matched.{Matched}
 use Rattle.packet.specs.declared.Packet.{Packet}
 use Rattle.mesh.specs.Mesh.{Chip, fresh}
 use Rattle.links.specs.Offsets.{widthAt, heightAt, monitorAt, phaseAt, chipLong, chipPlace}
-use Rattle.links.specs.LineWords.{still}
-use Rattle.links.specs.Line.{readyLinks}
+use Rattle.links.specs.LinkWords.{still}
+use Rattle.links.specs.Link.{readyLinks}
 use Rattle.buffer.specs.Layout.{chipIn, meshOf, wordsFor, chipsOf, wordsOf}
 use Rattle.mesh.specs.Steps.{Tables, Arrival, Going, tablesOf, codesAt, logOf, settingAt, chipAfter, withChip, passAt, same, tablesAt}
 use Rattle.buffer.specs.Passing.{chipWords, settingIn, CheckedAt, MeshStep}
@@ -144,7 +144,7 @@ module _ (a : Arrival (Unit {0})) (l log : List ℕ) (n : ℕ) (d : Due (a ∷ [
         height = getD l heightAt 0;
         monitor = getD l monitorAt 0;
         phase = getD l phaseAt 0;
-        ready = readyLinks (c .lines);
+        ready = readyLinks (c .links);
       }) (sym chip-here)
 
   pub passed-one : (own : ChipTables) (l′ log′ : List ℕ) (n′ : ℕ) (o : Outcome) → o ≡ outcomeOf (a .flight .packet) (a .source) own (settingIn l (a .chip))

@@ -13,10 +13,10 @@ use Rattle.tables.specs.Sizes.{sizeFine}
 use Rattle.tables.proofs.Sizes.{chips-small}
 use Rattle.lists.specs.Lists.{part}
 use Rattle.buffer.specs.Layout.{registersIn, chipsOf, wordsOf}
-use Rattle.buffer.specs.ChipWords.{lineWords}
+use Rattle.buffer.specs.ChipWords.{linkWords}
 use Rattle.buffer.specs.Passing.{chipWords}
 use Rattle.mesh.specs.Sound.{registersFine}
-use Rattle.buffer.specs.Holding.{placesFine, lineFine, chipFine, chipsFine, headFine, holdsMesh}
+use Rattle.buffer.specs.Holding.{placesFine, linkFine, chipFine, chipsFine, headFine, holdsMesh}
 use Rattle.buffer.specs.Held.{Few}
 use Rattle.buffer.proofs.ChipParts.{order}
 use Rattle.buffer.proofs.FineSteps.{head-size}
@@ -79,19 +79,19 @@ six-true r q e (suc (suc (suc (suc (suc (suc j)))))) h = absurd (omega arith)
 before-six : (r : Bool) (q : ℕ → Bool) → (r && q 0 && q 1 && q 2 && q 3 && q 4 && q 5) ≡ true → r ≡ true
 before-six r q e = let t = simp and-eq-true-iff at e in t .0 .0 .0 .0 .0 .0
 
-pub line-held : (l : List ℕ) → chipFine l ≡ true → (j : ℕ) → j < 6 → lineFine (lineWords j l) ≡ true
-line-held l e = six-true (registersFine (registersIn (part 0 registersLong l))) (λ (j : ℕ). lineFine (lineWords j l)) e
+pub link-held : (l : List ℕ) → chipFine l ≡ true → (j : ℕ) → j < 6 → linkFine (linkWords j l) ≡ true
+link-held l e = six-true (registersFine (registersIn (part 0 registersLong l))) (λ (j : ℕ). linkFine (linkWords j l)) e
 
 pub registers-held : (l : List ℕ) → chipFine l ≡ true → registersFine (registersIn (part 0 registersLong l)) ≡ true
-registers-held l e = before-six (registersFine (registersIn (part 0 registersLong l))) (λ (j : ℕ). lineFine (lineWords j l)) e
+registers-held l e = before-six (registersFine (registersIn (part 0 registersLong l))) (λ (j : ℕ). linkFine (linkWords j l)) e
 
 -- the count word of each
-pub held-few : (l : List ℕ) → holdsMesh l ≡ true → (c j : ℕ) → c < chipsOf l → j < 6 → getD (lineWords j (chipWords c l)) heldAt 0 ≤ 8
+pub held-few : (l : List ℕ) → holdsMesh l ≡ true → (c j : ℕ) → c < chipsOf l → j < 6 → getD (linkWords j (chipWords c l)) heldAt 0 ≤ 8
 held-few l holds c j hc hj =
-    let x = lineWords j (chipWords c l) in
+    let x = linkWords j (chipWords c l) in
     let up = leb (getD x stateAt 0) 1 in
     let few = leb (getD x heldAt 0) 8 in
-    let t = and-eq-true-iff (up && few) (placesFine (getD x heldAt 0) (drop placesAt x)) .0 (line-held (chipWords c l) (chip-held l holds c hc) j hj) in
+    let t = and-eq-true-iff (up && few) (placesFine (getD x heldAt 0) (drop placesAt x)) .0 (link-held (chipWords c l) (chip-held l holds c hc) j hj) in
     leb-true _ _ (and-eq-true-iff up few .0 (t .0) .1)
 
 -- each chip's words may be counted

@@ -6,30 +6,30 @@ use native.Mathlib.Omega.{arith}
 use lib.ListN.{getD, drop}
 use lib.Seq.{getD-take, getD-drop, drop-drop}
 use Rattle.packet.specs.Control.{carriesOf}
-use Rattle.links.specs.Offsets.{placeLong, lineLong, chipLong, chipPlace, linePlace}
-use Rattle.links.specs.Line.{Flight}
+use Rattle.links.specs.Offsets.{placeLong, linkLong, chipLong, chipPlace, linkPlace}
+use Rattle.links.specs.Link.{Flight}
 use Rattle.links.specs.Words.{packetIn, placesIn}
-use Rattle.buffer.specs.ChipWords.{lineWords}
+use Rattle.buffer.specs.ChipWords.{linkWords}
 use Rattle.buffer.specs.Passing.{chipWords}
 use Rattle.links.proofs.Places.{packet-at}
 
 -- a word of a link of a chip
-pub word-at : (c j k : ℕ) (l : List ℕ) → j < 6 → k < lineLong → getD (lineWords j (chipWords c l)) k 0 ≡ getD l (chipPlace c + linePlace j + k) 0
+pub word-at : (c j k : ℕ) (l : List ℕ) → j < 6 → k < linkLong → getD (linkWords j (chipWords c l)) k 0 ≡ getD l (chipPlace c + linkPlace j + k) 0
 word-at c j k l hj hk =
-    getD-take lineLong (drop (linePlace j) (chipWords c l)) k 0 hk
-    ∙ getD-drop (linePlace j) (chipWords c l) k 0
-    ∙ getD-take chipLong (drop (chipPlace c) l) (linePlace j + k) 0 (omega arith)
-    ∙ getD-drop (chipPlace c) l (linePlace j + k) 0
+    getD-take linkLong (drop (linkPlace j) (chipWords c l)) k 0 hk
+    ∙ getD-drop (linkPlace j) (chipWords c l) k 0
+    ∙ getD-take chipLong (drop (chipPlace c) l) (linkPlace j + k) 0 (omega arith)
+    ∙ getD-drop (chipPlace c) l (linkPlace j + k) 0
     ∙ ap (λ (i : ℕ). getD l i 0) (omega arith)
 
 -- a packet in a link of a chip
-pub packet-there : (c j k : ℕ) (l : List ℕ) → j < 6 → k + 2 < lineLong → packetIn (drop k (lineWords j (chipWords c l))) ≡ packetIn (drop (chipPlace c + linePlace j + k) l)
+pub packet-there : (c j k : ℕ) (l : List ℕ) → j < 6 → k + 2 < linkLong → packetIn (drop k (linkWords j (chipWords c l))) ≡ packetIn (drop (chipPlace c + linkPlace j + k) l)
 packet-there c j k l hj hk =
-    let w = lineWords j (chipWords c l) in
-    let e₀ : getD w k 0 ≡ getD l (chipPlace c + linePlace j + k) 0 = word-at c j k l hj (omega arith) in
-    let e₁ : getD w (k + 1) 0 ≡ getD l (chipPlace c + linePlace j + k + 1) 0 = word-at c j (k + 1) l hj (omega arith) ∙ ap (λ (i : ℕ). getD l i 0) (omega arith) in
-    let e₂ : getD w (k + 2) 0 ≡ getD l (chipPlace c + linePlace j + k + 2) 0 = word-at c j (k + 2) l hj (omega arith) ∙ ap (λ (i : ℕ). getD l i 0) (omega arith) in
-    packet-at w k ∙ (λ i. record { control = e₀ i; nine = carriesOf (e₀ i); word = e₁ i; payload = e₂ i }) ∙ sym (packet-at l (chipPlace c + linePlace j + k))
+    let w = linkWords j (chipWords c l) in
+    let e₀ : getD w k 0 ≡ getD l (chipPlace c + linkPlace j + k) 0 = word-at c j k l hj (omega arith) in
+    let e₁ : getD w (k + 1) 0 ≡ getD l (chipPlace c + linkPlace j + k + 1) 0 = word-at c j (k + 1) l hj (omega arith) ∙ ap (λ (i : ℕ). getD l i 0) (omega arith) in
+    let e₂ : getD w (k + 2) 0 ≡ getD l (chipPlace c + linkPlace j + k + 2) 0 = word-at c j (k + 2) l hj (omega arith) ∙ ap (λ (i : ℕ). getD l i 0) (omega arith) in
+    packet-at w k ∙ (λ i. record { control = e₀ i; nine = carriesOf (e₀ i); word = e₁ i; payload = e₂ i }) ∙ sym (packet-at l (chipPlace c + linkPlace j + k))
 
 -- the packet at one of n places
 pub places-at : (n i : ℕ) (w : List ℕ) (d : Flight (Unit {0})) → i < n → getD (placesIn n w) i d ≡ record { packet = packetIn (drop (i * placeLong) w); tag = tt }

@@ -11,18 +11,18 @@ use borrow.Author.Tests.{ltb-true, eq-eqb, ne-eqb, not-false}
 use Rattle.packet.specs.Refusal.{firstOf}
 use Rattle.packet.proofs.First.{none-applies}
 use Rattle.mesh.specs.Weights.{inFlight}
-use Rattle.links.specs.Offsets.{widthAt, heightAt, roundsAt, monitorAt, phaseAt, elapsedAt, lineLong, countersLong, countersAt, chipLong, chipPlace, linePlace}
-use Rattle.links.specs.Line.{idle}
+use Rattle.links.specs.Offsets.{widthAt, heightAt, roundsAt, monitorAt, phaseAt, elapsedAt, linkLong, countersLong, countersAt, chipLong, chipPlace, linkPlace}
+use Rattle.links.specs.Link.{idle}
 use Rattle.lists.specs.Lists.{part}
-use Rattle.links.specs.Words.{lineIn}
+use Rattle.links.specs.Words.{linkIn}
 use Rattle.mesh.specs.Mesh.{Chip, fresh}
 use Rattle.buffer.specs.Layout.{meshOf, chipsOf}
 use Rattle.buffer.specs.Holding.{holdsMesh}
-use Rattle.buffer.specs.ChipWords.{lineWords}
+use Rattle.buffer.specs.ChipWords.{linkWords}
 use Rattle.buffer.specs.Passing.{chipWords}
-use Rattle.mesh.specs.Calls.{numberRefusals, chipRefusals, lineOf, countRead, meshRead, lineRead, linkRead}
+use Rattle.mesh.specs.Calls.{numberRefusals, chipRefusals, linkOf, countRead, meshRead, linkShown, linkRead}
 use Rattle.lists.proofs.Parts.{take-drop}
-use Rattle.buffer.proofs.ChipParts.{line-at}
+use Rattle.buffer.proofs.ChipParts.{link-at}
 use Rattle.buffer.proofs.MeshParts.{mesh-chip}
 use Rattle.buffer.proofs.HoldsMesh.{words-enough}
 
@@ -50,15 +50,15 @@ number-there l chip number end e =
 -- ---- what stands there
 
 -- the words of a link, as a part of the whole
-pub line-part : (c j : ℕ) (l : List ℕ) → j < 6 → lineWords j (chipWords c l) ≡ part (chipPlace c + linePlace j) lineLong l
-line-part c j l h =
-    take-drop (linePlace j) lineLong (chipWords c l)
-    ∙ ap (drop (linePlace j)) (take-take (linePlace j + lineLong) chipLong (drop (chipPlace c) l) (omega arith))
-    ∙ sym (take-drop (linePlace j) lineLong (drop (chipPlace c) l))
-    ∙ ap (take lineLong) (drop-drop (linePlace j) (chipPlace c) l)
+pub link-part : (c j : ℕ) (l : List ℕ) → j < 6 → linkWords j (chipWords c l) ≡ part (chipPlace c + linkPlace j) linkLong l
+link-part c j l h =
+    take-drop (linkPlace j) linkLong (chipWords c l)
+    ∙ ap (drop (linkPlace j)) (take-take (linkPlace j + linkLong) chipLong (drop (chipPlace c) l) (omega arith))
+    ∙ sym (take-drop (linkPlace j) linkLong (drop (chipPlace c) l))
+    ∙ ap (take linkLong) (drop-drop (linkPlace j) (chipPlace c) l)
 
-pub line-of : (l : List ℕ) (chip link : ℕ) → chip < chipsOf l → link < 6 → lineOf (meshOf l) chip link ≡ lineIn (lineWords link (chipWords chip l))
-line-of l chip link hc hl = ap (λ (c : Chip (Unit {0})). getD (c .lines) link idle) (mesh-chip l chip hc) ∙ line-at link hl (chipWords chip l)
+pub link-of : (l : List ℕ) (chip link : ℕ) → chip < chipsOf l → link < 6 → linkOf (meshOf l) chip link ≡ linkIn (linkWords link (chipWords chip l))
+link-of l chip link hc hl = ap (λ (c : Chip (Unit {0})). getD (c .links) link idle) (mesh-chip l chip hc) ∙ link-at link hl (chipWords chip l)
 
 count-of : (l : List ℕ) (chip k : ℕ) → chip < chipsOf l → k < 10 → getD (getD (meshOf l .chips) chip fresh .counters .count) k 0 ≡ getD l (chipPlace chip + (countersAt + k)) 0
 count-of l chip k hc hk =
@@ -92,16 +92,16 @@ module _ (l : List ℕ) (chip number r : ℕ) where
   unfolding meshOf
   link-refused e some =
       (λ i. record { refusal = e i; up = 0; held = 0; ready = 0 })
-      ∙ sym (ap (λ (b : Bool). cond b (lineRead (lineOf (meshOf l) chip number)) (record { refusal = firstOf (numberRefusals (holdsMesh l) (chipsOf l) chip number 6); up = 0; held = 0; ready = 0 })) (ne-eqb _ 0 (λ z. some (e ∙ z))))
+      ∙ sym (ap (λ (b : Bool). cond b (linkShown (linkOf (meshOf l) chip number)) (record { refusal = firstOf (numberRefusals (holdsMesh l) (chipsOf l) chip number 6); up = 0; held = 0; ready = 0 })) (ne-eqb _ 0 (λ z. some (e ∙ z))))
 
   pub link-found : r ≡ firstOf (numberRefusals (holdsMesh l) (chipsOf l) chip number 6) → r ≡ 0
-      → lineRead (lineIn (part (chipPlace chip + linePlace number) lineLong l)) ≡ linkRead (holdsMesh l) (meshOf l) chip number
+      → linkShown (linkIn (part (chipPlace chip + linkPlace number) linkLong l)) ≡ linkRead (holdsMesh l) (meshOf l) chip number
   unfolding meshOf
   link-found e none =
       let zero-now : firstOf (numberRefusals (holdsMesh l) (chipsOf l) chip number 6) ≡ 0 = sym e ∙ none in
       let h = number-there l chip number 6 zero-now in
-      ap (λ (w : List ℕ). lineRead (lineIn w)) (sym (line-part chip number l (h .1))) ∙ ap lineRead (sym (line-of l chip number (h .0 .near) (h .1)))
-      ∙ sym (ap (λ (b : Bool). cond b (lineRead (lineOf (meshOf l) chip number)) (record { refusal = firstOf (numberRefusals (holdsMesh l) (chipsOf l) chip number 6); up = 0; held = 0; ready = 0 })) (eq-eqb _ 0 zero-now))
+      ap (λ (w : List ℕ). linkShown (linkIn w)) (sym (link-part chip number l (h .1))) ∙ ap linkShown (sym (link-of l chip number (h .0 .near) (h .1)))
+      ∙ sym (ap (λ (b : Bool). cond b (linkShown (linkOf (meshOf l) chip number)) (record { refusal = firstOf (numberRefusals (holdsMesh l) (chipsOf l) chip number 6); up = 0; held = 0; ready = 0 })) (eq-eqb _ 0 zero-now))
 
 pub mesh-found : (l : List ℕ) → holdsMesh l ≡ true → (n : ℕ) → n ≡ inFlight (meshOf l)
     → record { refusal = 0; width = getD l widthAt 0; height = getD l heightAt 0; «rounds_per_phase» = getD l roundsAt 0; monitor = getD l monitorAt 0; phase = getD l phaseAt 0; «rounds_in_phase» = getD l elapsedAt 0; «in_flight» = n } ≡ meshRead (holdsMesh l) (meshOf l)

@@ -10,34 +10,34 @@ use lib.ListN.{length, getD, set, length-set}
 use lib.Seq.{getD-set-same, getD-set-other, drop-set-lt}
 use Rattle.packet.specs.Refusal.{firstOf}
 use Rattle.mesh.specs.declared.Added.{Added}
-use Rattle.links.specs.Offsets.{widthAt, heightAt, stateAt, heldAt, lineLong, chipLong, chipPlace, linePlace}
-use Rattle.links.specs.Words.{placesIn, lineIn}
-use Rattle.links.specs.LineWords.{stateOf}
+use Rattle.links.specs.Offsets.{widthAt, heightAt, stateAt, heldAt, linkLong, chipLong, chipPlace, linkPlace}
+use Rattle.links.specs.Words.{placesIn, linkIn}
+use Rattle.links.specs.LinkWords.{stateOf}
 use Rattle.buffer.specs.Layout.{meshOf, wordsFor, chipsOf, wordsOf}
 use Rattle.mesh.specs.Steps.{Going, withChip}
 use Rattle.buffer.specs.Holding.{holdsMesh, StatesFine}
 use Rattle.lists.specs.Lists.{putBack}
-use Rattle.buffer.specs.ChipWords.{changedOn, lineWords}
+use Rattle.buffer.specs.ChipWords.{changedOn, linkWords}
 use Rattle.buffer.specs.Passing.{chipWords}
 use Rattle.mesh.specs.Sound.{SoundMesh}
-use Rattle.mesh.specs.Calls.{numberRefusals, unless, lineOf, withUp, withLink}
+use Rattle.mesh.specs.Calls.{numberRefusals, unless, linkOf, withUp, withLink}
 use Rattle.buffer.specs.Leaving.{Leaves, linkLeft, stateOn}
 use Rattle.lists.proofs.Parts.{length-back, part-same, part-before, part-behind, take-before, drop-behind}
-use Rattle.buffer.proofs.ChipParts.{order, words-other, words-same, chip-line}
+use Rattle.buffer.proofs.ChipParts.{order, words-other, words-same, chip-link}
 use Rattle.buffer.proofs.MeshParts.{mesh-chip, mesh-put}
 use Rattle.buffer.proofs.StepAt.{chip-long}
-use Rattle.buffer.proofs.LinksChanged.{line-long}
+use Rattle.buffer.proofs.LinksChanged.{link-long}
 use Rattle.buffer.proofs.Headers.{head-same}
 use Rattle.mesh.proofs.SoundChanges.{sound-linked}
 use Rattle.buffer.proofs.HoldsMesh.{words-enough}
 use Rattle.buffer.proofs.SoundWords.{holds-sound, holds-states, sound-holds}
 use Rattle.buffer.proofs.Leaving.{refused-leaves, accepted-leaves, accepted-refusal}
-use Rattle.buffer.proofs.Looks.{There, number-there, line-of}
+use Rattle.buffer.proofs.Looks.{There, number-there, link-of}
 
 -- ---- one chip's words changed
 
 module _ (l : List ℕ) (chip : ℕ) (h : There l chip) (ys : List ℕ) (sized : length ys ≡ chipLong)
-    (states : (j : ℕ) → j < 6 → getD (lineWords j (chipWords chip l)) stateAt 0 ≤ 1 → getD (lineWords j ys) stateAt 0 ≤ 1) where
+    (states : (j : ℕ) → j < 6 → getD (linkWords j (chipWords chip l)) stateAt 0 ≤ 1 → getD (linkWords j ys) stateAt 0 ≤ 1) where
   abbrev changed : List ℕ
   changed = putBack (chipPlace chip) chipLong ys l
 
@@ -50,16 +50,16 @@ module _ (l : List ℕ) (chip : ℕ) (h : There l chip) (ys : List ℕ) (sized :
       there : c < chipsOf l
       there = subst (λ (k : ℕ). c < k) (λ i. number heightAt (lit< tt) i * number widthAt (lit< tt) i) hc
 
-      old : getD (lineWords j (chipWords c l)) stateAt 0 ≤ 1
+      old : getD (linkWords j (chipWords c l)) stateAt 0 ≤ 1
       old = holds-states l (h .holds) c j there hj
 
-      by : (w : List ℕ) → chipWords c changed ≡ w → getD (lineWords j w) stateAt 0 ≤ 1 → getD (lineWords j (chipWords c changed)) stateAt 0 ≤ 1
-      by w e f = subst (λ (v : List ℕ). getD (lineWords j v) stateAt 0 ≤ 1) (sym e) f
+      by : (w : List ℕ) → chipWords c changed ≡ w → getD (linkWords j w) stateAt 0 ≤ 1 → getD (linkWords j (chipWords c changed)) stateAt 0 ≤ 1
+      by w e f = subst (λ (v : List ℕ). getD (linkWords j v) stateAt 0 ≤ 1) (sym e) f
 
-      go : (chip < c) ⊎ ((chip ≡ c) ⊎ (c < chip)) → getD (lineWords j (chipWords c changed)) stateAt 0 ≤ 1
+      go : (chip < c) ⊎ ((chip ≡ c) ⊎ (c < chip)) → getD (linkWords j (chipWords c changed)) stateAt 0 ≤ 1
       go (inl f) = by (chipWords c l) (part-behind (chipPlace chip) chipLong ys l (h .fits) sized (chipPlace c) chipLong (omega arith)) old
-      go (inr (inl e)) = subst (λ (k : ℕ). getD (lineWords j (chipWords k changed)) stateAt 0 ≤ 1) e
-          (subst (λ (v : List ℕ). getD (lineWords j v) stateAt 0 ≤ 1) (sym (part-same (chipPlace chip) chipLong ys l (h .fits) sized)) (states j hj (holds-states l (h .holds) chip j (h .near) hj)))
+      go (inr (inl e)) = subst (λ (k : ℕ). getD (linkWords j (chipWords k changed)) stateAt 0 ≤ 1) e
+          (subst (λ (v : List ℕ). getD (linkWords j v) stateAt 0 ≤ 1) (sym (part-same (chipPlace chip) chipLong ys l (h .fits) sized)) (states j hj (holds-states l (h .holds) chip j (h .near) hj)))
       go (inr (inr f)) = by (chipWords c l) (part-before (chipPlace chip) chipLong ys l (h .fits) sized (chipPlace c) chipLong (omega arith)) old
 
   -- an accepted call that changes one chip, to a sound mesh
@@ -81,8 +81,8 @@ state-up : (up : Bool) → eqb (stateOf up) 0 ≡ up
 state-up true = refl
 state-up false = refl
 
-line-state : (up : Bool) (w : List ℕ) → length w ≡ lineLong → lineIn (stateOn up 0 w) ≡ withUp up (lineIn w)
-line-state up w long =
+link-state : (up : Bool) (w : List ℕ) → length w ≡ linkLong → linkIn (stateOn up 0 w) ≡ withUp up (linkIn w)
+link-state up w long =
     let count : getD (set w stateAt (stateOf up)) heldAt 0 ≡ getD w heldAt 0 = getD-set-other w stateAt heldAt (stateOf up) 0 (λ e. omega arith) in
     λ i. record {
       up = (ap (λ (k : ℕ). eqb k 0) (getD-set-same w 0 (stateOf up) 0 (omega arith)) ∙ state-up up) i;
@@ -101,30 +101,30 @@ module _ (l : List ℕ) (chip link : ℕ) (up : Bool) where
   unfolding meshOf
   link-leaves none =
       let h = number-there l chip link 6 none in
-      let w = lineWords link (chipWords chip l) in
+      let w = linkWords link (chipWords chip l) in
       let whole : length (chipWords chip l) ≡ chipLong = chip-long l chip (h .0 .fits) in
-      let long : length (stateOn up link w) ≡ lineLong = length-set w stateAt (stateOf up) ∙ line-long link (chipWords chip l) (h .1) whole in
+      let long : length (stateOn up link w) ≡ linkLong = length-set w stateAt (stateOf up) ∙ link-long link (chipWords chip l) (h .1) whole in
       let ys = changedOn (stateOn up) (chipWords chip l) link in
-      let sized : length ys ≡ chipLong = length-back (linePlace link) lineLong (stateOn up link w) (chipWords chip l) (omega (arith, h .1, whole)) long ∙ whole in
-      let states : (j : ℕ) → j < 6 → getD (lineWords j (chipWords chip l)) stateAt 0 ≤ 1 → getD (lineWords j ys) stateAt 0 ≤ 1 = λ j hj old. go j hj old (order link j) h whole long in
-      let c = chip-line link (h .1) (stateOn up link w) (chipWords chip l) whole long in
-      let line : lineIn (stateOn up link w) ≡ withUp up (lineOf (meshOf l) chip link) = line-state up w (line-long link (chipWords chip l) (h .1) whole) ∙ ap (withUp up) (sym (line-of l chip link (h .0 .near) (h .1))) in
+      let sized : length ys ≡ chipLong = length-back (linkPlace link) linkLong (stateOn up link w) (chipWords chip l) (omega (arith, h .1, whole)) long ∙ whole in
+      let states : (j : ℕ) → j < 6 → getD (linkWords j (chipWords chip l)) stateAt 0 ≤ 1 → getD (linkWords j ys) stateAt 0 ≤ 1 = λ j hj old. go j hj old (order link j) h whole long in
+      let c = chip-link link (h .1) (stateOn up link w) (chipWords chip l) whole long in
+      let up-set : linkIn (stateOn up link w) ≡ withUp up (linkOf (meshOf l) chip link) = link-state up w (link-long link (chipWords chip l) (h .1) whole) ∙ ap (withUp up) (sym (link-of l chip link (h .0 .near) (h .1))) in
       let mesh : meshOf (putBack (chipPlace chip) chipLong ys l) ≡ withLink (meshOf l) chip link up =
       mesh-put chip ys l (h .0 .fits) sized (h .0 .near) ∙ ap (withChip (meshOf l) chip) c
       ∙ (λ i. withChip (meshOf l) chip (record {
         registers = sym (mesh-chip l chip (h .0 .near)) i .registers;
         counters = sym (mesh-chip l chip (h .0 .near)) i .counters;
-        lines = set (sym (mesh-chip l chip (h .0 .near)) i .lines) link (line i);
+        links = set (sym (mesh-chip l chip (h .0 .near)) i .links) link (up-set i);
       })) in (
         accepted-refusal (firstOf (numberRefusals (holdsMesh l) (chipsOf l) chip link 6)) 0 (meshOf l) (record { mesh = withLink (meshOf l) chip link up; log = [] }) none,
         chip-leaves l chip (h .0) ys sized states (firstOf (numberRefusals (holdsMesh l) (chipsOf l) chip link 6)) none (record { mesh = withLink (meshOf l) chip link up; log = [] }) mesh (sound-linked (holds-sound l (h .0 .holds)) chip link up (h .0 .near) (h .1)),
       )
     where
-      go : (j : ℕ) → j < 6 → getD (lineWords j (chipWords chip l)) stateAt 0 ≤ 1 → (link < j) ⊎ ((link ≡ j) ⊎ (j < link)) → There l chip × (link < 6) → length (chipWords chip l) ≡ chipLong
-          → length (stateOn up link (lineWords link (chipWords chip l))) ≡ lineLong → getD (lineWords j (changedOn (stateOn up) (chipWords chip l) link)) stateAt 0 ≤ 1
-      go j hj old (inl f) h whole long = subst (λ (v : List ℕ). getD v stateAt 0 ≤ 1) (sym (words-other link (h .1) (stateOn up link (lineWords link (chipWords chip l))) (chipWords chip l) whole long j (λ e. omega arith))) old
-      go j hj old (inr (inr f)) h whole long = subst (λ (v : List ℕ). getD v stateAt 0 ≤ 1) (sym (words-other link (h .1) (stateOn up link (lineWords link (chipWords chip l))) (chipWords chip l) whole long j (λ e. omega arith))) old
+      go : (j : ℕ) → j < 6 → getD (linkWords j (chipWords chip l)) stateAt 0 ≤ 1 → (link < j) ⊎ ((link ≡ j) ⊎ (j < link)) → There l chip × (link < 6) → length (chipWords chip l) ≡ chipLong
+          → length (stateOn up link (linkWords link (chipWords chip l))) ≡ linkLong → getD (linkWords j (changedOn (stateOn up) (chipWords chip l) link)) stateAt 0 ≤ 1
+      go j hj old (inl f) h whole long = subst (λ (v : List ℕ). getD v stateAt 0 ≤ 1) (sym (words-other link (h .1) (stateOn up link (linkWords link (chipWords chip l))) (chipWords chip l) whole long j (λ e. omega arith))) old
+      go j hj old (inr (inr f)) h whole long = subst (λ (v : List ℕ). getD v stateAt 0 ≤ 1) (sym (words-other link (h .1) (stateOn up link (linkWords link (chipWords chip l))) (chipWords chip l) whole long j (λ e. omega arith))) old
       go j hj old (inr (inl e)) h whole long =
-          subst (λ (k : ℕ). getD (lineWords k (changedOn (stateOn up) (chipWords chip l) link)) stateAt 0 ≤ 1) e
-          (subst (λ (v : List ℕ). getD v stateAt 0 ≤ 1) (sym (words-same link (h .1) (stateOn up link (lineWords link (chipWords chip l))) (chipWords chip l) whole long))
-          (subst (λ (k : ℕ). k ≤ 1) (sym (getD-set-same (lineWords link (chipWords chip l)) 0 (stateOf up) 0 (omega (arith, line-long link (chipWords chip l) (h .1) whole)))) (state-fine up)))
+          subst (λ (k : ℕ). getD (linkWords k (changedOn (stateOn up) (chipWords chip l) link)) stateAt 0 ≤ 1) e
+          (subst (λ (v : List ℕ). getD v stateAt 0 ≤ 1) (sym (words-same link (h .1) (stateOn up link (linkWords link (chipWords chip l))) (chipWords chip l) whole long))
+          (subst (λ (k : ℕ). k ≤ 1) (sym (getD-set-same (linkWords link (chipWords chip l)) 0 (stateOf up) 0 (omega (arith, link-long link (chipWords chip l) (h .1) whole)))) (state-fine up)))

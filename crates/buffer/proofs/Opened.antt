@@ -15,7 +15,7 @@ use Rattle.links.specs.Words.{placesIn}
 use Rattle.buffer.specs.Layout.{chipIn, chipsIn, meshOf, wordsFor}
 use Rattle.buffer.specs.Opening.{openRefusals, openedWords}
 use Rattle.buffer.specs.Holding.{holdsMesh, StatesFine}
-use Rattle.buffer.specs.ChipWords.{lineWords}
+use Rattle.buffer.specs.ChipWords.{linkWords}
 use Rattle.buffer.specs.Passing.{chipWords}
 use Rattle.mesh.specs.Sound.{SoundMesh}
 use Rattle.mesh.proofs.SoundSteps.{sound-opened}
@@ -56,21 +56,21 @@ opened-mesh l w h f m =
 
 -- ---- and it holds a mesh
 
-line-zeros : (j : ℕ) → j < 6 → getD (lineWords j (replicate chipLong 0)) stateAt 0 ≡ 0
-line-zeros zero h = refl
-line-zeros (suc zero) h = refl
-line-zeros (suc (suc zero)) h = refl
-line-zeros (suc (suc (suc zero))) h = refl
-line-zeros (suc (suc (suc (suc zero)))) h = refl
-line-zeros (suc (suc (suc (suc (suc zero))))) h = refl
-line-zeros (suc (suc (suc (suc (suc (suc j)))))) h = absurd (omega arith)
+link-zeros : (j : ℕ) → j < 6 → getD (linkWords j (replicate chipLong 0)) stateAt 0 ≡ 0
+link-zeros zero h = refl
+link-zeros (suc zero) h = refl
+link-zeros (suc (suc zero)) h = refl
+link-zeros (suc (suc (suc zero))) h = refl
+link-zeros (suc (suc (suc (suc zero)))) h = refl
+link-zeros (suc (suc (suc (suc (suc zero))))) h = refl
+link-zeros (suc (suc (suc (suc (suc (suc j)))))) h = absurd (omega arith)
 
 -- "Each buffer left by opening ... holds one".
 pub opened-holds : (l : List ℕ) (w h f m : ℕ) → firstOf (openRefusals (length l) w h f m) ≡ 0 → holdsMesh (openedWords l w h f m) ≡ true
 opened-holds l w h f m none =
     let off = none-applies (openRefusals (length l) w h f m) refl none in
     let states : StatesFine (openedWords l w h f m) =
-    λ c j hc hj. omega (arith, ap (λ (x : List ℕ). getD (lineWords j x) stateAt 0) (words-zeros w h f m (drop (wordsFor w h) l) (h * w) c hc) ∙ line-zeros j hj) in
+    λ c j hc hj. omega (arith, ap (λ (x : List ℕ). getD (linkWords j x) stateAt 0) (words-zeros w h f m (drop (wordsFor w h) l) (h * w) c hc) ∙ link-zeros j hj) in
     let enough : wordsFor w h ≤ length l = ltb-false _ _ (off .1 .1 .1 .0) in
     let long : length (replicate (h * w * chipLong) 0 ++ drop (wordsFor w h) l) ≡ h * w * chipLong + (length l - wordsFor w h) = simp (length-append, length-replicate, length-drop) in
     sound-holds (openedWords l w h f m)

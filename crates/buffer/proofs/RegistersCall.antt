@@ -12,12 +12,12 @@ use Rattle.kept.specs.declared.Registers.{Registers}
 use Rattle.kept.specs.Keeping.{empty}
 use Rattle.mesh.specs.Mesh.{Chip}
 use Rattle.lists.specs.Lists.{part, putBack}
-use Rattle.links.specs.Offsets.{stateAt, lineLong, registersLong, countersLong, countersAt, chipLong, chipPlace, linePlace}
-use Rattle.links.specs.Words.{lineIn}
+use Rattle.links.specs.Offsets.{stateAt, linkLong, registersLong, countersLong, countersAt, chipLong, chipPlace, linkPlace}
+use Rattle.links.specs.Words.{linkIn}
 use Rattle.buffer.specs.Layout.{registersIn, registerWords, chipIn, meshOf, chipsOf}
 use Rattle.mesh.specs.Steps.{withChip}
 use Rattle.buffer.specs.Holding.{holdsMesh}
-use Rattle.buffer.specs.ChipWords.{lineWords}
+use Rattle.buffer.specs.ChipWords.{linkWords}
 use Rattle.buffer.specs.Passing.{chipWords}
 use Rattle.mesh.specs.Calls.{chipRefusals, chipOf, withEmpty, registersRead}
 use Rattle.buffer.specs.Leaving.{Leaves, registersLeft}
@@ -41,15 +41,15 @@ module _ (w : List ℕ) (long : length w ≡ chipLong) where
   emptied-long : length (putBack 0 registersLong (registerWords empty) w) ≡ chipLong
   emptied-long = length-back 0 registersLong (registerWords empty) w fits refl ∙ long
 
-  line-kept : (j : ℕ) → lineWords j (putBack 0 registersLong (registerWords empty) w) ≡ lineWords j w
-  line-kept j = behind (linePlace j) lineLong (omega arith)
+  link-kept : (j : ℕ) → linkWords j (putBack 0 registersLong (registerWords empty) w) ≡ linkWords j w
+  link-kept j = behind (linkPlace j) linkLong (omega arith)
 
-  chip-emptied : chipIn (putBack 0 registersLong (registerWords empty) w) ≡ record { registers = empty; counters = chipIn w .counters; lines = chipIn w .lines }
+  chip-emptied : chipIn (putBack 0 registersLong (registerWords empty) w) ≡ record { registers = empty; counters = chipIn w .counters; links = chipIn w .links }
   chip-emptied =
       λ i. record {
         registers = (ap registersIn (part-same 0 registersLong (registerWords empty) w fits refl) ∙ registers-back empty) i;
         counters = record { count = behind countersAt countersLong (omega arith) i };
-        lines = lineIn (line-kept 0 i) ∷ lineIn (line-kept 1 i) ∷ lineIn (line-kept 2 i) ∷ lineIn (line-kept 3 i) ∷ lineIn (line-kept 4 i) ∷ lineIn (line-kept 5 i) ∷ [];
+        links = linkIn (link-kept 0 i) ∷ linkIn (link-kept 1 i) ∷ linkIn (link-kept 2 i) ∷ linkIn (link-kept 3 i) ∷ linkIn (link-kept 4 i) ∷ linkIn (link-kept 5 i) ∷ [];
       }
 
 module _ (l : List ℕ) (chip r : ℕ) (e : r ≡ firstOf (chipRefusals (holdsMesh l) (chipsOf l) chip)) where
@@ -73,10 +73,10 @@ module _ (l : List ℕ) (chip r : ℕ) (e : r ≡ firstOf (chipRefusals (holdsMe
       let ys = putBack 0 registersLong (registerWords empty) w in
       let mesh : meshOf (putBack (chipPlace chip) chipLong ys l) ≡ withEmpty (meshOf l) chip =
       mesh-put chip ys l (h .fits) (emptied-long w whole) (h .near) ∙ ap (withChip (meshOf l) chip) (chip-emptied w whole)
-      ∙ ap (λ (c : Chip (Unit {0})). withChip (meshOf l) chip (record { registers = empty; counters = c .counters; lines = c .lines })) (sym (mesh-chip l chip (h .near))) in
+      ∙ ap (λ (c : Chip (Unit {0})). withChip (meshOf l) chip (record { registers = empty; counters = c .counters; links = c .links })) (sym (mesh-chip l chip (h .near))) in
       let registers : found ≡ chipOf (meshOf l) chip .registers =
       f ∙ ap registersIn (sym (take-take registersLong chipLong (drop (chipPlace chip) l) (omega arith))) ∙ ap (λ (c : Chip (Unit {0})). c .registers) (sym (mesh-chip l chip (h .near))) in (
         (λ i. record { refusal = sym off i; registers = (registers ∙ sym (ap (λ (b : Bool). cond b (chipOf (meshOf l) chip .registers) empty) (eq-eqb _ 0 off))) i }),
-        chip-leaves l chip h ys (emptied-long w whole) (λ j hj old. subst (λ (v : List ℕ). getD v stateAt 0 ≤ 1) (sym (line-kept w whole j)) old) (firstOf (chipRefusals (holdsMesh l) (chipsOf l) chip)) off
+        chip-leaves l chip h ys (emptied-long w whole) (λ j hj old. subst (λ (v : List ℕ). getD v stateAt 0 ≤ 1) (sym (link-kept w whole j)) old) (firstOf (chipRefusals (holdsMesh l) (chipsOf l) chip)) off
             (record { mesh = withEmpty (meshOf l) chip; log = [] }) mesh (sound-emptied (holds-sound l (h .holds)) chip (h .near)),
       )

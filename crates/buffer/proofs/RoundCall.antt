@@ -13,11 +13,11 @@ use Rattle.mesh.specs.Mesh.{Chip, Mesh, fresh}
 use Rattle.buffer.specs.Layout.{meshOf, wordsFor, chipsOf, wordsOf}
 use Rattle.mesh.specs.Steps.{Tables, Going, setAside, arrivals, passAt, roundOver, rounded, same}
 use Rattle.buffer.specs.Holding.{holdsMesh, StatesFine}
-use Rattle.buffer.specs.ChipWords.{lineWords}
+use Rattle.buffer.specs.ChipWords.{linkWords}
 use Rattle.buffer.specs.Passing.{chipWords}
 use Rattle.lists.specs.Lists.{All, upTo}
-use Rattle.mesh.specs.Sound.{Arrives, SoundLine, SoundChip, SoundMesh}
-use Rattle.mesh.specs.Weights.{onLine, onChip, inFlight}
+use Rattle.mesh.specs.Sound.{Arrives, SoundLink, SoundChip, SoundMesh}
+use Rattle.mesh.specs.Weights.{onLink, onChip, inFlight}
 use Rattle.buffer.specs.Aside.{AsideUpto}
 use Rattle.buffer.specs.PassesInTurn.{asideFrom, goingIn, DueAside, Passed}
 use Rattle.mesh.specs.Calls.{Lent, roundRefusals, placeIn}
@@ -61,7 +61,7 @@ module _ (l : List ℕ) (holds : holdsMesh l ≡ true) where
   held-most =
       let chip : (c : Chip (Unit {0})) → SoundChip c → onChip (λ f. 1) c ≤ 48 =
       λ c s. subst (λ (n : ℕ). onChip (λ f. 1) c ≤ n * 8) (s .six)
-      (total-most (onLine (λ f. 1)) 8 (c .lines) (all-weaken SoundLine (λ x. onLine (λ f. 1) x ≤ 8) (λ x h. subst (λ (n : ℕ). n ≤ 8) (sym (total-ones (x .held))) (h .few)) (c .lines) (s .lines))) in
+      (total-most (onLink (λ f. 1)) 8 (c .links) (all-weaken SoundLink (λ x. onLink (λ f. 1) x ≤ 8) (λ x h. subst (λ (n : ℕ). n ≤ 8) (sym (total-ones (x .held))) (h .few)) (c .links) (s .links))) in
       let all = total-most (onChip (λ f. 1)) 48 (meshOf l .chips) (all-weaken SoundChip (λ c. onChip (λ f. 1) c ≤ 48) chip (meshOf l .chips) (held-sound .chips)) in
       let few : length (meshOf l .chips) ≤ 144 = subst (λ (n : ℕ). n ≤ 144) (sym (held-sound .many)) (sizes.chips-small (meshOf l .width) (meshOf l .height) (held-sound .size)) in
       omega (arith, all, few)
@@ -161,8 +161,8 @@ module _ (t : Tables) (l log : List ℕ) (none : firstOf (roundRefusals (holdsMe
         let same-size : chipsOf (overWords l₂) ≡ chipsOf l =
         ap (λ (m : Mesh (Unit {0})). m .height * m .width) (mesh-over l₂ long-enough) ∙ (λ i. head-same l₁ l₂ (p .head) heightAt (lit< tt) i * head-same l₁ l₂ (p .head) widthAt (lit< tt) i) ∙ chips-same in
         let there : c < chipsOf l = subst (λ (k : ℕ). c < k) same-size hc in
-        let e : getD (lineWords j (chipWords c (overWords l₂))) stateAt 0 ≡ getD (lineWords j (chipWords c l)) stateAt 0 =
-        ap (λ (w : List ℕ). getD (lineWords j w) stateAt 0) over ∙ ap (λ (w : List ℕ). getD w stateAt 0) (p .still c j hj) ∙ u .done c there .states j hj in
+        let e : getD (linkWords j (chipWords c (overWords l₂))) stateAt 0 ≡ getD (linkWords j (chipWords c l)) stateAt 0 =
+        ap (λ (w : List ℕ). getD (linkWords j w) stateAt 0) over ∙ ap (λ (w : List ℕ). getD w stateAt 0) (p .still c j hj) ∙ u .done c there .states j hj in
         subst (λ (k : ℕ). k ≤ 1) (sym e) (holds-states l (go .holds) c j there hj)
 
     long-left : length (overWords l₂) ≡ length l

@@ -9,20 +9,20 @@ use lib.Dec.{ltb, lit<}
 use lib.ListN.{length, getD, take, drop, set, length-set}
 use lib.Seq.{getD-set-same, getD-set-other, drop-set-lt}
 use Rattle.links.specs.Offsets.{widthAt, heightAt, roundsAt, monitorAt, phaseAt, elapsedAt, headerLong, heldAt, placesAt, asideAt, asidePlacesAt, chipLong, chipPlace}
-use Rattle.links.specs.Line.{Flight, idle}
+use Rattle.links.specs.Link.{Flight, idle}
 use Rattle.links.specs.Across.{across, opposite}
 use Rattle.links.specs.Phase.{nextPhase}
 use Rattle.links.specs.Words.{asideIn}
 use Rattle.mesh.specs.Mesh.{Chip}
 use Rattle.buffer.specs.Layout.{chipIn, chipsIn, meshOf, chipsOf}
 use Rattle.mesh.specs.Steps.{emptiedChip, setAside, arrivingBy, arrivingAt, arrivingFrom, arrivals, roundOver}
-use Rattle.buffer.specs.ChipWords.{lineWords}
+use Rattle.buffer.specs.ChipWords.{linkWords}
 use Rattle.buffer.specs.Passing.{chipWords}
 use Rattle.buffer.specs.Aside.{AsideUpto}
 use Rattle.buffer.specs.PassesInTurn.{asideBy, asideFrom, AsideFew}
 use Rattle.lists.specs.Lists.{upTo}
 use Rattle.buffer.specs.Leaving.{overWords}
-use Rattle.buffer.proofs.ChipParts.{line-at}
+use Rattle.buffer.proofs.ChipParts.{link-at}
 use Rattle.buffer.proofs.MeshParts.{mesh-chip}
 use Rattle.links.proofs.Places.{length-places}
 use Rattle.mesh.proofs.SoundArrivals.{across-there, opposite-there}
@@ -64,9 +64,9 @@ module _ (l l₁ : List ℕ) (u : AsideUpto (chipsOf l) (chipsOf l) l l₁) wher
         let there : from < chipsOf l = across-there (getD l widthAt 0) (getD l heightAt 0) chip source (fine .wide) (fine .tall) in
         let j = opposite source in
         ap (map (λ (f : Flight (Unit {0})). record { chip = chip; source = source; flight = f }))
-        ((λ i. asideIn (lineWords j (chipWords (across (number widthAt (lit< tt) i) (number heightAt (lit< tt) i) chip source) l₁)))
+        ((λ i. asideIn (linkWords j (chipWords (across (number widthAt (lit< tt) i) (number heightAt (lit< tt) i) chip source) l₁)))
         ∙ u .done from there .aside j (opposite-there source)
-        ∙ sym (ap (λ (c : Chip (Unit {0})). getD (c .lines) j idle .held) (mesh-chip l from there) ∙ ap (λ (x : _). x .held) (line-at j (opposite-there source) (chipWords from l))))
+        ∙ sym (ap (λ (c : Chip (Unit {0})). getD (c .links) j idle .held) (mesh-chip l from there) ∙ ap (λ (x : _). x .held) (link-at j (opposite-there source) (chipWords from l))))
 
     pub at-aside : (chip : ℕ) → asideFrom l₁ chip ≡ arrivingAt (meshOf l) chip
     unfolding upTo
@@ -85,11 +85,11 @@ module _ (l l₁ : List ℕ) (u : AsideUpto (chipsOf l) (chipsOf l) l l₁) wher
         upto-same (asideFrom l₁) (arrivingAt (meshOf l)) (chipsOf l) (λ c h. at-aside c) ∙ ap (upTo (arrivingAt (meshOf l))) (sym (zero-add (chipsOf l))) ∙ from-upto (chipsOf l) 0
 
     -- no link has set more aside than it held
-    pub few-aside : ((c j : ℕ) → c < chipsOf l → j < 6 → getD (lineWords j (chipWords c l)) heldAt 0 ≤ 8) → AsideFew l₁
+    pub few-aside : ((c j : ℕ) → c < chipsOf l → j < 6 → getD (linkWords j (chipWords c l)) heldAt 0 ≤ 8) → AsideFew l₁
     few-aside few c j hc hj =
         let there : c < chipsOf l = subst (λ (k : ℕ). c < k) (λ i. number heightAt (lit< tt) i * number widthAt (lit< tt) i) hc in
-        let w = lineWords j (chipWords c l) in
-        let w₁ = lineWords j (chipWords c l₁) in
+        let w = linkWords j (chipWords c l) in
+        let w₁ = linkWords j (chipWords c l₁) in
         let e : getD w₁ asideAt 0 ≡ getD w heldAt 0 =
         sym (length-places (getD w₁ asideAt 0) (drop asidePlacesAt w₁)) ∙ ap length (u .done c there .aside j hj) ∙ length-places (getD w heldAt 0) (drop placesAt w) in
         subst (λ (k : ℕ). k ≤ 8) (sym e) (few c j there hj)

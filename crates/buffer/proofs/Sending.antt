@@ -15,10 +15,10 @@ use Rattle.steps.specs.Links.{has}
 use Rattle.steps.specs.Deciding.{packetOn, legPacket}
 use Rattle.steps.proofs.LowestFirst.{Lowest, lowest-link}
 use Rattle.links.specs.Offsets.{heldAt}
-use Rattle.links.specs.LineWords.{pushed, pushedIf}
+use Rattle.links.specs.LinkWords.{pushed, pushedIf}
 use Rattle.links.proofs.Places.{length-pushed-if, room-first, room-second}
-use Rattle.buffer.specs.ChipWords.{changedOn, lineWords, pushing, PushFits, sending, Takes, ChangedBut, among}
-use Rattle.buffer.proofs.LinksChanged.{Without, line-long, none-among, begin, next}
+use Rattle.buffer.specs.ChipWords.{changedOn, linkWords, pushing, PushFits, sending, Takes, ChangedBut, among}
+use Rattle.buffer.proofs.LinksChanged.{Without, link-long, none-among, begin, next}
 
 by-lowest : (n i r : ℕ) → Lowest n i r → Without (among n) i (among r)
 by-lowest n i r low =
@@ -53,7 +53,7 @@ module _ (set : ℕ) (p : ℕ → Packet) where
   none-yet l f = record {
     small = f .small;
     within = λ j hj h. h;
-    changed = begin (pushing set p) (among set) l (f .long) (λ j hj out. none-pushed j (lineWords j l) out);
+    changed = begin (pushing set p) (among set) l (f .long) (λ j hj out. none-pushed j (linkWords j l) out);
   }
 
   module _ (rest : ℕ) (l k : List ℕ) (f : PushFits set l) (u : Pushed rest l k) (some : rest ≡ 0 → ⊥) where
@@ -66,7 +66,7 @@ module _ (set : ℕ) (p : ℕ → Packet) where
     pub link-less : bitAnd rest (rest - 1) < rest
     link-less = low .less
 
-    pub link-fits : getD (lineWords (trailingZeros 32 rest) k) heldAt 0 ≤ 7
+    pub link-fits : getD (linkWords (trailingZeros 32 rest) k) heldAt 0 ≤ 7
     link-fits =
         subst (λ (w : List ℕ). getD w heldAt 0 ≤ 7) (sym (u .changed .todo (trailingZeros 32 rest) (low .below) (low .there)))
         (f .room (trailingZeros 32 rest) (low .below) (u .within (trailingZeros 32 rest) (low .below) (low .there)))
@@ -82,7 +82,7 @@ module _ (set : ℕ) (p : ℕ → Packet) where
           changed =
               subst (λ (b : Bool). ChangedBut (pushing set p) (among (bitAnd rest (rest - 1))) l (changedOn (λ _ w. pushedIf b w (p i)) k i)) inside
               (next (pushing set p) (among rest) (among (bitAnd rest (rest - 1))) i l k (low .below) without
-              (length-pushed-if (has set i) (lineWords i l) (p i) ∙ line-long i l (low .below) (f .long))
+              (length-pushed-if (has set i) (linkWords i l) (p i) ∙ link-long i l (low .below) (f .long))
               (u .changed));
         }
 
@@ -90,7 +90,7 @@ module _ (set : ℕ) (p : ℕ → Packet) where
 
 module _ (l : List ℕ) (o : Outcome) (t : Takes l o) where
   pub packets-fit : PushFits (o .sent) l
-  packets-fit = record { long = t .long; small = t .sent; room = λ i hi h. room-first (lineWords i l) o i (line-long i l hi (t .long)) (t .room i hi) h }
+  packets-fit = record { long = t .long; small = t .sent; room = λ i hi h. room-first (linkWords i l) o i (link-long i l hi (t .long)) (t .room i hi) h }
 
   module _ (k : List ℕ) (u : ChangedBut (pushing (o .sent) (packetOn o)) (among 0) l k) where
     pub legs-fit : PushFits (o .«leg_sent») k
@@ -99,7 +99,7 @@ module _ (l : List ℕ) (o : Outcome) (t : Takes l o) where
       small = t .legSent;
       room = λ i hi h.
           subst (λ (w : List ℕ). getD w heldAt 0 ≤ 7) (sym (u .done i hi (none-among i hi)))
-          (room-second (lineWords i l) o i (line-long i l hi (t .long)) (t .room i hi) h);
+          (room-second (linkWords i l) o i (link-long i l hi (t .long)) (t .room i hi) h);
     }
 
     pub both-sent : (m : List ℕ) → ChangedBut (pushing (o .«leg_sent») (λ _. legPacket o)) (among 0) k m → ChangedBut (sending o) (among 0) l m

@@ -9,19 +9,19 @@ use lib.ListN.{length, getD, drop}
 use borrow.Author.Tests.{ltb-true, leb-true, le-leb, lt-ltb}
 use Rattle.tables.specs.Sizes.{sizeFine}
 use Rattle.links.specs.Offsets.{widthAt, heightAt, roundsAt, monitorAt, phaseAt, elapsedAt, headerLong, stateAt, heldAt, placesAt, placeLong, registersLong}
-use Rattle.links.specs.Line.{Flight, idle}
+use Rattle.links.specs.Link.{Flight, idle}
 use Rattle.lists.specs.Lists.{part, All}
-use Rattle.links.specs.Words.{packetIn, placesIn, lineIn}
+use Rattle.links.specs.Words.{packetIn, placesIn, linkIn}
 use Rattle.buffer.specs.Layout.{registersIn, chipIn, chipsIn, meshOf, chipsOf, wordsOf}
-use Rattle.buffer.specs.ChipWords.{lineWords}
+use Rattle.buffer.specs.ChipWords.{linkWords}
 use Rattle.buffer.specs.Passing.{chipWords}
-use Rattle.mesh.specs.Sound.{packetFine, registersFine, SoundPacket, SoundLine, SoundChip, SoundMesh}
-use Rattle.buffer.specs.Holding.{placesFine, lineFine, chipFine, chipsFine, headFine, holdsMesh, StatesFine}
+use Rattle.mesh.specs.Sound.{packetFine, registersFine, SoundPacket, SoundLink, SoundChip, SoundMesh}
+use Rattle.buffer.specs.Holding.{placesFine, linkFine, chipFine, chipsFine, headFine, holdsMesh, StatesFine}
 use Rattle.mesh.specs.Mesh.{roundsFine}
 use Rattle.links.proofs.Places.{length-places}
-use Rattle.buffer.proofs.ChipParts.{line-at}
+use Rattle.buffer.proofs.ChipParts.{link-at}
 use Rattle.lists.proofs.Alls.{all-getD}
-use Rattle.buffer.proofs.HoldsMesh.{holds-head, holds-chips, chip-held, line-held, registers-held}
+use Rattle.buffer.proofs.HoldsMesh.{holds-head, holds-chips, chip-held, link-held, registers-held}
 
 -- both tests hold
 and-true-true : {a b : Bool} → a ≡ true → b ≡ true → (a && b) ≡ true
@@ -43,16 +43,16 @@ sound-places (suc n) l h = and-true-true (h .0 .fine) (sound-places n (drop plac
 
 -- ---- a link
 
-state-fine : (l : List ℕ) → lineFine l ≡ true → getD l stateAt 0 ≤ 1
+state-fine : (l : List ℕ) → linkFine l ≡ true → getD l stateAt 0 ≤ 1
 state-fine l h = let t : _ = simp and-eq-true-iff at h in leb-true _ _ (t .0 .0)
 
-line-sound : (l : List ℕ) → lineFine l ≡ true → SoundLine (lineIn l)
-line-sound l h =
+link-sound : (l : List ℕ) → linkFine l ≡ true → SoundLink (linkIn l)
+link-sound l h =
     let t : _ = simp and-eq-true-iff at h in
     record { few = subst (λ (n : ℕ). n ≤ 8) (sym (length-places (getD l heldAt 0) (drop placesAt l))) (leb-true _ _ (t .0 .1)); fine = places-sound (getD l heldAt 0) (drop placesAt l) (t .1) }
 
-sound-line : (l : List ℕ) → getD l stateAt 0 ≤ 1 → SoundLine (lineIn l) → lineFine l ≡ true
-sound-line l state h =
+sound-link : (l : List ℕ) → getD l stateAt 0 ≤ 1 → SoundLink (linkIn l) → linkFine l ≡ true
+sound-link l state h =
     and-true-true (and-true-true (le-leb _ _ state) (le-leb _ _ (subst (λ (n : ℕ). n ≤ 8) (length-places (getD l heldAt 0) (drop placesAt l)) (h .few))))
     (sound-places (getD l heldAt 0) (drop placesAt l) (h .fine))
 
@@ -68,16 +68,16 @@ chip-sound l h =
     record {
       six = refl;
       registers = registers-held l h;
-      lines = (line 0 (lit< tt), (line 1 (lit< tt), (line 2 (lit< tt), (line 3 (lit< tt), (line 4 (lit< tt), (line 5 (lit< tt), tt))))));
+      links = (link 0 (lit< tt), (link 1 (lit< tt), (link 2 (lit< tt), (link 3 (lit< tt), (link 4 (lit< tt), (link 5 (lit< tt), tt))))));
     }
   where
-    line : (j : ℕ) → j < 6 → SoundLine (lineIn (lineWords j l))
-    line j hj = line-sound (lineWords j l) (line-held l h j hj)
+    link : (j : ℕ) → j < 6 → SoundLink (linkIn (linkWords j l))
+    link j hj = link-sound (linkWords j l) (link-held l h j hj)
 
-sound-chip : (l : List ℕ) → ((j : ℕ) → j < 6 → getD (lineWords j l) stateAt 0 ≤ 1) → SoundChip (chipIn l) → chipFine l ≡ true
+sound-chip : (l : List ℕ) → ((j : ℕ) → j < 6 → getD (linkWords j l) stateAt 0 ≤ 1) → SoundChip (chipIn l) → chipFine l ≡ true
 sound-chip l states h =
-    all-tests (registersFine (registersIn (part 0 registersLong l))) (λ i. lineFine (lineWords i l)) (h .registers)
-    (λ j hj. sound-line (lineWords j l) (states j hj) (subst SoundLine (line-at j hj l) (all-getD SoundLine (chipIn l .lines) j idle (h .lines) hj)))
+    all-tests (registersFine (registersIn (part 0 registersLong l))) (λ i. linkFine (linkWords i l)) (h .registers)
+    (λ j hj. sound-link (linkWords j l) (states j hj) (subst SoundLink (link-at j hj l) (all-getD SoundLink (chipIn l .links) j idle (h .links) hj)))
 
 -- ---- the chips from number c on
 
@@ -88,7 +88,7 @@ chips-sound (suc n) c l h =
     let t = and-eq-true-iff (chipFine (chipWords c l)) (chipsFine (suc c) n l) .0 h in
     (chip-sound (chipWords c l) (t .0), chips-sound n (suc c) l (t .1))
 
-sound-chips : (n c : ℕ) (l : List ℕ) → ((k j : ℕ) → k < c + n → j < 6 → getD (lineWords j (chipWords k l)) stateAt 0 ≤ 1) → All SoundChip (chipsIn c n l) → chipsFine c n l ≡ true
+sound-chips : (n c : ℕ) (l : List ℕ) → ((k j : ℕ) → k < c + n → j < 6 → getD (linkWords j (chipWords k l)) stateAt 0 ≤ 1) → All SoundChip (chipsIn c n l) → chipsFine c n l ≡ true
 unfolding All chipsFine chipsIn
 sound-chips zero c l states h = refl
 sound-chips (suc n) c l states h =
@@ -108,7 +108,7 @@ five-tests a b c d e h = let t : _ = simp and-eq-true-iff at h in (t .0 .0 .0 .0
 module _ (l : List ℕ) where
   pub holds-states : holdsMesh l ≡ true → StatesFine l
   holds-states h c j hc hj =
-      state-fine (lineWords j (chipWords c l)) (line-held (chipWords c l) (chip-held l h c hc) j hj)
+      state-fine (linkWords j (chipWords c l)) (link-held (chipWords c l) (chip-held l h c hc) j hj)
 
   pub holds-sound : holdsMesh l ≡ true → SoundMesh (meshOf l)
   unfolding meshOf

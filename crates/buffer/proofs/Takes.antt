@@ -15,26 +15,26 @@ use Rattle.steps.proofs.SentBy.{sends-ready, legs-ready, sent-no-error, leg-no-
 use Rattle.steps.proofs.SentPackets.{sent-right, leg-right}
 use Rattle.steps.proofs.Sets.{has-set}
 use Rattle.links.specs.Offsets.{heldAt, chipLong}
-use Rattle.links.specs.Line.{isReady, idle, readyLinks}
-use Rattle.links.specs.Words.{lineIn}
+use Rattle.links.specs.Link.{isReady, idle, readyLinks}
+use Rattle.links.specs.Words.{linkIn}
 use Rattle.links.proofs.Places.{length-places}
 use Rattle.buffer.specs.Layout.{chipIn}
-use Rattle.buffer.specs.ChipWords.{lineWords, Takes}
-use Rattle.buffer.proofs.ChipParts.{line-at}
+use Rattle.buffer.specs.ChipWords.{linkWords, Takes}
+use Rattle.buffer.proofs.ChipParts.{link-at}
 use Rattle.tables.specs.Tables.{ChipTables}
 
 -- a ready link holds at most 6
-pub ready-room : (l : List ℕ) (i : ℕ) → i < 6 → has (readyLinks (chipIn l .lines)) i ≡ true → getD (lineWords i l) heldAt 0 ≤ 6
+pub ready-room : (l : List ℕ) (i : ℕ) → i < 6 → has (readyLinks (chipIn l .links)) i ≡ true → getD (linkWords i l) heldAt 0 ≤ 6
 ready-room l i hi h =
-    let t : isReady (getD (chipIn l .lines) i idle) ≡ true = sym (has-set (λ j. isReady (getD (chipIn l .lines) j idle)) i hi) ∙ h in
-    let u : isReady (lineIn (lineWords i l)) ≡ true = sym (ap isReady (line-at i hi l)) ∙ t in
-    let k : leb (length (lineIn (lineWords i l) .held)) 6 ≡ true =
-    and-eq-true-iff (lineIn (lineWords i l) .up) (leb (length (lineIn (lineWords i l) .held)) 6) .0 u .1 in
+    let t : isReady (getD (chipIn l .links) i idle) ≡ true = sym (has-set (λ j. isReady (getD (chipIn l .links) j idle)) i hi) ∙ h in
+    let u : isReady (linkIn (linkWords i l)) ≡ true = sym (ap isReady (link-at i hi l)) ∙ t in
+    let k : leb (length (linkIn (linkWords i l) .held)) 6 ≡ true =
+    and-eq-true-iff (linkIn (linkWords i l) .up) (leb (length (linkIn (linkWords i l) .held)) 6) .0 u .1 in
     leb-true _ _ (rw length-places at k)
 
 module _ (p : Packet) (s : ℕ) (tables : ChipTables) (t : Setting) (h : Checked p s tables t) (from : Source s) where
   -- so the pass fits the chip
-  pub takes : (l : List ℕ) → length l ≡ chipLong → t .ready ≡ readyLinks (chipIn l .lines) → Takes l (outcomeOf p s tables t)
+  pub takes : (l : List ℕ) → length l ≡ chipLong → t .ready ≡ readyLinks (chipIn l .links) → Takes l (outcomeOf p s tables t)
   takes l long ready =
       let o = outcome-sets p s tables t in
       record {
@@ -48,5 +48,5 @@ module _ (p : Packet) (s : ℕ) (tables : ChipTables) (t : Setting) (h : Checked
         leg = λ i hi leg. leg-right p s tables t h from (leg-no-error p s tables t h from i hi leg);
       }
     where
-      by-ready : (i : ℕ) → has (t .ready) i ≡ true → has (readyLinks (chipIn l .lines)) i ≡ true
+      by-ready : (i : ℕ) → has (t .ready) i ≡ true → has (readyLinks (chipIn l .links)) i ≡ true
       by-ready i f = ap (λ (r : ℕ). has r i) (sym ready) ∙ f

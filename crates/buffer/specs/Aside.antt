@@ -5,10 +5,10 @@ use mathlib.Core.List.{List}
 use lib.ListN.{length, getD, take, drop, set}
 use lib.Seq.{paste}
 use Rattle.links.specs.Offsets.{headerLong, stateAt, heldAt, placesAt, placeLong, asideAt, asidePlacesAt, chipLong, chipPlace}
-use Rattle.links.specs.Words.{lineIn, asideIn}
+use Rattle.links.specs.Words.{linkIn, asideIn}
 use Rattle.mesh.specs.Steps.{emptiedChip}
 use Rattle.buffer.specs.Layout.{chipIn}
-use Rattle.buffer.specs.ChipWords.{lineWords}
+use Rattle.buffer.specs.ChipWords.{linkWords}
 use Rattle.buffer.specs.Passing.{chipWords}
 
 -- A link's words after what it holds was set aside: the packets' words behind their number, and none held.
@@ -23,8 +23,8 @@ asideOn j w = asideWords w
 pub record ChipAside (before after : List ℕ) : Type 0 where
   pub long : length after ≡ chipLong
   pub chip : chipIn after ≡ emptiedChip (chipIn before)
-  pub aside : (j : ℕ) → j < 6 → asideIn (lineWords j after) ≡ lineIn (lineWords j before) .held
-  pub states : (j : ℕ) → j < 6 → getD (lineWords j after) stateAt 0 ≡ getD (lineWords j before) stateAt 0
+  pub aside : (j : ℕ) → j < 6 → asideIn (linkWords j after) ≡ linkIn (linkWords j before) .held
+  pub states : (j : ℕ) → j < 6 → getD (linkWords j after) stateAt 0 ≡ getD (linkWords j before) stateAt 0
 
 -- A mesh's words while the chips below k of n are set aside.
 pub record AsideUpto (n k : ℕ) (before after : List ℕ) : Type 0 where

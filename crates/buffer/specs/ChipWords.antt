@@ -9,19 +9,19 @@ use Rattle.steps.specs.declared.Outcome.{Outcome}
 use Rattle.steps.specs.Links.{has}
 use Rattle.steps.specs.Deciding.{packetOn, legPacket}
 use Rattle.lists.specs.Lists.{part, putBack}
-use Rattle.links.specs.Offsets.{heldAt, lineLong, registersLong, countersLong, countersAt, chipLong, linePlace}
-use Rattle.links.specs.LineWords.{pushedIf, sentWords, Room, still}
-use Rattle.links.specs.Line.{Right}
+use Rattle.links.specs.Offsets.{heldAt, linkLong, registersLong, countersLong, countersAt, chipLong, linkPlace}
+use Rattle.links.specs.LinkWords.{pushedIf, sentWords, Room, still}
+use Rattle.links.specs.Link.{Right}
 use Rattle.buffer.specs.Layout.{chipIn}
 use Rattle.mesh.specs.Steps.{chipAfter}
 
 -- The words of link i changed by f.
 abbrev pub changedOn : (ℕ → List ℕ → List ℕ) → List ℕ → ℕ → List ℕ
-changedOn f l i = putBack (linePlace i) lineLong (f i (part (linePlace i) lineLong l)) l
+changedOn f l i = putBack (linkPlace i) linkLong (f i (part (linkPlace i) linkLong l)) l
 
 -- the words of link j
-abbrev pub lineWords : ℕ → List ℕ → List ℕ
-lineWords j l = part (linePlace j) lineLong l
+abbrev pub linkWords : ℕ → List ℕ → List ℕ
+linkWords j l = part (linkPlace j) linkLong l
 
 -- What a pass may ask of a chip: it sends only where there is room, and only packets whose length is right.
 pub record Takes (l : List ℕ) (o : Outcome) : Type 0 where
@@ -30,7 +30,7 @@ pub record Takes (l : List ℕ) (o : Outcome) : Type 0 where
   pub dropped : o .dropped < 64
   pub legSent : o .«leg_sent» < 64
   pub lost : o .«leg_dropped» < 64
-  pub room : (i : ℕ) → i < 6 → Room (lineWords i l) o i
+  pub room : (i : ℕ) → i < 6 → Room (linkWords i l) o i
   pub right : (i : ℕ) → i < 6 → has (o .sent) i ≡ true → Right (packetOn o i)
   pub leg : (i : ℕ) → i < 6 → has (o .«leg_sent») i ≡ true → Right (legPacket o)
 
@@ -38,15 +38,15 @@ pub record Takes (l : List ℕ) (o : Outcome) : Type 0 where
 pub record ChipStep (before after : List ℕ) (o : Outcome) : Type 0 where
   pub long : length after ≡ chipLong
   pub chip : chipIn after ≡ chipAfter o tt (chipIn before)
-  pub still : (j : ℕ) → j < 6 → still (lineWords j after) ≡ still (lineWords j before)
+  pub still : (j : ℕ) → j < 6 → still (linkWords j after) ≡ still (linkWords j before)
 
 -- A chip's words before and after the words of its links, all but the rest, were changed by f: all else is as it was.
 pub record ChangedBut (f : ℕ → List ℕ → List ℕ) (rest : ℕ → Type 0) (before after : List ℕ) : Type 0 where
   pub long : length after ≡ chipLong
   pub registers : part 0 registersLong after ≡ part 0 registersLong before
   pub counters : part countersAt countersLong after ≡ part countersAt countersLong before
-  pub done : (j : ℕ) → j < 6 → (rest j → ⊥) → lineWords j after ≡ f j (lineWords j before)
-  pub todo : (j : ℕ) → j < 6 → rest j → lineWords j after ≡ lineWords j before
+  pub done : (j : ℕ) → j < 6 → (rest j → ⊥) → linkWords j after ≡ f j (linkWords j before)
+  pub todo : (j : ℕ) → j < 6 → rest j → linkWords j after ≡ linkWords j before
 
 -- The rest where links are gone through by number and k is next; and by a set of those that are left.
 abbrev pub from : ℕ → ℕ → Type 0
@@ -63,7 +63,7 @@ pushing set p i w = pushedIf (has set i) w (p i)
 pub record PushFits (set : ℕ) (l : List ℕ) : Type 0 where
   pub long : length l ≡ chipLong
   pub small : set < 64
-  pub room : (i : ℕ) → i < 6 → has set i ≡ true → getD (lineWords i l) heldAt 0 ≤ 7
+  pub room : (i : ℕ) → i < 6 → has set i ≡ true → getD (linkWords i l) heldAt 0 ≤ 7
 
 -- What a pass makes of a link's words.
 abbrev pub sending : Outcome → ℕ → List ℕ → List ℕ

@@ -7,10 +7,10 @@ use lib.Dec.{ltb, leb}
 use lib.ListN.{length, getD, drop}
 use Rattle.tables.specs.Sizes.{sizeFine}
 use Rattle.lists.specs.Lists.{part}
-use Rattle.links.specs.Offsets.{widthAt, heightAt, roundsAt, monitorAt, phaseAt, elapsedAt, headerLong, stateAt, heldAt, placesAt, placeLong, lineLong, registersLong, chipLong, chipPlace, linePlace}
+use Rattle.links.specs.Offsets.{widthAt, heightAt, roundsAt, monitorAt, phaseAt, elapsedAt, headerLong, stateAt, heldAt, placesAt, placeLong, linkLong, registersLong, chipLong, chipPlace, linkPlace}
 use Rattle.links.specs.Words.{packetIn}
 use Rattle.buffer.specs.Layout.{registersIn, chipsOf, wordsOf}
-use Rattle.buffer.specs.ChipWords.{lineWords}
+use Rattle.buffer.specs.ChipWords.{linkWords}
 use Rattle.buffer.specs.Passing.{chipWords}
 use Rattle.mesh.specs.Mesh.{roundsFine}
 use Rattle.mesh.specs.Sound.{packetFine, registersFine}
@@ -21,15 +21,15 @@ placesFine zero l = true
 placesFine (suc n) l = packetFine (packetIn l) && placesFine n (drop placeLong l)
 
 -- "Link states, at most 8 packets a link".
-abbrev pub lineFine : List ℕ → Bool
-lineFine l = leb (getD l stateAt 0) 1 && leb (getD l heldAt 0) 8 && placesFine (getD l heldAt 0) (drop placesAt l)
+abbrev pub linkFine : List ℕ → Bool
+linkFine l = leb (getD l stateAt 0) 1 && leb (getD l heldAt 0) 8 && placesFine (getD l heldAt 0) (drop placesAt l)
 
 abbrev pub chipFine : List ℕ → Bool
 chipFine l =
-    registersFine (registersIn (part 0 registersLong l)) && lineFine (part (linePlace 0) lineLong l) && lineFine (part (linePlace 1) lineLong l) && lineFine (part (linePlace 2) lineLong l)
-    && lineFine (part (linePlace 3) lineLong l)
-    && lineFine (part (linePlace 4) lineLong l)
-    && lineFine (part (linePlace 5) lineLong l)
+    registersFine (registersIn (part 0 registersLong l)) && linkFine (part (linkPlace 0) linkLong l) && linkFine (part (linkPlace 1) linkLong l) && linkFine (part (linkPlace 2) linkLong l)
+    && linkFine (part (linkPlace 3) linkLong l)
+    && linkFine (part (linkPlace 4) linkLong l)
+    && linkFine (part (linkPlace 5) linkLong l)
 
 -- The n chips from number c on.
 unfoldable pub chipsFine : ℕ → ℕ → List ℕ → Bool
@@ -47,4 +47,4 @@ holdsMesh l =
 
 -- What the mesh read from the words does not tell: every link's state word is 0 or 1.
 abbrev pub StatesFine : List ℕ → Type 0
-StatesFine l = (c j : ℕ) → c < chipsOf l → j < 6 → getD (lineWords j (chipWords c l)) stateAt 0 ≤ 1
+StatesFine l = (c j : ℕ) → c < chipsOf l → j < 6 → getD (linkWords j (chipWords c l)) stateAt 0 ≤ 1

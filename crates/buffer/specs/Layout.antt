@@ -4,8 +4,8 @@ use mathlib.Core.List.{List, [], _∷_}
 use lib.ListN.{getD}
 use Rattle.kept.specs.declared.Registers.{Registers}
 use Rattle.lists.specs.Lists.{part}
-use Rattle.links.specs.Offsets.{widthAt, heightAt, roundsAt, monitorAt, phaseAt, elapsedAt, headerLong, lineLong, registersLong, countersLong, countersAt, chipLong, chipPlace, linePlace}
-use Rattle.links.specs.Words.{lineIn}
+use Rattle.links.specs.Offsets.{widthAt, heightAt, roundsAt, monitorAt, phaseAt, elapsedAt, headerLong, linkLong, registersLong, countersLong, countersAt, chipLong, chipPlace, linkPlace}
+use Rattle.links.specs.Words.{linkIn}
 use Rattle.mesh.specs.Mesh.{Chip, Mesh}
 
 -- The error registers in their nine words, and the words of registers.
@@ -32,9 +32,9 @@ chipIn l =
     record {
       registers = registersIn (part 0 registersLong l);
       counters = record { count = part countersAt countersLong l };
-      lines = lineIn (part (linePlace 0) lineLong l) ∷ lineIn (part (linePlace 1) lineLong l) ∷ lineIn (part (linePlace 2) lineLong l) ∷ lineIn (part (linePlace 3) lineLong l)
-          ∷ lineIn (part (linePlace 4) lineLong l)
-          ∷ lineIn (part (linePlace 5) lineLong l)
+      links = linkIn (part (linkPlace 0) linkLong l) ∷ linkIn (part (linkPlace 1) linkLong l) ∷ linkIn (part (linkPlace 2) linkLong l) ∷ linkIn (part (linkPlace 3) linkLong l)
+          ∷ linkIn (part (linkPlace 4) linkLong l)
+          ∷ linkIn (part (linkPlace 5) linkLong l)
           ∷ [];
     }
 

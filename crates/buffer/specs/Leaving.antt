@@ -9,7 +9,7 @@ use Rattle.buffer.specs.Layout.{meshOf, chipsOf, wordsOf}
 use Rattle.buffer.specs.Holding.{holdsMesh}
 use Rattle.links.specs.Offsets.{roundsAt, phaseAt, elapsedAt, stateAt}
 use Rattle.links.specs.Phase.{nextPhase}
-use Rattle.links.specs.LineWords.{stateOf}
+use Rattle.links.specs.LinkWords.{stateOf}
 use Rattle.mesh.specs.Steps.{Tables, same}
 use Rattle.mesh.specs.declared.Added.{Added}
 use Rattle.packet.specs.Refusal.{firstOf}

@@ -6,16 +6,16 @@ use mathlib.Core.List.{List, _++_, map, foldl}
 use lib.ListN.{length, getD, take, drop}
 use Rattle.packet.specs.declared.Packet.{Packet}
 use Rattle.links.specs.Offsets.{widthAt, heightAt, headerLong, asideAt}
-use Rattle.links.specs.Line.{Flight}
+use Rattle.links.specs.Link.{Flight}
 use Rattle.links.specs.Across.{across, opposite}
 use Rattle.links.specs.Words.{asideIn}
-use Rattle.links.specs.LineWords.{still}
+use Rattle.links.specs.LinkWords.{still}
 use Rattle.buffer.specs.Layout.{meshOf, chipsOf, wordsOf}
 use Rattle.steps.specs.Deciding.{outcomeOf}
 use Rattle.tables.specs.Tables.{ChipTables}
 use Rattle.mesh.specs.Mesh.{fresh}
 use Rattle.mesh.specs.Steps.{Arrival, Going, settingAt, withChip, chipAfter, logOf, same}
-use Rattle.buffer.specs.ChipWords.{lineWords}
+use Rattle.buffer.specs.ChipWords.{linkWords}
 use Rattle.buffer.specs.Passing.{chipWords}
 use Rattle.buffer.specs.Holding.{headFine}
 use Rattle.lists.specs.Lists.{All, upTo}
@@ -26,7 +26,7 @@ arrival chip source p = record { chip = chip; source = source; flight = record {
 
 -- What was set aside for a chip on the link opposite to the one that it arrives by: its words; the packets; those on all six links.
 abbrev pub asideFor : List ℕ → ℕ → ℕ → List ℕ
-asideFor l chip source = lineWords (opposite source) (chipWords (across (getD l widthAt 0) (getD l heightAt 0) chip source) l)
+asideFor l chip source = linkWords (opposite source) (chipWords (across (getD l widthAt 0) (getD l heightAt 0) chip source) l)
 
 abbrev pub asideBy : List ℕ → ℕ → ℕ → List (Arrival (Unit {0}))
 asideBy l chip source =
@@ -37,7 +37,7 @@ asideFrom l chip = upTo (asideBy l chip) 6
 
 -- No link has set more than 8 aside.
 abbrev pub AsideFew : List ℕ → Type 0
-AsideFew l = (c j : ℕ) → c < chipsOf l → j < 6 → getD (lineWords j (chipWords c l)) asideAt 0 ≤ 8
+AsideFew l = (c j : ℕ) → c < chipsOf l → j < 6 → getD (linkWords j (chipWords c l)) asideAt 0 ≤ 8
 
 -- The mesh on its way, and the log's first n records.
 abbrev pub goingIn : List ℕ → List ℕ → ℕ → Going (Unit {0})
@@ -69,7 +69,7 @@ pub record Passed (step : Going (Unit {0}) → Arrival (Unit {0}) → Going (Uni
   pub long : length mesh′ ≡ length mesh
   pub head : take headerLong mesh′ ≡ take headerLong mesh
   pub going : goingIn mesh′ log′ n′ ≡ foldl step (goingIn mesh log n) due
-  pub still : (c j : ℕ) → j < 6 → still (lineWords j (chipWords c mesh′)) ≡ still (lineWords j (chipWords c mesh))
+  pub still : (c j : ℕ) → j < 6 → still (linkWords j (chipWords c mesh′)) ≡ still (linkWords j (chipWords c mesh))
   pub past : drop (wordsOf mesh) mesh′ ≡ drop (wordsOf mesh) mesh
   pub room : length log′ ≡ length log
   pub behind : drop (n′ * 6) log′ ≡ drop (n′ * 6) log

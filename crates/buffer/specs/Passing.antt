@@ -9,11 +9,11 @@ use Rattle.steps.specs.declared.Outcome.{Outcome}
 use Rattle.steps.specs.declared.Setting.{Setting}
 use Rattle.lists.specs.Lists.{part}
 use Rattle.links.specs.Offsets.{widthAt, heightAt, monitorAt, phaseAt, headerLong, chipLong, chipPlace}
-use Rattle.links.specs.LineWords.{still}
-use Rattle.links.specs.Line.{readyLinks}
+use Rattle.links.specs.LinkWords.{still}
+use Rattle.links.specs.Link.{readyLinks}
 use Rattle.buffer.specs.Layout.{chipIn, meshOf, chipsOf, wordsOf}
 use Rattle.mesh.specs.Steps.{chipAfter, withChip}
-use Rattle.buffer.specs.ChipWords.{lineWords}
+use Rattle.buffer.specs.ChipWords.{linkWords}
 
 -- the words of chip k
 abbrev pub chipWords : ℕ → List ℕ → List ℕ
@@ -22,7 +22,7 @@ chipWords k l = part (chipPlace k) chipLong l
 -- The chip's setting: the mesh's size, monitor and phase, and the chip's own ready set.
 abbrev pub settingIn : List ℕ → ℕ → Setting
 settingIn l chip =
-    record { width = getD l widthAt 0; height = getD l heightAt 0; monitor = getD l monitorAt 0; phase = getD l phaseAt 0; ready = readyLinks (chipIn (chipWords chip l) .lines) }
+    record { width = getD l widthAt 0; height = getD l heightAt 0; monitor = getD l monitorAt 0; phase = getD l phaseAt 0; ready = readyLinks (chipIn (chipWords chip l) .links) }
 
 -- What is checked before a pass at a chip.
 pub record CheckedAt (l : List ℕ) (chip source : ℕ) (p : Packet) (codes : List ℕ) : Type 0 where
@@ -42,5 +42,5 @@ pub record MeshStep (before after : List ℕ) (chip : ℕ) (o : Outcome) : Type 
   pub long : length after ≡ length before
   pub head : take headerLong after ≡ take headerLong before
   pub mesh : meshOf after ≡ withChip (meshOf before) chip (chipAfter o tt (chipIn (chipWords chip before)))
-  pub still : (c j : ℕ) → j < 6 → still (lineWords j (chipWords c after)) ≡ still (lineWords j (chipWords c before))
+  pub still : (c j : ℕ) → j < 6 → still (linkWords j (chipWords c after)) ≡ still (linkWords j (chipWords c before))
   pub past : drop (wordsOf before) after ≡ drop (wordsOf before) before

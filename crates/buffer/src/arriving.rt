@@ -4,7 +4,7 @@ use super::going::pass_one;
 use super::going::row_place;
 use super::grouping::group_chip;
 use links::across::aside_place;
-use links::line::packet_at;
+use links::link::packet_at;
 use links::offsets::HEIGHT;
 use links::offsets::PLACE;
 use links::offsets::WIDTH;

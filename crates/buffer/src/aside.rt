@@ -4,8 +4,8 @@ use links::offsets::ASIDE_PLACES_AT;
 use links::offsets::CHIP;
 use links::offsets::HEADER;
 use links::offsets::HELD;
-use links::offsets::LINE;
-use links::offsets::LINES_AT;
+use links::offsets::LINK;
+use links::offsets::LINKS_AT;
 use links::offsets::PLACE;
 use links::offsets::PLACES_AT;
 ghost use mathlib.Core.Path.{_≡_};
@@ -15,7 +15,7 @@ ghost use Prim.Native.Nat.{_+_, _*_, _≤_, _<_};
 ghost use Rattle.buffer.specs.Passing.{chipWords};
 ghost use Rattle.buffer.specs.Held.{Few};
 ghost use Rattle.buffer.specs.Aside.{asideWords, ChipAside, AsideUpto};
-ghost use Rattle.links.specs.Offsets.{headerLong, heldAt, placesAt, placeLong, depth, asidePlacesAt, lineLong, chipLong};
+ghost use Rattle.links.specs.Offsets.{headerLong, heldAt, placesAt, placeLong, depth, asidePlacesAt, linkLong, chipLong};
 
 // All links of the first chips.
 pub fn set_aside(mesh: &mut [u32], count: usize)
@@ -36,30 +36,30 @@ fn chip_aside(chip: &mut [u32])
 {
     let mut i = 0;
     while i < 6 {
-        let at = LINES_AT + i * LINE;
-        line_aside(&mut chip[at..at + LINE]);
+        let at = LINKS_AT + i * LINK;
+        link_aside(&mut chip[at..at + LINK]);
         i += 1;
     }
 }
 
-fn line_aside(line: &mut [u32])
-    requires { ⌜ (length (now line) ≡ lineLong) × (getD (now line) heldAt 0 ≤ 8) ⌝ }
-    ensures { λ _. ⌜ now (line .exit) ≡ asideWords (now (line .entry)) ⌝ }
+fn link_aside(words: &mut [u32])
+    requires { ⌜ (length (now words) ≡ linkLong) × (getD (now words) heldAt 0 ≤ 8) ⌝ }
+    ensures { λ _. ⌜ now (words .exit) ≡ asideWords (now (words .entry)) ⌝ }
 {
-    let held = line[HELD];
-    copy_aside(line, (held as usize) * PLACE);
-    line[ASIDE] = held;
-    line[HELD] = 0;
+    let held = words[HELD];
+    copy_aside(words, (held as usize) * PLACE);
+    words[ASIDE] = held;
+    words[HELD] = 0;
 }
 
 // Copies the words of the packets that a link holds.
-fn copy_aside(line: &mut [u32], words: usize)
-    requires { ⌜ (length (now line) ≡ lineLong) × (words ≤ depth * placeLong) ⌝ }
-    ensures { λ _. ⌜ now (line .exit) ≡ paste (now (line .entry)) asidePlacesAt (drop placesAt (now (line .entry))) words ⌝ }
+fn copy_aside(link_words: &mut [u32], words: usize)
+    requires { ⌜ (length (now «link_words») ≡ linkLong) × (words ≤ depth * placeLong) ⌝ }
+    ensures { λ _. ⌜ now («link_words» .exit) ≡ paste (now («link_words» .entry)) asidePlacesAt (drop placesAt (now («link_words» .entry))) words ⌝ }
 {
     let mut i = 0;
     while i < words {
-        line[ASIDE_PLACES_AT + i] = line[PLACES_AT + i];
+        link_words[ASIDE_PLACES_AT + i] = link_words[PLACES_AT + i];
         i += 1;
     }
 }

@@ -5,11 +5,11 @@ use super::refusing::number_refusal;
 use super::registers::put_registers;
 use super::registers::registers_at;
 use kept::keeping::empty_registers;
-use links::line::set_state;
+use links::link::set_state;
 use links::offsets::CHIP;
 use links::offsets::HEADER;
-use links::offsets::LINE;
-use links::offsets::LINES_AT;
+use links::offsets::LINK;
+use links::offsets::LINKS_AT;
 use links::offsets::REGISTERS;
 use mesh::RegistersRead;
 ghost use mathlib.Core.Path.{_≡_};
@@ -81,8 +81,8 @@ fn link_on_chip(chip: &mut [u32], link: usize, up: bool)
     requires { ⌜ (length (now chip) ≡ chipLong) × (link < 6) ⌝ }
     ensures { λ _. ⌜ now (chip .exit) ≡ changedOn (stateOn up) (now (chip .entry)) link ⌝ }
 {
-    let at = LINES_AT + link * LINE;
-    set_state(&mut chip[at..at + LINE], up);
+    let at = LINKS_AT + link * LINK;
+    set_state(&mut chip[at..at + LINK], up);
 }
 
 fn empty_chip(chip: &mut [u32])

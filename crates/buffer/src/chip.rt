@@ -6,18 +6,18 @@ use kept::counting::counted_of;
 use kept::counting::only_sends;
 use kept::counting::sent_count;
 use kept::keeping::kept_of;
-use links::line::is_ready;
-use links::line::push;
+use links::link::is_ready;
+use links::link::push;
 use links::offsets::CHIP;
 use links::offsets::COUNTERS_AT;
-use links::offsets::LINE;
-use links::offsets::LINE_0;
-use links::offsets::LINE_1;
-use links::offsets::LINE_2;
-use links::offsets::LINE_3;
-use links::offsets::LINE_4;
-use links::offsets::LINE_5;
-use links::offsets::LINES_AT;
+use links::offsets::LINK;
+use links::offsets::LINK_0;
+use links::offsets::LINK_1;
+use links::offsets::LINK_2;
+use links::offsets::LINK_3;
+use links::offsets::LINK_4;
+use links::offsets::LINK_5;
+use links::offsets::LINKS_AT;
 use links::offsets::REGISTERS;
 use packet::Packet;
 use std::num::wrapping_add_u32;
@@ -32,22 +32,22 @@ ghost use Rattle.steps.specs.Deciding.{packetOn, legPacket};
 ghost use Rattle.kept.specs.Keeping.{keptOf};
 ghost use Rattle.kept.specs.Counting.{countedOf};
 ghost use Rattle.links.specs.Offsets.{heldAt, registersLong, countersLong, chipLong};
-ghost use Rattle.links.specs.LineWords.{pushed};
-ghost use Rattle.links.specs.Line.{readyLinks};
+ghost use Rattle.links.specs.LinkWords.{pushed};
+ghost use Rattle.links.specs.Link.{readyLinks};
 ghost use Rattle.buffer.specs.Layout.{registersIn, registerWords, chipIn};
-ghost use Rattle.buffer.specs.ChipWords.{changedOn, lineWords, pushing, PushFits, sending, Takes, ChipStep, ChangedBut, among};
+ghost use Rattle.buffer.specs.ChipWords.{changedOn, linkWords, pushing, PushFits, sending, Takes, ChipStep, ChangedBut, among};
 
 // The links that are ready now.
 pub fn ready_of(chip: &[u32]) -> u32
     requires { ⌜ length (now chip) ≡ chipLong ⌝ }
-    ensures { λ r. ⌜ r ≡ readyLinks (chipIn (now (chip .entry)) .lines) ⌝ }
+    ensures { λ r. ⌜ r ≡ readyLinks (chipIn (now (chip .entry)) .links) ⌝ }
 {
-    flag_of(is_ready(&chip[LINE_0..LINE_1]), 1)
-        + flag_of(is_ready(&chip[LINE_1..LINE_2]), 2)
-        + flag_of(is_ready(&chip[LINE_2..LINE_3]), 4)
-        + flag_of(is_ready(&chip[LINE_3..LINE_4]), 8)
-        + flag_of(is_ready(&chip[LINE_4..LINE_5]), 16)
-        + flag_of(is_ready(&chip[LINE_5..CHIP]), 32)
+    flag_of(is_ready(&chip[LINK_0..LINK_1]), 1)
+        + flag_of(is_ready(&chip[LINK_1..LINK_2]), 2)
+        + flag_of(is_ready(&chip[LINK_2..LINK_3]), 4)
+        + flag_of(is_ready(&chip[LINK_3..LINK_4]), 8)
+        + flag_of(is_ready(&chip[LINK_4..LINK_5]), 16)
+        + flag_of(is_ready(&chip[LINK_5..CHIP]), 32)
 }
 
 // The chip after a pass: registers, counters, and what its links send.
@@ -56,7 +56,7 @@ pub fn after(chip: &mut [u32], o: Outcome)
     ensures { λ _. ⌜ ChipStep (now (chip .entry)) (now (chip .exit)) o ⌝ }
 {
     keep(&mut chip[0..REGISTERS], o);
-    count(&mut chip[COUNTERS_AT..LINES_AT], o);
+    count(&mut chip[COUNTERS_AT..LINKS_AT], o);
     send_all(chip, o);
 }
 
@@ -97,11 +97,11 @@ fn send_legs(chip: &mut [u32], o: Outcome)
 
 // Puts a packet on link i.
 fn push_on(chip: &mut [u32], i: u32, p: Packet)
-    requires { ⌜ (length (now chip) ≡ chipLong) × ((i < 6) × (getD (lineWords i (now chip)) heldAt 0 ≤ 7)) ⌝ }
+    requires { ⌜ (length (now chip) ≡ chipLong) × ((i < 6) × (getD (linkWords i (now chip)) heldAt 0 ≤ 7)) ⌝ }
     ensures { λ _. ⌜ now (chip .exit) ≡ changedOn (λ _ w. pushed w p) (now (chip .entry)) i ⌝ }
 {
-    let at = LINES_AT + (i as usize) * LINE;
-    push(&mut chip[at..at + LINE], p);
+    let at = LINKS_AT + (i as usize) * LINK;
+    push(&mut chip[at..at + LINK], p);
 }
 
 // Keeps a pass's first dropped unit, and counts all of them, in the nine words of the registers.

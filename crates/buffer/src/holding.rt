@@ -5,18 +5,18 @@ use super::registers::registers_at;
 use kept::Registers;
 use kept::keeping::MOST_UNITS;
 use kept::keeping::more_of;
-use links::line::packet_at;
+use links::link::packet_at;
 use links::offsets::CHIP;
 use links::offsets::ELAPSED;
 use links::offsets::HEADER;
 use links::offsets::HEIGHT;
 use links::offsets::HELD;
-use links::offsets::LINE_0;
-use links::offsets::LINE_1;
-use links::offsets::LINE_2;
-use links::offsets::LINE_3;
-use links::offsets::LINE_4;
-use links::offsets::LINE_5;
+use links::offsets::LINK_0;
+use links::offsets::LINK_1;
+use links::offsets::LINK_2;
+use links::offsets::LINK_3;
+use links::offsets::LINK_4;
+use links::offsets::LINK_5;
 use links::offsets::MONITOR;
 use links::offsets::PHASE;
 use links::offsets::PLACE;
@@ -34,8 +34,8 @@ ghost use mathlib.Core.Path.{_≡_};
 ghost use lib.ListN.{length, drop};
 ghost use Prim.Native.Nat.{_+_, _*_, _≤_};
 ghost use Rattle.mesh.specs.Sound.{packetFine, allZeros, registersFine};
-ghost use Rattle.buffer.specs.Holding.{placesFine, lineFine, chipFine, chipsFine, headFine, holdsMesh};
-ghost use Rattle.links.specs.Offsets.{headerLong, placesAt, placeLong, lineLong, chipLong};
+ghost use Rattle.buffer.specs.Holding.{placesFine, linkFine, chipFine, chipsFine, headFine, holdsMesh};
+ghost use Rattle.links.specs.Offsets.{headerLong, placesAt, placeLong, linkLong, chipLong};
 
 // Whether the buffer is long enough and every stored number is in range.
 pub fn holds(mesh: &[u32]) -> bool
@@ -60,13 +60,13 @@ fn packet_fine(p: Packet) -> bool
 }
 
 // The first packets of a link's places.
-fn places_fine(line: &[u32], count: usize) -> bool
-    requires { ⌜ placesAt + count * placeLong ≤ length (now line) ⌝ }
-    ensures { λ r. ⌜ r ≡ placesFine count (drop placesAt (now (line .entry))) ⌝ }
+fn places_fine(words: &[u32], count: usize) -> bool
+    requires { ⌜ placesAt + count * placeLong ≤ length (now words) ⌝ }
+    ensures { λ r. ⌜ r ≡ placesFine count (drop placesAt (now (words .entry))) ⌝ }
 {
     let mut i = 0;
     while i < count {
-        if !packet_fine(packet_at(line, PLACES_AT + i * PLACE)) {
+        if !packet_fine(packet_at(words, PLACES_AT + i * PLACE)) {
             return false;
         }
         i += 1;
@@ -74,17 +74,17 @@ fn places_fine(line: &[u32], count: usize) -> bool
     true
 }
 
-fn line_fine(line: &[u32]) -> bool
-    requires { ⌜ length (now line) ≡ lineLong ⌝ }
-    ensures { λ r. ⌜ r ≡ lineFine (now (line .entry)) ⌝ }
+fn link_fine(words: &[u32]) -> bool
+    requires { ⌜ length (now words) ≡ linkLong ⌝ }
+    ensures { λ r. ⌜ r ≡ linkFine (now (words .entry)) ⌝ }
 {
-    if 1 < line[STATE] {
+    if 1 < words[STATE] {
         return false;
     }
-    if 8 < line[HELD] {
+    if 8 < words[HELD] {
         return false;
     }
-    places_fine(line, line[HELD] as usize)
+    places_fine(words, words[HELD] as usize)
 }
 
 // Registers that keep no unit, as most do, are told by their zeros.
@@ -122,12 +122,12 @@ fn chip_fine(chip: &[u32]) -> bool
     ensures { λ r. ⌜ r ≡ chipFine (now (chip .entry)) ⌝ }
 {
     registers_fine(registers_at(&chip[0..REGISTERS]))
-        & line_fine(&chip[LINE_0..LINE_1])
-        & line_fine(&chip[LINE_1..LINE_2])
-        & line_fine(&chip[LINE_2..LINE_3])
-        & line_fine(&chip[LINE_3..LINE_4])
-        & line_fine(&chip[LINE_4..LINE_5])
-        & line_fine(&chip[LINE_5..CHIP])
+        & link_fine(&chip[LINK_0..LINK_1])
+        & link_fine(&chip[LINK_1..LINK_2])
+        & link_fine(&chip[LINK_2..LINK_3])
+        & link_fine(&chip[LINK_3..LINK_4])
+        & link_fine(&chip[LINK_4..LINK_5])
+        & link_fine(&chip[LINK_5..CHIP])
 }
 
 fn chips_fine(mesh: &[u32], count: usize) -> bool

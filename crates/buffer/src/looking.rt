@@ -2,16 +2,16 @@
 use super::flight::in_flight;
 use super::holding::holds;
 use super::refusing::number_refusal;
-use links::line::is_ready;
-use links::line::packet_at;
+use links::link::is_ready;
+use links::link::packet_at;
 use links::offsets::CHIP;
 use links::offsets::COUNTERS_AT;
 use links::offsets::ELAPSED;
 use links::offsets::HEADER;
 use links::offsets::HEIGHT;
 use links::offsets::HELD;
-use links::offsets::LINE;
-use links::offsets::LINES_AT;
+use links::offsets::LINK;
+use links::offsets::LINKS_AT;
 use links::offsets::MONITOR;
 use links::offsets::PHASE;
 use links::offsets::PLACE;
@@ -29,11 +29,11 @@ use tables::size::chips;
 ghost use mathlib.Core.Path.{_≡_};
 ghost use lib.ListN.{length, getD};
 ghost use Prim.Native.Nat.{_≤_};
-ghost use Rattle.links.specs.Offsets.{heldAt, lineLong};
-ghost use Rattle.links.specs.Words.{lineIn};
+ghost use Rattle.links.specs.Offsets.{heldAt, linkLong};
+ghost use Rattle.links.specs.Words.{linkIn};
 ghost use Rattle.buffer.specs.Layout.{meshOf};
 ghost use Rattle.buffer.specs.Holding.{holdsMesh};
-ghost use Rattle.mesh.specs.Calls.{countRead, meshRead, lineRead, linkRead, noFlight, placeRead, flightRead};
+ghost use Rattle.mesh.specs.Calls.{countRead, meshRead, linkShown, linkRead, noFlight, placeRead, flightRead};
 
 // One of a chip's ten counters. Refusals, the first that applies: 8 no mesh, 9 chip or counter.
 pub fn read_counter(mesh: &[u32], chip: u32, counter: u32) -> CountRead
@@ -93,8 +93,8 @@ pub fn look_link(mesh: &[u32], chip: u32, link: u32) -> LinkRead
             ready: 0,
         };
     }
-    let at = HEADER + (chip as usize) * CHIP + (LINES_AT + (link as usize) * LINE);
-    look_line(&mesh[at..at + LINE])
+    let at = HEADER + (chip as usize) * CHIP + (LINKS_AT + (link as usize) * LINK);
+    link_shown(&mesh[at..at + LINK])
 }
 
 // The packet at a place of a directed link, 0 the oldest. Refusals, the first that applies: 8 no mesh, 9 chip or link, or a place
@@ -106,32 +106,32 @@ pub fn look_flight(mesh: &[u32], chip: u32, link: u32, place: u32) -> FlightRead
     if refusal != 0 {
         return no_flight(refusal);
     }
-    let at = HEADER + (chip as usize) * CHIP + (LINES_AT + (link as usize) * LINE);
-    look_place(&mesh[at..at + LINE], place)
+    let at = HEADER + (chip as usize) * CHIP + (LINKS_AT + (link as usize) * LINK);
+    look_place(&mesh[at..at + LINK], place)
 }
 
-fn look_line(line: &[u32]) -> LinkRead
-    requires { ⌜ length (now line) ≡ lineLong ⌝ }
-    ensures { λ r. ⌜ r ≡ lineRead (lineIn (now (line .entry))) ⌝ }
+fn link_shown(words: &[u32]) -> LinkRead
+    requires { ⌜ length (now words) ≡ linkLong ⌝ }
+    ensures { λ r. ⌜ r ≡ linkShown (linkIn (now (words .entry))) ⌝ }
 {
     LinkRead {
         refusal: 0,
-        up: flag_of(line[STATE] == 0, 1),
-        held: line[HELD],
-        ready: flag_of(is_ready(line), 1),
+        up: flag_of(words[STATE] == 0, 1),
+        held: words[HELD],
+        ready: flag_of(is_ready(words), 1),
     }
 }
 
-fn look_place(line: &[u32], place: u32) -> FlightRead
-    requires { ⌜ (length (now line) ≡ lineLong) × (getD (now line) heldAt 0 ≤ 8) ⌝ }
-    ensures { λ r. ⌜ r ≡ placeRead (lineIn (now (line .entry))) place ⌝ }
+fn look_place(words: &[u32], place: u32) -> FlightRead
+    requires { ⌜ (length (now words) ≡ linkLong) × (getD (now words) heldAt 0 ≤ 8) ⌝ }
+    ensures { λ r. ⌜ r ≡ placeRead (linkIn (now (words .entry))) place ⌝ }
 {
-    if line[HELD] <= place {
+    if words[HELD] <= place {
         return no_flight(9);
     }
     FlightRead {
         refusal: 0,
-        packet: packet_at(line, PLACES_AT + (place as usize) * PLACE),
+        packet: packet_at(words, PLACES_AT + (place as usize) * PLACE),
     }
 }
 

@@ -13,13 +13,13 @@ use Rattle.lists.proofs.Firsts.{lt-or-ge}
 use borrow.Author.Tests.{eq-eqb, ne-eqb}
 use Rattle.tables.specs.Sizes.{sizeFine}
 use Rattle.tables.proofs.Sizes.{size, chips-small}
-use Rattle.links.specs.Line.{Line}
+use Rattle.links.specs.Link.{Link}
 use Rattle.links.specs.Across.{across}
-use Rattle.links.specs.Offsets.{widthAt, heightAt, stateAt, chipLong, chipPlace, linePlace}
+use Rattle.links.specs.Offsets.{widthAt, heightAt, stateAt, chipLong, chipPlace, linkPlace}
 use Rattle.buffer.specs.Layout.{meshOf, chipsOf}
 use Rattle.buffer.specs.Holding.{holdsMesh}
 use Rattle.buffer.proofs.HoldsMesh.{holds-size, words-enough}
-use Rattle.buffer.proofs.Looks.{line-of}
+use Rattle.buffer.proofs.Looks.{link-of}
 use Rattle.buffer.proofs.LinkWords.{word-at}
 use Rattle.flood.specs.Ways.{isUp, beyond}
 use Rattle.flood.specs.Marks.{leadOf, Around}
@@ -47,13 +47,13 @@ on-mesh l chip holds h =
     }
 
 module _ (l : List ℕ) (chip i : ℕ) (near : chip < chipsOf l) (link : i < 6) where
-  up-of : isUp (meshOf l) chip i ≡ eqb (getD l (chipPlace chip + linePlace i + stateAt) 0) 0
-  up-of = ap (λ (x : Line (Unit {0})). x .up) (line-of l chip i near link) ∙ ap (λ (n : ℕ). eqb n 0) (word-at chip i stateAt l link (omega arith))
+  up-of : isUp (meshOf l) chip i ≡ eqb (getD l (chipPlace chip + linkPlace i + stateAt) 0) 0
+  up-of = ap (λ (x : Link (Unit {0})). x .up) (link-of l chip i near link) ∙ ap (λ (n : ℕ). eqb n 0) (word-at chip i stateAt l link (omega arith))
 
-  pub leads-down : (getD l (chipPlace chip + linePlace i + stateAt) 0 ≡ 0 → ⊥) → 255 ≡ leadOf (meshOf l) chip i
+  pub leads-down : (getD l (chipPlace chip + linkPlace i + stateAt) 0 ≡ 0 → ⊥) → 255 ≡ leadOf (meshOf l) chip i
   leads-down some = sym (ap (λ (b : Bool). cond b (beyond (meshOf l) chip i) 255) (up-of ∙ ne-eqb _ 0 some))
 
-  pub leads-up : getD l (chipPlace chip + linePlace i + stateAt) 0 ≡ 0 → across (getD l widthAt 0) (getD l heightAt 0) chip i ≡ leadOf (meshOf l) chip i
+  pub leads-up : getD l (chipPlace chip + linkPlace i + stateAt) 0 ≡ 0 → across (getD l widthAt 0) (getD l heightAt 0) chip i ≡ leadOf (meshOf l) chip i
   unfolding meshOf
   leads-up none = sym (ap (λ (b : Bool). cond b (beyond (meshOf l) chip i) 255) (up-of ∙ eq-eqb _ 0 none))
 

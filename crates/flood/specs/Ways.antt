@@ -7,12 +7,12 @@ use lib.Dec.{eqb, ltb}
 use Rattle.lists.specs.Firsts.{firstBelow}
 use Rattle.links.specs.Across.{across}
 use Rattle.mesh.specs.Mesh.{Mesh}
-use Rattle.mesh.specs.Calls.{many, lineOf}
+use Rattle.mesh.specs.Calls.{many, linkOf}
 
 module _ {A : Type 0} (m : Mesh A) where
   -- "Links count as up or down, whatever they hold."
   abbrev pub isUp : ℕ → ℕ → Bool
-  isUp chip i = lineOf m chip i .up
+  isUp chip i = linkOf m chip i .up
 
   -- The chip at the other end of a link.
   abbrev pub beyond : ℕ → ℕ → ℕ

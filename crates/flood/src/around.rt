@@ -4,8 +4,8 @@ use links::across::across_link;
 use links::offsets::CHIP;
 use links::offsets::HEADER;
 use links::offsets::HEIGHT;
-use links::offsets::LINE;
-use links::offsets::LINES_AT;
+use links::offsets::LINK;
+use links::offsets::LINKS_AT;
 use links::offsets::STATE;
 use links::offsets::WIDTH;
 use tables::size::chips;
@@ -38,7 +38,7 @@ fn lead_of(mesh: &[u32], chip: usize, link: usize) -> u8
     requires { ⌜ (holdsMesh (now mesh) ≡ true) × ((chip < chipsOf (now mesh)) × (link < 6)) ⌝ }
     ensures { λ r. ⌜ r ≡ leadOf (meshOf (now (mesh .entry))) chip link ⌝ }
 {
-    let at = HEADER + chip * CHIP + (LINES_AT + link * LINE) + STATE;
+    let at = HEADER + chip * CHIP + (LINKS_AT + link * LINK) + STATE;
     if mesh[at] != 0 {
         return DOWN;
     }

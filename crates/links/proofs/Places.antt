@@ -14,10 +14,10 @@ use Rattle.packet.specs.Control.{carriesOf}
 use Rattle.steps.specs.declared.Outcome.{Outcome}
 use Rattle.steps.specs.Links.{has}
 use Rattle.steps.specs.Deciding.{packetOn, legPacket}
-use Rattle.links.specs.Offsets.{stateAt, heldAt, placeLong, asideAt, lineLong}
-use Rattle.links.specs.Line.{Flight, Line, lineAfter, Right}
-use Rattle.links.specs.Words.{packetIn, placesIn, lineIn}
-use Rattle.links.specs.LineWords.{still, placeAt, putAt, pushed, pushedIf, sentWords, Room}
+use Rattle.links.specs.Offsets.{stateAt, heldAt, placeLong, asideAt, linkLong}
+use Rattle.links.specs.Link.{Flight, Link, linkAfter, Right}
+use Rattle.links.specs.Words.{packetIn, placesIn, linkIn}
+use Rattle.links.specs.LinkWords.{still, placeAt, putAt, pushed, pushedIf, sentWords, Room}
 
 -- as many as the count says
 pub length-places : (n : ℕ) (l : List ℕ) → length (placesIn n l) ≡ n
@@ -63,12 +63,12 @@ pushed-words u v l p =
     λ i. set (set (set (set (u ∷ v ∷ l) (e₀ i) (p .control)) (e₁ i) (p .word)) (e₂ i) (p .payload)) heldAt (v + 1)
 
 -- a push puts the packet behind those that the link holds
-pub line-push : (l : List ℕ) (p : Packet) → Right p → length l ≡ lineLong → getD l heldAt 0 ≤ 7
-    → lineIn (pushed l p) ≡ record { up = lineIn l .up; held = lineIn l .held ++ flight p ∷ [] }
-line-push [] p r h k = absurd (omega arith)
-line-push (u ∷ []) p r h k = absurd (omega arith)
-line-push (u ∷ v ∷ l) p r h k =
-    ap lineIn (pushed-words u v l p)
+pub link-push : (l : List ℕ) (p : Packet) → Right p → length l ≡ linkLong → getD l heldAt 0 ≤ 7
+    → linkIn (pushed l p) ≡ record { up = linkIn l .up; held = linkIn l .held ++ flight p ∷ [] }
+link-push [] p r h k = absurd (omega arith)
+link-push (u ∷ []) p r h k = absurd (omega arith)
+link-push (u ∷ v ∷ l) p r h k =
+    ap linkIn (pushed-words u v l p)
     ∙ (λ i. record { up = eqb u 0; held = placesIn (add-one v i) (putAt l (v * placeLong) p) })
     ∙ (λ i. record { up = eqb u 0; held = places-put v l p r (omega arith) i })
 
@@ -102,36 +102,36 @@ length-pushed-if true l p = length-pushed l p
 length-pushed-if false l p = refl
 
 -- the count is one more, or as it was
-pub count-pushed-if : (b : Bool) (l : List ℕ) (p : Packet) → length l ≡ lineLong → getD (pushedIf b l p) heldAt 0 ≤ getD l heldAt 0 + 1
+pub count-pushed-if : (b : Bool) (l : List ℕ) (p : Packet) → length l ≡ linkLong → getD (pushedIf b l p) heldAt 0 ≤ getD l heldAt 0 + 1
 count-pushed-if true l p h = le-of-eq (getD-set-same (putAt l (placeAt (getD l heldAt 0)) p) heldAt (getD l heldAt 0 + 1) 0 (simp length-set (omega arith)))
 count-pushed-if false l p h = omega arith
 
-pub line-push-if : (b : Bool) (l : List ℕ) (p : Packet) → (b ≡ true → Right p) → length l ≡ lineLong → (b ≡ true → getD l heldAt 0 ≤ 7)
-    → lineIn (pushedIf b l p) ≡ record { up = lineIn l .up; held = lineIn l .held ++ cond b (flight p ∷ []) [] }
-line-push-if true l p r h k = line-push l p (r refl) h (k refl)
-line-push-if false l p r h k = λ i. record { up = lineIn l .up; held = sym (append-nil (lineIn l .held)) i }
+pub link-push-if : (b : Bool) (l : List ℕ) (p : Packet) → (b ≡ true → Right p) → length l ≡ linkLong → (b ≡ true → getD l heldAt 0 ≤ 7)
+    → linkIn (pushedIf b l p) ≡ record { up = linkIn l .up; held = linkIn l .held ++ cond b (flight p ∷ []) [] }
+link-push-if true l p r h k = link-push l p (r refl) h (k refl)
+link-push-if false l p r h k = λ i. record { up = linkIn l .up; held = sym (append-nil (linkIn l .held)) i }
 
 pub still-push-if : (b : Bool) (l : List ℕ) (p : Packet) → (b ≡ true → getD l heldAt 0 ≤ 7) → still (pushedIf b l p) ≡ still l
 still-push-if true l p k = push-still l p (k refl)
 still-push-if false l p k = refl
 
 -- room for one more, and for a second behind it
-module _ (l : List ℕ) (o : Outcome) (i : ℕ) (h : length l ≡ lineLong) (room : Room l o i) where
+module _ (l : List ℕ) (o : Outcome) (i : ℕ) (h : length l ≡ linkLong) (room : Room l o i) where
   pub room-first : has (o .sent) i ≡ true → getD l heldAt 0 ≤ 7
   room-first t = omega (arith, room .0 t)
 
   pub room-second : has (o .«leg_sent») i ≡ true → getD (pushedIf (has (o .sent) i) l (packetOn o i)) 1 0 ≤ 7
   room-second t = omega (arith, room .1 t, count-pushed-if (has (o .sent) i) l (packetOn o i) h)
 
-  pub long-between : length (pushedIf (has (o .sent) i) l (packetOn o i)) ≡ lineLong
+  pub long-between : length (pushedIf (has (o .sent) i) l (packetOn o i)) ≡ linkLong
   long-between = length-pushed-if (has (o .sent) i) l (packetOn o i) ∙ h
 
   -- what a pass sends on a link: the link after the pass
-  pub line-sent : (has (o .sent) i ≡ true → Right (packetOn o i)) → (has (o .«leg_sent») i ≡ true → Right (legPacket o)) → lineIn (sentWords l o i) ≡ lineAfter o tt i (lineIn l)
-  line-sent r g =
-      line-push-if (has (o .«leg_sent») i) (pushedIf (has (o .sent) i) l (packetOn o i)) (legPacket o) g long-between room-second
-      ∙ ap (λ (x : Line (Unit {0})). record { up = x .up; held = x .held ++ cond (has (o .«leg_sent») i) (flight (legPacket o) ∷ []) [] })
-      (line-push-if (has (o .sent) i) l (packetOn o i) r h room-first)
+  pub link-sent : (has (o .sent) i ≡ true → Right (packetOn o i)) → (has (o .«leg_sent») i ≡ true → Right (legPacket o)) → linkIn (sentWords l o i) ≡ linkAfter o tt i (linkIn l)
+  link-sent r g =
+      link-push-if (has (o .«leg_sent») i) (pushedIf (has (o .sent) i) l (packetOn o i)) (legPacket o) g long-between room-second
+      ∙ ap (λ (x : Link (Unit {0})). record { up = x .up; held = x .held ++ cond (has (o .«leg_sent») i) (flight (legPacket o) ∷ []) [] })
+      (link-push-if (has (o .sent) i) l (packetOn o i) r h room-first)
 
   -- the state and what is set aside stay
   pub still-sent : still (sentWords l o i) ≡ still l

@@ -1,6 +1,6 @@
 pub mod Across
-pub mod Line
-pub mod LineWords
+pub mod Link
+pub mod LinkWords
 pub mod Offsets
 pub mod Phase
 pub mod Words

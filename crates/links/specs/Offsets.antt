@@ -50,8 +50,8 @@ asideAt = placesAt + depth * placeLong
 abbrev pub asidePlacesAt : ℕ
 asidePlacesAt = asideAt + 1
 
-abbrev pub lineLong : ℕ
-lineLong = asidePlacesAt + depth * placeLong
+abbrev pub linkLong : ℕ
+linkLong = asidePlacesAt + depth * placeLong
 
 -- ---- a chip's block: registers, counters, six links
 
@@ -64,14 +64,14 @@ countersLong = 10
 abbrev pub countersAt : ℕ
 countersAt = registersLong
 
-abbrev pub linesAt : ℕ
-linesAt = countersAt + countersLong
+abbrev pub linksAt : ℕ
+linksAt = countersAt + countersLong
 
 abbrev pub chipLong : ℕ
-chipLong = linesAt + 6 * lineLong
+chipLong = linksAt + 6 * linkLong
 
 abbrev pub chipPlace : ℕ → ℕ
 chipPlace c = headerLong + c * chipLong
 
-abbrev pub linePlace : ℕ → ℕ
-linePlace i = linesAt + i * lineLong
+abbrev pub linkPlace : ℕ → ℕ
+linkPlace i = linksAt + i * linkLong

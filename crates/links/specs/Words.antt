@@ -5,8 +5,8 @@ use lib.Dec.{eqb}
 use lib.ListN.{getD, drop}
 use Rattle.packet.specs.declared.Packet.{Packet}
 use Rattle.packet.specs.Control.{carriesOf}
-use Rattle.links.specs.Offsets.{stateAt, heldAt, placesAt, placeLong, asideAt, asidePlacesAt, chipPlace, linePlace}
-use Rattle.links.specs.Line.{Flight, Line}
+use Rattle.links.specs.Offsets.{stateAt, heldAt, placesAt, placeLong, asideAt, asidePlacesAt, chipPlace, linkPlace}
+use Rattle.links.specs.Link.{Flight, Link}
 use Rattle.links.specs.Across.{across, opposite}
 
 -- A packet in flight is three words: control byte, word, payload. It is right in length, so that bit 1 says how long it is.
@@ -20,12 +20,12 @@ placesIn (suc n) l = record { packet = packetIn l; tag = tt } ∷ placesIn n (dr
 
 -- A directed link's words: 0 where it is up and 1 where it is down, how many packets it holds, eight places; how many are set aside, eight
 -- places for those.
-abbrev pub lineIn : List ℕ → Line (Unit {0})
-lineIn l = record { up = eqb (getD l stateAt 0) 0; held = placesIn (getD l heldAt 0) (drop placesAt l) }
+abbrev pub linkIn : List ℕ → Link (Unit {0})
+linkIn l = record { up = eqb (getD l stateAt 0) 0; held = placesIn (getD l heldAt 0) (drop placesAt l) }
 
 abbrev pub asideIn : List ℕ → List (Flight (Unit {0}))
 asideIn l = placesIn (getD l asideAt 0) (drop asidePlacesAt l)
 
 -- Where in the mesh's words it says how many packets were set aside for a chip on the link opposite to the one that they arrive by.
 abbrev pub asidePlace : ℕ → ℕ → ℕ → ℕ → ℕ
-asidePlace width height chip source = chipPlace (across width height chip source) + linePlace (opposite source) + asideAt
+asidePlace width height chip source = chipPlace (across width height chip source) + linkPlace (opposite source) + asideAt

@@ -2,8 +2,8 @@
 use super::offsets::ASIDE;
 use super::offsets::CHIP;
 use super::offsets::HEADER;
-use super::offsets::LINE;
-use super::offsets::LINES_AT;
+use super::offsets::LINK;
+use super::offsets::LINKS_AT;
 ghost use mathlib.Core.Path.{_≡_};
 ghost use mathlib.Core.Bool.{true};
 ghost use Prim.Native.Nat.{ℕ, _+_, _/_, _%_, _≤_, _<_};
@@ -18,7 +18,7 @@ pub fn aside_place(width: u32, height: u32, x: u32, y: u32, source: u32) -> usiz
 {
     let from = across_link(width, height, x, y, source) as usize;
     let link = ((source + 3) % 6) as usize;
-    HEADER + from * CHIP + (LINES_AT + link * LINE) + ASIDE
+    HEADER + from * CHIP + (LINKS_AT + link * LINK) + ASIDE
 }
 
 // The chip at the other end of link i of the chip at x and y.

@@ -25,35 +25,35 @@ pub const COUNTERS: usize = 10;
 
 pub const COUNTERS_AT: usize = REGISTERS;
 
-pub const LINES_AT: usize = COUNTERS_AT + COUNTERS;
+pub const LINKS_AT: usize = COUNTERS_AT + COUNTERS;
 
-pub const CHIP: usize = LINES_AT + 6 * LINE;
+pub const CHIP: usize = LINKS_AT + 6 * LINK;
 
 // Where each of its links begins.
-pub const LINE_0: usize = LINES_AT;
+pub const LINK_0: usize = LINKS_AT;
 
-pub const LINE_1: usize = LINE_0 + LINE;
+pub const LINK_1: usize = LINK_0 + LINK;
 
-pub const LINE_2: usize = LINE_1 + LINE;
+pub const LINK_2: usize = LINK_1 + LINK;
 
-pub const LINE_3: usize = LINE_2 + LINE;
+pub const LINK_3: usize = LINK_2 + LINK;
 
-pub const LINE_4: usize = LINE_3 + LINE;
+pub const LINK_4: usize = LINK_3 + LINK;
 
-pub const LINE_5: usize = LINE_4 + LINE;
+pub const LINK_5: usize = LINK_4 + LINK;
 
 // And where each says how many packets it holds.
-pub const HELD_0: usize = LINE_0 + HELD;
+pub const HELD_0: usize = LINK_0 + HELD;
 
-pub const HELD_1: usize = LINE_1 + HELD;
+pub const HELD_1: usize = LINK_1 + HELD;
 
-pub const HELD_2: usize = LINE_2 + HELD;
+pub const HELD_2: usize = LINK_2 + HELD;
 
-pub const HELD_3: usize = LINE_3 + HELD;
+pub const HELD_3: usize = LINK_3 + HELD;
 
-pub const HELD_4: usize = LINE_4 + HELD;
+pub const HELD_4: usize = LINK_4 + HELD;
 
-pub const HELD_5: usize = LINE_5 + HELD;
+pub const HELD_5: usize = LINK_5 + HELD;
 
 // ---- a directed link: its state, how many packets it holds, eight places of three words; how many are set aside, eight places for those
 pub const STATE: usize = 0;
@@ -70,4 +70,4 @@ pub const ASIDE: usize = PLACES_AT + DEPTH * PLACE;
 
 pub const ASIDE_PLACES_AT: usize = ASIDE + 1;
 
-pub const LINE: usize = ASIDE_PLACES_AT + DEPTH * PLACE;
+pub const LINK: usize = ASIDE_PLACES_AT + DEPTH * PLACE;

@@ -10,12 +10,12 @@ use lib.ListN.{getD}
 use borrow.Author.Tests.{ltb-true, eqb-true, not-true}
 use Rattle.packet.specs.declared.Packet.{Packet}
 use Rattle.tables.proofs.Sizes as sizes
-use Rattle.links.specs.Line.{idle}
+use Rattle.links.specs.Link.{idle}
 use Rattle.links.specs.Across.{across, opposite, stepEast, stepNorth}
 use Rattle.mesh.specs.Mesh.{Mesh, fresh}
 use Rattle.mesh.specs.Steps.{arrivingBy, arrivingAt, arrivingFrom, arrivals}
 use Rattle.lists.specs.Lists.{All}
-use Rattle.mesh.specs.Sound.{Passable, Arrives, SoundPacket, SoundLine, SoundChip, SoundMesh}
+use Rattle.mesh.specs.Sound.{Passable, Arrives, SoundPacket, SoundLink, SoundChip, SoundMesh}
 use Rattle.lists.proofs.Alls.{all-nil, all-append, all-getD, all-map, all-weaken}
 
 pub sound-passable : {p : Packet} → SoundPacket p → Passable p
@@ -42,7 +42,7 @@ module _ {A : Type 0} {m : Mesh A} (sound : SoundMesh m) where
   by-sound : (chip source : ℕ) → chip < m .height * m .width → source < 6 → All (Arrives (m .height * m .width)) (arrivingBy m chip source)
   by-sound chip source hc hs =
       all-map (Arrives (m .height * m .width)) _ _
-      (all-weaken (λ f. SoundPacket (f .packet)) _ (λ f p. record { there = hc; from = inl hs; passable = sound-passable p }) _ (line .fine))
+      (all-weaken (λ f. SoundPacket (f .packet)) _ (λ f p. record { there = hc; from = inl hs; passable = sound-passable p }) _ (link .fine))
     where
       size : sizes.Size (m .width) (m .height)
       size = sizes.size (m .width) (m .height) (sound .size)
@@ -50,8 +50,8 @@ module _ {A : Type 0} {m : Mesh A} (sound : SoundMesh m) where
       sender : SoundChip (getD (m .chips) (across (m .width) (m .height) chip source) fresh)
       sender = all-getD SoundChip (m .chips) _ fresh (sound .chips) (subst (λ (n : ℕ). across (m .width) (m .height) chip source < n) (sym (sound .many)) (across-there (m .width) (m .height) chip source (size .width-low) (size .height-low)))
 
-      line : SoundLine (getD (getD (m .chips) (across (m .width) (m .height) chip source) fresh .lines) (opposite source) idle)
-      line = all-getD SoundLine _ (opposite source) idle (sender .lines) (subst (λ (n : ℕ). opposite source < n) (sym (sender .six)) (opposite-there source))
+      link : SoundLink (getD (getD (m .chips) (across (m .width) (m .height) chip source) fresh .links) (opposite source) idle)
+      link = all-getD SoundLink _ (opposite source) idle (sender .links) (subst (λ (n : ℕ). opposite source < n) (sym (sender .six)) (opposite-there source))
 
   at-sound : (chip : ℕ) → chip < m .height * m .width → All (Arrives (m .height * m .width)) (arrivingAt m chip)
   at-sound chip hc =

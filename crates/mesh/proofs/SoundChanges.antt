@@ -5,11 +5,11 @@ use mathlib.Core.List.{List}
 use Prim.Native.Nat.{ℕ, _*_, _<_}
 use native.Mathlib.Omega.{arith}
 use lib.ListN.{length, getD, length-set}
-use Rattle.links.specs.Line.{idle}
+use Rattle.links.specs.Link.{idle}
 use Rattle.mesh.specs.Mesh.{Chip, Mesh, fresh}
 use Rattle.mesh.specs.Steps.{withChips, withChip}
 use Rattle.mesh.specs.Calls.{withLink, withEmpty}
-use Rattle.mesh.specs.Sound.{SoundLine, SoundChip, SoundMesh}
+use Rattle.mesh.specs.Sound.{SoundLink, SoundChip, SoundMesh}
 use Rattle.lists.specs.Lists.{All}
 use Rattle.lists.proofs.Alls.{all-getD, all-set}
 
@@ -37,13 +37,13 @@ module _ {A : Type 0} {m : Mesh A} (sound : SoundMesh m) where
   pub sound-linked : (chip link : ℕ) (up : Bool) → chip < m .height * m .width → link < 6 → SoundMesh (withLink m chip link up)
   sound-linked chip link up h k =
       let c = chip-sound chip h in
-      let l : SoundLine (getD (getD (m .chips) chip fresh .lines) link idle) = all-getD SoundLine (getD (m .chips) chip fresh .lines) link idle (c .lines) (omega (arith, c .six)) in
+      let l : SoundLink (getD (getD (m .chips) chip fresh .links) link idle) = all-getD SoundLink (getD (m .chips) chip fresh .links) link idle (c .links) (omega (arith, c .six)) in
       sound-chip chip _
       (record {
-        six = length-set (getD (m .chips) chip fresh .lines) link _ ∙ c .six;
+        six = length-set (getD (m .chips) chip fresh .links) link _ ∙ c .six;
         registers = c .registers;
-        lines = all-set SoundLine (getD (m .chips) chip fresh .lines) link _ (c .lines) (record { few = l .few; fine = l .fine });
+        links = all-set SoundLink (getD (m .chips) chip fresh .links) link _ (c .links) (record { few = l .few; fine = l .fine });
       })
 
   pub sound-emptied : (chip : ℕ) → chip < m .height * m .width → SoundMesh (withEmpty m chip)
-  sound-emptied chip h = let c = chip-sound chip h in sound-chip chip _ (record { six = c .six; registers = refl; lines = c .lines })
+  sound-emptied chip h = let c = chip-sound chip h in sound-chip chip _ (record { six = c .six; registers = refl; links = c .links })

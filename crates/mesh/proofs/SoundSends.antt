@@ -18,7 +18,7 @@ use Rattle.steps.specs.Deciding.{decided, outcomeOf, packetOn, legPacket, Sourc
 use Rattle.steps.proofs.SentBy.{sent-no-error, leg-no-error, leg-marked}
 use Rattle.steps.proofs.SentPackets.{sent-marked, sent-plain, sent-leg, sent-right, leg-right}
 use Rattle.steps.proofs.Stamping.{stamped-odd, stamped-right}
-use Rattle.links.specs.Line.{Right}
+use Rattle.links.specs.Link.{Right}
 use Rattle.mesh.specs.Sound.{Passable, SoundPacket}
 use Rattle.tables.specs.Tables.{ChipTables}
 

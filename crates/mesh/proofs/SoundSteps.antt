@@ -13,12 +13,12 @@ use borrow.Author.Tests.{ltb-true, leb-true}
 use Rattle.tables.specs.Sizes.{sizeFine}
 use Rattle.steps.specs.Deciding.{Checked}
 use Rattle.steps.proofs.Bounds.{set-small}
-use Rattle.links.specs.Line.{Flight, Line, idle, isReady}
+use Rattle.links.specs.Link.{Flight, Link, idle, isReady}
 use Rattle.links.specs.Phase.{nextPhase}
 use Rattle.mesh.specs.Mesh.{Chip, Mesh, fresh, opened, roundsFine}
 use Rattle.mesh.specs.Steps.{Tables, Arrival, Going, settingAt, emptied, emptiedChip, setAside, arrivals, roundOver, passAt, injected, passed, rounded, tablesAt}
 use Rattle.lists.specs.Lists.{All}
-use Rattle.mesh.specs.Sound.{Passable, Arrives, SoundLine, SoundChip, SoundMesh}
+use Rattle.mesh.specs.Sound.{Passable, Arrives, SoundLink, SoundChip, SoundMesh}
 use Rattle.lists.proofs.Alls.{all-nil, all-map, all-weaken, all-replicate}
 use Rattle.steps.proofs.Sources.{source-near}
 use Rattle.mesh.proofs.SoundChanges.{sound-chips, sound-chip, chip-sound}
@@ -66,15 +66,15 @@ elapsed-below elapsed rounds fine = go (ltb (elapsed + 1) rounds) refl
 module _ {A : Type 0} where
   -- ---- what a round begins and ends with
 
-  emptied-sound : (l : Line A) → SoundLine (emptied l)
+  emptied-sound : (l : Link A) → SoundLink (emptied l)
   emptied-sound l = record { few = lit≤ tt; fine = all-nil _ }
 
   emptied-chip-sound : (c : Chip A) → SoundChip c → SoundChip (emptiedChip c)
   emptied-chip-sound c sound =
       record {
-        six = length-map (c .lines) emptied ∙ sound .six;
+        six = length-map (c .links) emptied ∙ sound .six;
         registers = sound .registers;
-        lines = all-map SoundLine emptied (c .lines) (all-weaken SoundLine _ (λ l h. emptied-sound l) (c .lines) (sound .lines));
+        links = all-map SoundLink emptied (c .links) (all-weaken SoundLink _ (λ l h. emptied-sound l) (c .links) (sound .links));
       }
 
   pub sound-aside : {m : Mesh A} → SoundMesh m → SoundMesh (setAside m)
@@ -96,7 +96,7 @@ module _ {A : Type 0} where
   -- ---- an open mesh
 
   fresh-sound : SoundChip {A = A} fresh
-  fresh-sound = record { six = refl; registers = refl; lines = all-replicate SoundLine 6 idle (record { few = lit≤ tt; fine = all-nil _ }) }
+  fresh-sound = record { six = refl; registers = refl; links = all-replicate SoundLink 6 idle (record { few = lit≤ tt; fine = all-nil _ }) }
 
   pub sound-opened : (w h f mon : ℕ) → sizeFine w h ≡ true → roundsFine f ≡ true → mon ≤ 19 → SoundMesh {A = A} (opened w h f mon)
   sound-opened w h f mon size rounds monitor =
@@ -121,7 +121,7 @@ module _ {A : Type 0} where
         from = source-near (a .source) (h .from);
         monitor = omega (arith, sound .monitor);
         phase = sound .phase;
-        ready = set-small (λ i. isReady (getD (getD (m .chips) (a .chip) fresh .lines) i idle));
+        ready = set-small (λ i. isReady (getD (getD (m .chips) (a .chip) fresh .links) i idle));
         width = size .width-high;
         height = size .height-high;
         enough = codes-enough (t .codes) (m .height * m .width) (a .chip) (h .there) codes;

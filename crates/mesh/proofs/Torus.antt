@@ -5,12 +5,12 @@ use native.Mathlib.Nat.{add-zero, zero-add}
 use native.Mathlib.Omega.{arith}
 use lib.ListN.{length, getD}
 use Rattle.lists.proofs.Six.{six}
-use Rattle.links.specs.Line.{Flight, idle}
+use Rattle.links.specs.Link.{Flight, idle}
 use Rattle.links.specs.Across.{stepEast, stepNorth, across, opposite}
 use Rattle.mesh.specs.Mesh.{Chip, Mesh, fresh}
 use Rattle.mesh.specs.Steps.{Arrival, arrivingBy, arrivingAt, arrivingFrom, arrivals}
 use Rattle.lists.specs.Lists.{total}
-use Rattle.mesh.specs.Weights.{onLine, onChip, onMesh, inFlight}
+use Rattle.mesh.specs.Weights.{onLink, onChip, onMesh, inFlight}
 use Rattle.lists.proofs.Sums.{sumTo, sum-same, sum-add, sum-first, total-sum, sum-torus}
 use Rattle.lists.proofs.Totals.{total-append, total-six, total-map, total-ones}
 
@@ -49,9 +49,9 @@ module _ {A : Type 0} (w : Flight A → ℕ) where
   abbrev wa : Arrival A → ℕ
   wa a = w (a .flight)
 
-  -- what line j of chip k weighs
+  -- what link j of chip k weighs
   on : Mesh A → ℕ → ℕ → ℕ
-  on m k j = onLine w (getD (getD (m .chips) k fresh .lines) j idle)
+  on m k j = onLink w (getD (getD (m .chips) k fresh .links) j idle)
 
   -- what arrives at a chip by a link weighs what the link opposite held, at the chip across
   by-weighs : (m : Mesh A) (c s : ℕ) → total wa (arrivingBy m c s) ≡ on m (across (m .width) (m .height) c s) (opposite s)
@@ -77,9 +77,9 @@ module _ {A : Type 0} (w : Flight A → ℕ) where
       ∙ sym (sum-first n (λ k. at (c + k)))
 
   -- a chip of six links weighs what they weigh
-  chip-weighs : (c : Chip A) → length (c .lines) ≡ 6 → six-on (λ (j : ℕ). onLine w (getD (c .lines) j idle)) ≡ onChip w c
+  chip-weighs : (c : Chip A) → length (c .links) ≡ 6 → six-on (λ (j : ℕ). onLink w (getD (c .links) j idle)) ≡ onChip w c
   unfolding six-on total
-  chip-weighs c h = omega (arith, ap (total (onLine w)) (six idle (c .lines) h))
+  chip-weighs c h = omega (arith, ap (total (onLink w)) (six idle (c .links) h))
 
   -- each source's links, summed over the torus: those of the chips across are those of all chips
   links-weigh : (m : Mesh A) → 1 ≤ m .width → 1 ≤ m .height → (s : ℕ)
@@ -90,10 +90,10 @@ module _ {A : Type 0} (w : Flight A → ℕ) where
 
   -- all arrivals of a round weigh what was in flight
   pub arrivals-weigh : (m : Mesh A) → 1 ≤ m .width → 1 ≤ m .height → length (m .chips) ≡ m .height * m .width
-      → ((k : ℕ) → k < m .height * m .width → length (getD (m .chips) k fresh .lines) ≡ 6)
+      → ((k : ℕ) → k < m .height * m .width → length (getD (m .chips) k fresh .links) ≡ 6)
       → total (λ (a : Arrival A). w (a .flight)) (arrivals m) ≡ onMesh w m
   unfolding on
-  arrivals-weigh m wide high many lines =
+  arrivals-weigh m wide high many links =
       let n : ℕ = m .height * m .width in
       let far : ℕ → ℕ → ℕ = λ c s. on m (across (m .width) (m .height) c s) (opposite s) in
       let near : ℕ → ℕ → ℕ = λ c s. on m c (opposite s) in
@@ -103,12 +103,12 @@ module _ {A : Type 0} (w : Flight A → ℕ) where
       ∙ six-same (λ s. sumTo n (λ c. far c s)) (λ s. sumTo n (λ c. near c s)) (links-weigh m wide high)
       ∙ sym (sum-six n near)
       ∙ sum-same n (λ c. six-on (near c)) (λ c. onChip w (getD (m .chips) c fresh))
-      (λ c h. six-opposite (on m c) ∙ chip-weighs (getD (m .chips) c fresh) (lines c h))
+      (λ c h. six-opposite (on m c) ∙ chip-weighs (getD (m .chips) c fresh) (links c h))
       ∙ ap (λ (k : ℕ). sumTo k (λ c. onChip w (getD (m .chips) c fresh))) (sym many)
       ∙ sym (total-sum (onChip w) (m .chips) fresh)
 
 -- as many arrive as were in flight
 pub arrivals-count : {A : Type 0} (m : Mesh A) → 1 ≤ m .width → 1 ≤ m .height → length (m .chips) ≡ m .height * m .width
-    → ((k : ℕ) → k < m .height * m .width → length (getD (m .chips) k fresh .lines) ≡ 6)
+    → ((k : ℕ) → k < m .height * m .width → length (getD (m .chips) k fresh .links) ≡ 6)
     → length (arrivals m) ≡ inFlight m
-arrivals-count m wide high many lines = sym (total-ones (arrivals m)) ∙ arrivals-weigh (λ f. 1) m wide high many lines
+arrivals-count m wide high many links = sym (total-ones (arrivals m)) ∙ arrivals-weigh (λ f. 1) m wide high many links

@@ -18,7 +18,7 @@ use Rattle.mesh.specs.declared.CountRead.{CountRead}
 use Rattle.mesh.specs.declared.MeshRead.{MeshRead}
 use Rattle.mesh.specs.declared.LinkRead.{LinkRead}
 use Rattle.mesh.specs.declared.FlightRead.{FlightRead}
-use Rattle.links.specs.Line.{Flight, Line, idle, isReady}
+use Rattle.links.specs.Link.{Flight, Link, idle, isReady}
 use Rattle.mesh.specs.Mesh.{Chip, Mesh, fresh}
 use Rattle.mesh.specs.Steps.{Tables, Going, setOut, withChip, injected, rounded}
 use Rattle.mesh.specs.Weights.{inFlight}
@@ -97,8 +97,8 @@ module _ {A : Type 0} where
   abbrev pub chipOf : Mesh A → ℕ → Chip A
   chipOf m chip = getD (m .chips) chip fresh
 
-  abbrev pub lineOf : Mesh A → ℕ → ℕ → Line A
-  lineOf m chip link = getD (chipOf m chip .lines) link idle
+  abbrev pub linkOf : Mesh A → ℕ → ℕ → Link A
+  linkOf m chip link = getD (chipOf m chip .links) link idle
 
   -- "A refusal returns its number ..., and lent memory stays as it came."
   abbrev pub unless : ℕ → ℕ → Mesh A → Going A → Left A
@@ -120,13 +120,13 @@ module _ {A : Type 0} where
 
   -- ---- the calls that change one thing
 
-  abbrev pub withUp : Bool → Line A → Line A
+  abbrev pub withUp : Bool → Link A → Link A
   withUp up l = record { up = up; held = l .held }
 
   abbrev pub withLink : Mesh A → ℕ → ℕ → Bool → Mesh A
   withLink m chip link up =
       let c = chipOf m chip in
-      withChip m chip (record { registers = c .registers; counters = c .counters; lines = set (c .lines) link (withUp up (lineOf m chip link)) })
+      withChip m chip (record { registers = c .registers; counters = c .counters; links = set (c .links) link (withUp up (linkOf m chip link)) })
 
   -- "A link change sets the one directed link it names up or down, as asked, and nothing else".
   abbrev pub linking : Bool → Mesh A → ℕ → ℕ → Bool → Left A
@@ -134,7 +134,7 @@ module _ {A : Type 0} where
       unless (firstOf (linkRefusals holds (many m) chip link)) 0 m (setOut (withLink m chip link up))
 
   abbrev pub withEmpty : Mesh A → ℕ → Mesh A
-  withEmpty m chip = let c = chipOf m chip in withChip m chip (record { registers = empty; counters = c .counters; lines = c .lines })
+  withEmpty m chip = let c = chipOf m chip in withChip m chip (record { registers = empty; counters = c .counters; links = c .links })
 
   -- "Reading hands them over and empties them; empty ones are all zeros."
   abbrev pub emptying : Bool → Mesh A → ℕ → Left A
@@ -171,16 +171,16 @@ module _ {A : Type 0} where
       cond holds (meshShown m (inFlight m))
       (record { refusal = 8; width = 0; height = 0; «rounds_per_phase» = 0; monitor = 0; phase = 0; «rounds_in_phase» = 0; «in_flight» = 0 })
 
-  abbrev pub lineRead : Line A → LinkRead
-  lineRead l = record { refusal = 0; up = flag (l .up) 1; held = length (l .held); ready = flag (isReady l) 1 }
+  abbrev pub linkShown : Link A → LinkRead
+  linkShown l = record { refusal = 0; up = flag (l .up) 1; held = length (l .held); ready = flag (isReady l) 1 }
 
   abbrev pub linkRead : Bool → Mesh A → ℕ → ℕ → LinkRead
   linkRead holds m chip link =
       let refusal = firstOf (linkRefusals holds (many m) chip link) in
-      cond (eqb refusal 0) (lineRead (lineOf m chip link)) (record { refusal = refusal; up = 0; held = 0; ready = 0 })
+      cond (eqb refusal 0) (linkShown (linkOf m chip link)) (record { refusal = refusal; up = 0; held = 0; ready = 0 })
 
   -- The packets of a link, the oldest first, and the one at a place; 9 where the link holds none there.
-  abbrev pub placeRead : Line A → ℕ → FlightRead
+  abbrev pub placeRead : Link A → ℕ → FlightRead
   placeRead l place =
       cond (ltb place (length (l .held)))
       (record { refusal = 0; packet = getD (map (λ (f : Flight A). f .packet) (l .held)) place nothing })
@@ -189,4 +189,4 @@ module _ {A : Type 0} where
   abbrev pub flightRead : Bool → Mesh A → ℕ → ℕ → ℕ → FlightRead
   flightRead holds m chip link place =
       let refusal = firstOf (linkRefusals holds (many m) chip link) in
-      cond (eqb refusal 0) (placeRead (lineOf m chip link) place) (noFlight refusal)
+      cond (eqb refusal 0) (placeRead (linkOf m chip link) place) (noFlight refusal)

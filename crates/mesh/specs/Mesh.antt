@@ -8,12 +8,12 @@ use Rattle.kept.specs.declared.Registers.{Registers}
 use Rattle.kept.specs.declared.Counters.{Counters}
 use Rattle.kept.specs.Keeping.{empty}
 use Rattle.kept.specs.Counting.{zeros}
-use Rattle.links.specs.Line.{Line, idle, readyLinks}
+use Rattle.links.specs.Link.{Link, idle, readyLinks}
 
 pub record Chip (A : Type 0) : Type 0 where
   pub registers : Registers
   pub counters : Counters
-  pub lines : List (Line A)
+  pub links : List (Link A)
 
 -- `rounds` is F, the rounds in a phase; `elapsed` is how many of the running phase are over.
 pub record Mesh (A : Type 0) : Type 0 where
@@ -32,7 +32,7 @@ roundsFine rounds = leb 1 rounds && leb rounds 65535
 module _ {A : Type 0} where
   -- "Links open up", and registers and counters at zeros.
   abbrev pub fresh : Chip A
-  fresh = record { registers = empty; counters = zeros; lines = replicate 6 idle }
+  fresh = record { registers = empty; counters = zeros; links = replicate 6 idle }
 
   -- "... and phase opens at 00."
   abbrev pub opened : ℕ → ℕ → ℕ → ℕ → Mesh A
@@ -49,4 +49,4 @@ module _ {A : Type 0} where
 
   -- The links of a chip that are ready: "this is worked out afresh at each pass".
   abbrev pub readyOf : Mesh A → ℕ → ℕ
-  readyOf m chip = readyLinks (getD (m .chips) chip fresh .lines)
+  readyOf m chip = readyLinks (getD (m .chips) chip fresh .links)

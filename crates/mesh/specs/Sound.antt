@@ -10,7 +10,7 @@ use Rattle.packet.specs.declared.Packet.{Packet}
 use Rattle.packet.specs.Control.{isDirect}
 use Rattle.packet.specs.Parity.{isOdd}
 use Rattle.tables.specs.Sizes.{sizeFine}
-use Rattle.links.specs.Line.{Flight, Line, Right}
+use Rattle.links.specs.Link.{Flight, Link, Right}
 use Rattle.mesh.specs.Mesh.{Chip, Mesh, roundsFine}
 use Rattle.mesh.specs.Steps.{Arrival}
 use Rattle.kept.specs.declared.Registers.{Registers}
@@ -52,14 +52,14 @@ pub record SoundPacket (p : Packet) : Type 0 where
   pub right : Right p
 
 module _ {A : Type 0} where
-  pub record SoundLine (l : Line A) : Type 0 where
+  pub record SoundLink (l : Link A) : Type 0 where
     pub few : length (l .held) ≤ 8
     pub fine : All (λ (f : Flight A). SoundPacket (f .packet)) (l .held)
 
   pub record SoundChip (c : Chip A) : Type 0 where
-    pub six : length (c .lines) ≡ 6
+    pub six : length (c .links) ≡ 6
     pub registers : registersFine (c .registers) ≡ true
-    pub lines : All SoundLine (c .lines)
+    pub links : All SoundLink (c .links)
 
   pub record SoundMesh (m : Mesh A) : Type 0 where
     pub size : sizeFine (m .width) (m .height) ≡ true

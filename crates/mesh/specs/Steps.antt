@@ -11,7 +11,7 @@ use Rattle.steps.specs.Links.{processorsOf}
 use Rattle.steps.specs.Deciding.{outcomeOf}
 use Rattle.kept.specs.Keeping.{keptOf}
 use Rattle.kept.specs.Counting.{countedOf}
-use Rattle.links.specs.Line.{Flight, Line, idle, lineAfter}
+use Rattle.links.specs.Link.{Flight, Link, idle, linkAfter}
 use Rattle.links.specs.Across.{across, opposite}
 use Rattle.links.specs.Phase.{nextPhase}
 use Rattle.mesh.specs.Mesh.{Chip, Mesh, fresh, readyOf}
@@ -75,13 +75,13 @@ module _ {A : Type 0} where
   abbrev pub outcomeAt : Tables → Mesh A → ℕ → ℕ → Packet → Outcome
   outcomeAt t m chip source p = outcomeOf p source (tablesAt t (m .height * m .width) chip) (settingAt m chip)
 
-  unfoldable pub linesAfter : Outcome → A → ℕ → List (Line A) → List (Line A)
-  linesAfter o tag i [] = []
-  linesAfter o tag i (l ∷ ls) = lineAfter o tag i l ∷ linesAfter o tag (suc i) ls
+  unfoldable pub linksAfter : Outcome → A → ℕ → List (Link A) → List (Link A)
+  linksAfter o tag i [] = []
+  linksAfter o tag i (l ∷ ls) = linkAfter o tag i l ∷ linksAfter o tag (suc i) ls
 
   abbrev pub chipAfter : Outcome → A → Chip A → Chip A
   chipAfter o tag c =
-      record { registers = keptOf (c .registers) o; counters = countedOf (c .counters) o; lines = linesAfter o tag 0 (c .lines) }
+      record { registers = keptOf (c .registers) o; counters = countedOf (c .counters) o; links = linksAfter o tag 0 (c .links) }
 
   abbrev pub withChips : Mesh A → List (Chip A) → Mesh A
   withChips m chips =
@@ -101,11 +101,11 @@ module _ {A : Type 0} where
   -- ---- what a round begins and ends with
 
   -- "A round takes exactly what was in flight when it began, all of it set aside first".
-  abbrev pub emptied : Line A → Line A
+  abbrev pub emptied : Link A → Link A
   emptied l = record { up = l .up; held = [] }
 
   abbrev pub emptiedChip : Chip A → Chip A
-  emptiedChip c = record { registers = c .registers; counters = c .counters; lines = map emptied (c .lines) }
+  emptiedChip c = record { registers = c .registers; counters = c .counters; links = map emptied (c .links) }
 
   abbrev pub setAside : Mesh A → Mesh A
   setAside m = withChips m (map emptiedChip (m .chips))
@@ -114,7 +114,7 @@ module _ {A : Type 0} where
   abbrev pub arrivingBy : Mesh A → ℕ → ℕ → List (Arrival A)
   arrivingBy m chip source =
       map (λ (f : Flight A). record { chip = chip; source = source; flight = f })
-      (getD (getD (m .chips) (across (m .width) (m .height) chip source) fresh .lines) (opposite source) idle .held)
+      (getD (getD (m .chips) (across (m .width) (m .height) chip source) fresh .links) (opposite source) idle .held)
 
   -- "... chips by number y*W + x, arrival links 0 to 5, oldest first".
   abbrev pub arrivingAt : Mesh A → ℕ → List (Arrival A)

@@ -1,15 +1,15 @@
 -- Sums over what is in flight: how many packets a mesh has in flight, or what they weigh together.
 use Prim.Native.Nat.{ℕ}
 use Rattle.lists.specs.Lists.{total}
-use Rattle.links.specs.Line.{Flight, Line}
+use Rattle.links.specs.Link.{Flight, Link}
 use Rattle.mesh.specs.Mesh.{Chip, Mesh}
 
 module _ {A : Type 0} (w : Flight A → ℕ) where
-  abbrev pub onLine : Line A → ℕ
-  onLine l = total w (l .held)
+  abbrev pub onLink : Link A → ℕ
+  onLink l = total w (l .held)
 
   abbrev pub onChip : Chip A → ℕ
-  onChip c = total onLine (c .lines)
+  onChip c = total onLink (c .links)
 
   abbrev pub onMesh : Mesh A → ℕ
   onMesh m = total onChip (m .chips)

@@ -14,7 +14,7 @@ use Rattle.steps.proofs.Flags.{young-stamp, old-stamp}
 use Rattle.steps.proofs.SentBy.{sent-no-error, leg-no-error}
 use Rattle.steps.proofs.SentPackets.{SameButMark, sent-same, leg-same}
 use Rattle.steps.proofs.Stamping.{outcome-stamped, stamp-from-link, stamp-local}
-use Rattle.links.specs.Line.{Flight}
+use Rattle.links.specs.Link.{Flight}
 use Rattle.promises.specs.History.{Tag, turned}
 use Rattle.promises.specs.Told.{Stamped}
 use Rattle.promises.specs.Demand3.{span}

@@ -10,9 +10,9 @@ use Rattle.packet.specs.declared.Packet.{Packet}
 use Rattle.steps.specs.declared.Outcome.{Outcome}
 use Rattle.steps.specs.Links.{has}
 use Rattle.steps.specs.Deciding.{packetOn, legPacket}
-use Rattle.links.specs.Line.{Flight, Line, idle, sent, lineAfter}
+use Rattle.links.specs.Link.{Flight, Link, idle, sent, linkAfter}
 use Rattle.mesh.specs.Mesh.{Chip}
-use Rattle.mesh.specs.Steps.{linesAfter}
+use Rattle.mesh.specs.Steps.{linksAfter}
 use Rattle.lists.specs.Lists.{All}
 use Rattle.lists.proofs.Alls.{all-append}
 use Rattle.mesh.proofs.SoundChanges.{chip-sound}
@@ -25,8 +25,8 @@ unfolding All
 tagged-sent true p tag = (refl, tt)
 tagged-sent false p tag = tt
 
-behind-line : (o : Outcome) (tag : Tag) (i : ℕ) (l : Line Tag) → Behind (l .held) (lineAfter o tag i l .held) tag
-behind-line o tag i l =
+behind-link : (o : Outcome) (tag : Tag) (i : ℕ) (l : Link Tag) → Behind (l .held) (linkAfter o tag i l .held) tag
+behind-link o tag i l =
     let packet = sent (has (o .sent) i) (packetOn o i) tag in
     let leg = sent (has (o .«leg_sent») i) (legPacket o) tag in
     record {
@@ -36,17 +36,17 @@ behind-line o tag i l =
     }
 
 -- one link of a chip after a pass
-line-from : {A : Type 0} (o : Outcome) (tag : A) (i n : ℕ) (ls : List (Line A)) → n < length ls → getD (linesAfter o tag i ls) n idle ≡ lineAfter o tag (n + i) (getD ls n idle)
-unfolding linesAfter
-line-from o tag i n [] h = absurd (omega arith)
-line-from o tag i zero (l ∷ ls) h = ap (λ (k : ℕ). lineAfter o tag k l) (sym (zero-add i))
-line-from o tag i (suc n) (l ∷ ls) h = line-from o tag (suc i) n ls (omega arith) ∙ ap (λ (k : ℕ). lineAfter o tag k (getD ls n idle)) (omega arith)
+link-from : {A : Type 0} (o : Outcome) (tag : A) (i n : ℕ) (ls : List (Link A)) → n < length ls → getD (linksAfter o tag i ls) n idle ≡ linkAfter o tag (n + i) (getD ls n idle)
+unfolding linksAfter
+link-from o tag i n [] h = absurd (omega arith)
+link-from o tag i zero (l ∷ ls) h = ap (λ (k : ℕ). linkAfter o tag k l) (sym (zero-add i))
+link-from o tag i (suc n) (l ∷ ls) h = link-from o tag (suc i) n ls (omega arith) ∙ ap (λ (k : ℕ). linkAfter o tag k (getD ls n idle)) (omega arith)
 
-pub line-at : {A : Type 0} (o : Outcome) (tag : A) (n : ℕ) (ls : List (Line A)) → n < length ls → getD (linesAfter o tag 0 ls) n idle ≡ lineAfter o tag n (getD ls n idle)
-line-at o tag n ls h = line-from o tag 0 n ls h ∙ ap (λ (k : ℕ). lineAfter o tag k (getD ls n idle)) (add-zero n)
+pub link-at : {A : Type 0} (o : Outcome) (tag : A) (n : ℕ) (ls : List (Link A)) → n < length ls → getD (linksAfter o tag 0 ls) n idle ≡ linkAfter o tag n (getD ls n idle)
+link-at o tag n ls h = link-from o tag 0 n ls h ∙ ap (λ (k : ℕ). linkAfter o tag k (getD ls n idle)) (add-zero n)
 
 abbrev Aparts : Passage → Type 0
-Aparts p = (i : ℕ) → i < 6 → Behind (getD (p .here .lines) i idle .held) (getD (p .left .lines) i idle .held) (turned (p .arrival .flight .tag))
+Aparts p = (i : ℕ) → i < 6 → Behind (getD (p .here .links) i idle .held) (getD (p .left .links) i idle .held) (turned (p .arrival .flight .tag))
 
 pub copies-apart : CopiesApart
 copies-apart =
@@ -54,7 +54,7 @@ copies-apart =
     let p = passage t n m a in
     let here = p .here in
     let tag = turned (a .flight .tag) in
-    let e : getD (p .left .lines) i idle ≡ lineAfter (p .outcome) tag i (getD (here .lines) i idle) =
-    ap (λ (c : Chip Tag). getD (c .lines) i idle) (left-after t n m a sound h)
-    ∙ line-at (p .outcome) tag i (here .lines) (omega (arith, chip-sound sound (a .chip) (h .there) .six)) in
-    subst (λ (l : Line Tag). Behind (getD (here .lines) i idle .held) (l .held) tag) (sym e) (behind-line (p .outcome) tag i (getD (here .lines) i idle)))
+    let e : getD (p .left .links) i idle ≡ linkAfter (p .outcome) tag i (getD (here .links) i idle) =
+    ap (λ (c : Chip Tag). getD (c .links) i idle) (left-after t n m a sound h)
+    ∙ link-at (p .outcome) tag i (here .links) (omega (arith, chip-sound sound (a .chip) (h .there) .six)) in
+    subst (λ (l : Link Tag). Behind (getD (here .links) i idle .held) (l .held) tag) (sym e) (behind-link (p .outcome) tag i (getD (here .links) i idle)))

@@ -9,7 +9,7 @@ use lib.ListN.{length, length-append, List·getD-append}
 use lib.Seq.{getD-at}
 use Rattle.packet.specs.Bytes.{packetAt}
 use Rattle.steps.specs.declared.Outcome.{Outcome}
-use Rattle.links.specs.Line.{Flight}
+use Rattle.links.specs.Link.{Flight}
 use Rattle.mesh.specs.Steps.{Tables, Arrival, setOut, setAside, arrivals}
 use Rattle.mesh.specs.Sound.{SoundMesh}
 use Rattle.mesh.proofs.SoundArrivals.{sound-arrivals}

@@ -13,10 +13,10 @@ use Rattle.kept.specs.Units.{overLinks}
 use Rattle.lists.specs.Lists.{All, total}
 use Rattle.lists.proofs.Alls.{all-weaken}
 use Rattle.lists.proofs.Totals.{total-same, total-none}
-use Rattle.links.specs.Line.{Flight}
+use Rattle.links.specs.Link.{Flight}
 use Rattle.mesh.specs.Mesh.{Mesh}
 use Rattle.mesh.specs.Steps.{Tables, Arrival, Going, outcomeAt, passAt}
-use Rattle.mesh.specs.Weights.{onLine, onChip, onMesh}
+use Rattle.mesh.specs.Weights.{onLink, onChip, onMesh}
 use Rattle.mesh.specs.Sound.{Arrives, SoundMesh}
 use Rattle.promises.specs.History.{Tag, Passage, Event, packetPassed, registersEmptied, turned}
 use Rattle.promises.specs.Told.{EachFlight, EachPass}
@@ -54,14 +54,14 @@ module _ (n : ℕ) where
   pub none-in-flight : (m : Mesh Tag) → copies m ≡ 0 → EachFlight OfOthers m
   none-in-flight m e =
       all-weaken (λ c. onChip copyOf c ≡ 0) _
-      (λ c h. all-weaken (λ l. onLine copyOf l ≡ 0) _ (λ l k. all-weaken (λ x. copyOf x ≡ 0) OfOthers of-others (l .held) (all-zero copyOf (l .held) k)) (c .lines) (all-zero (onLine copyOf) (c .lines) h)) (m .chips)
+      (λ c h. all-weaken (λ l. onLink copyOf l ≡ 0) _ (λ l k. all-weaken (λ x. copyOf x ≡ 0) OfOthers of-others (l .held) (all-zero copyOf (l .held) k)) (c .links) (all-zero (onLink copyOf) (c .links) h)) (m .chips)
       (all-zero (onChip copyOf) (m .chips) e)
 
   pub no-copies : (m : Mesh Tag) → EachFlight OfOthers m → copies m ≡ 0
   no-copies m each =
       zero-all (onChip copyOf) (m .chips)
       (all-weaken _ (λ c. onChip copyOf c ≡ 0)
-      (λ c h. zero-all (onLine copyOf) (c .lines) (all-weaken _ (λ l. onLine copyOf l ≡ 0) (λ l k. zero-all copyOf (l .held) (all-weaken OfOthers (λ x. copyOf x ≡ 0) no-copy (l .held) k)) (c .lines) h)) (m .chips) each)
+      (λ c h. zero-all (onLink copyOf) (c .links) (all-weaken _ (λ l. onLink copyOf l ≡ 0) (λ l k. zero-all copyOf (l .held) (all-weaken OfOthers (λ x. copyOf x ≡ 0) no-copy (l .held) k)) (c .links) h)) (m .chips) each)
 
   -- ---- over a pass
 

@@ -11,10 +11,10 @@ use Rattle.packet.specs.declared.Packet.{Packet}
 use Rattle.steps.specs.declared.Outcome.{Outcome}
 use Rattle.steps.specs.Links.{has}
 use Rattle.steps.specs.Deciding.{packetOn, legPacket}
-use Rattle.links.specs.Line.{Flight, Line, idle, sent, lineAfter}
+use Rattle.links.specs.Link.{Flight, Link, idle, sent, linkAfter}
 use Rattle.links.specs.Across.{across, opposite}
 use Rattle.mesh.specs.Mesh.{Chip, Mesh, fresh, opened}
-use Rattle.mesh.specs.Steps.{Tables, Arrival, Going, outcomeAt, linesAfter, emptied, emptiedChip, setAside, arrivingBy, arrivingAt, arrivingFrom, arrivals, passAt}
+use Rattle.mesh.specs.Steps.{Tables, Arrival, Going, outcomeAt, linksAfter, emptied, emptiedChip, setAside, arrivingBy, arrivingAt, arrivingFrom, arrivals, passAt}
 use Rattle.mesh.specs.Calls.{chipOf, withLink, withEmpty}
 use Rattle.lists.specs.Lists.{All}
 use Rattle.mesh.specs.Sound.{Arrives, SoundChip, SoundMesh}
@@ -42,11 +42,11 @@ module _ {A : Type 0} (P : Arrival A → Type 0) (m : Mesh A) (by : (chip source
   all-arrivals = from-chip (m .height * m .width) 0 (omega arith)
 
 module _ {A : Type 0} (Q : Flight A → Type 0) where
-  abbrev EachHeld : Line A → Type 0
+  abbrev EachHeld : Link A → Type 0
   EachHeld l = All Q (l .held)
 
   abbrev EachOn : Chip A → Type 0
-  EachOn c = All EachHeld (c .lines)
+  EachOn c = All EachHeld (c .links)
 
   -- ---- one pass
 
@@ -61,23 +61,23 @@ module _ {A : Type 0} (Q : Flight A → Type 0) where
   each-sent false p tag h = tt
 
   -- a link with what it gets
-  pub each-line-gets : (o : Outcome) (tag : A) (i : ℕ) (l : Line A) → (has (o .sent) i ≡ true → Q (record { packet = packetOn o i; tag = tag }))
+  pub each-link-gets : (o : Outcome) (tag : A) (i : ℕ) (l : Link A) → (has (o .sent) i ≡ true → Q (record { packet = packetOn o i; tag = tag }))
       → (has (o .«leg_sent») i ≡ true → Q (record { packet = legPacket o; tag = tag }))
       → EachHeld l
-      → EachHeld (lineAfter o tag i l)
-  each-line-gets o tag i l packet leg a =
+      → EachHeld (linkAfter o tag i l)
+  each-link-gets o tag i l packet leg a =
       all-append Q _ _ (all-append Q _ _ a (each-sent (has (o .sent) i) (packetOn o i) tag packet)) (each-sent (has (o .«leg_sent») i) (legPacket o) tag leg)
 
-  each-lines-after : (o : Outcome) (tag : A) (i : ℕ) (ls : List (Line A)) → i + length ls ≤ 6 → Sends o tag → All EachHeld ls → All EachHeld (linesAfter o tag i ls)
-  unfolding All linesAfter
-  each-lines-after o tag i [] few h a = tt
-  each-lines-after o tag i (l ∷ ls) few h a = (each-line-gets o tag i l (h .links i (omega arith)) (h .leg i (omega arith)) (a .0), each-lines-after o tag (suc i) ls (omega arith) h (a .1))
+  each-links-after : (o : Outcome) (tag : A) (i : ℕ) (ls : List (Link A)) → i + length ls ≤ 6 → Sends o tag → All EachHeld ls → All EachHeld (linksAfter o tag i ls)
+  unfolding All linksAfter
+  each-links-after o tag i [] few h a = tt
+  each-links-after o tag i (l ∷ ls) few h a = (each-link-gets o tag i l (h .links i (omega arith)) (h .leg i (omega arith)) (a .0), each-links-after o tag (suc i) ls (omega arith) h (a .1))
 
   fresh-each : EachOn fresh
   fresh-each = all-replicate EachHeld 6 idle (all-nil Q)
 
   pub each-any : ((x : Flight A) → Q x) → (m : Mesh A) → EachFlight Q m
-  each-any h m = all-any EachOn (λ c. all-any EachHeld (λ l. all-any Q h (l .held)) (c .lines)) (m .chips)
+  each-any h m = all-any EachOn (λ c. all-any EachHeld (λ l. all-any Q h (l .held)) (c .links)) (m .chips)
 
   pub each-opened : (w h f monitor : ℕ) → EachFlight Q (opened w h f monitor)
   each-opened w h f monitor = all-replicate EachOn (h * w) fresh fresh-each
@@ -87,7 +87,7 @@ module _ {A : Type 0} (Q : Flight A → Type 0) where
   pub each-aside : (m : Mesh A) → EachFlight Q (setAside m)
   each-aside m =
       all-map EachOn emptiedChip (m .chips)
-      (all-any _ (λ c. all-map EachHeld emptied (c .lines) (all-any _ (λ l. all-nil Q) (c .lines))) (m .chips))
+      (all-any _ (λ c. all-map EachHeld emptied (c .links) (all-any _ (λ l. all-nil Q) (c .links))) (m .chips))
 
   -- ---- arrivals
 
@@ -96,13 +96,13 @@ module _ {A : Type 0} (Q : Flight A → Type 0) where
   Arriving a = (a .source < 6) × Q (a .flight)
 
   each-by : (m : Mesh A) → EachFlight Q m → (chip source : ℕ) → source < 6 → All Arriving (arrivingBy m chip source)
-  each-by m each chip source near = all-map Arriving _ _ (all-weaken Q _ (λ f q. (near, q)) _ line)
+  each-by m each chip source near = all-map Arriving _ _ (all-weaken Q _ (λ f q. (near, q)) _ link)
     where
       sender : EachOn (getD (m .chips) (across (m .width) (m .height) chip source) fresh)
       sender = all-or EachOn (m .chips) _ fresh each fresh-each
 
-      line : EachHeld (getD (getD (m .chips) (across (m .width) (m .height) chip source) fresh .lines) (opposite source) idle)
-      line = all-or EachHeld _ (opposite source) idle sender (all-nil Q)
+      link : EachHeld (getD (getD (m .chips) (across (m .width) (m .height) chip source) fresh .links) (opposite source) idle)
+      link = all-or EachHeld _ (opposite source) idle sender (all-nil Q)
 
   -- what is in flight arrives in the next round
   pub each-arrival : (m : Mesh A) → EachFlight Q m → All Arriving (arrivals m)
@@ -116,13 +116,13 @@ module _ {A : Type 0} (Q : Flight A → Type 0) where
   pub each-linked : (m : Mesh A) (chip link : ℕ) (up : Bool) → EachFlight Q m → EachFlight Q (withLink m chip link up)
   each-linked m chip link up each =
       let here = each-here m chip each in
-      all-set EachOn (m .chips) chip _ each (all-set EachHeld (chipOf m chip .lines) link _ here (all-or EachHeld (chipOf m chip .lines) link idle here (all-nil Q)))
+      all-set EachOn (m .chips) chip _ each (all-set EachHeld (chipOf m chip .links) link _ here (all-or EachHeld (chipOf m chip .links) link idle here (all-nil Q)))
 
   pub each-emptied : (m : Mesh A) (chip : ℕ) → EachFlight Q m → EachFlight Q (withEmpty m chip)
   each-emptied m chip each = all-set EachOn (m .chips) chip _ each (each-here m chip each)
 
 pub each-weaken : {A : Type 0} (P Q : Flight A → Type 0) → ((x : Flight A) → P x → Q x) → (m : Mesh A) → EachFlight P m → EachFlight Q m
-each-weaken P Q f m = all-weaken (EachOn P) (EachOn Q) (λ c. all-weaken (EachHeld P) (EachHeld Q) (λ l. all-weaken P Q f (l .held)) (c .lines)) (m .chips)
+each-weaken P Q f m = all-weaken (EachOn P) (EachOn Q) (λ c. all-weaken (EachHeld P) (EachHeld Q) (λ l. all-weaken P Q f (l .held)) (c .links)) (m .chips)
 
 -- ---- passes, one after the other
 
@@ -138,7 +138,7 @@ module _ {A : Type 0} (t : Tables) (turn : A → A) (Q : Flight A → Type 0) wh
   pub each-after-pass : (g : Going A) (a : Arrival A) → SoundMesh (g .mesh) → Arrives (g .mesh .height * g .mesh .width) a → HandsOn (g .mesh) a → EachFlight Q (g .mesh)
       → EachFlight Q (passAt t turn g a .mesh)
   each-after-pass g a sound h sends each =
-      all-set (EachOn Q) (g .mesh .chips) (a .chip) _ each (each-lines-after Q _ _ 0 (here .lines) (omega (arith, six)) sends lines)
+      all-set (EachOn Q) (g .mesh .chips) (a .chip) _ each (each-links-after Q _ _ 0 (here .links) (omega (arith, six)) sends links)
     where
       there : a .chip < length (g .mesh .chips)
       there = subst (λ (n : ℕ). a .chip < n) (sym (sound .many)) (h .there)
@@ -146,11 +146,11 @@ module _ {A : Type 0} (t : Tables) (turn : A → A) (Q : Flight A → Type 0) wh
       here : Chip A
       here = getD (g .mesh .chips) (a .chip) fresh
 
-      six : length (getD (g .mesh .chips) (a .chip) fresh .lines) ≡ 6
+      six : length (getD (g .mesh .chips) (a .chip) fresh .links) ≡ 6
       six = all-getD SoundChip (g .mesh .chips) (a .chip) fresh (sound .chips) there .six
 
-      lines : EachOn Q (getD (g .mesh .chips) (a .chip) fresh)
-      lines = all-getD (EachOn Q) (g .mesh .chips) (a .chip) fresh each there
+      links : EachOn Q (getD (g .mesh .chips) (a .chip) fresh)
+      links = all-getD (EachOn Q) (g .mesh .chips) (a .chip) fresh each there
 
   pub each-after-passes : (P : Arrival A → Type 0) (phase : ℕ) → InPhase t phase P HandsOn → (g : Going A) (later : List (Arrival A)) → g .mesh .phase ≡ phase → SoundMesh (g .mesh) → CodesFor t (g .mesh)
       → All (Arrives (g .mesh .height * g .mesh .width)) later → All P later → EachFlight Q (g .mesh) → EachFlight Q (foldl (passAt t turn) g later .mesh)

@@ -12,7 +12,7 @@ use Rattle.lists.specs.Lists.{All}
 use Rattle.lists.proofs.Alls.{all-weaken}
 use Rattle.mesh.specs.Mesh.{Mesh}
 use Rattle.mesh.specs.Steps.{Arrival, arrivals}
-use Rattle.mesh.specs.Sound.{SoundPacket, SoundLine, SoundChip, SoundMesh}
+use Rattle.mesh.specs.Sound.{SoundPacket, SoundLink, SoundChip, SoundMesh}
 use Rattle.flood.proofs.WholeWay.{no-error}
 use Rattle.promises.specs.History.{Tag}
 use Rattle.promises.specs.Told.{Stamped, EachFlight}
@@ -28,7 +28,7 @@ all-both P Q [] p q = tt
 all-both P Q (x ∷ xs) p q = ((p .0, q .0), all-both P Q xs (p .1) (q .1))
 
 pub sound-flights : {A : Type 0} {m : Mesh A} → SoundMesh m → EachFlight (λ x. SoundPacket (x .packet)) m
-sound-flights {m = m} sound = all-weaken SoundChip _ (λ c s. all-weaken SoundLine _ (λ l k. k .fine) (c .lines) (s .lines)) (m .chips) (sound .chips)
+sound-flights {m = m} sound = all-weaken SoundChip _ (λ c s. all-weaken SoundLink _ (λ l k. k .fine) (c .links) (s .links)) (m .chips) (sound .chips)
 
 module _ (w : Trip) (f r : ℕ) (some : 0 < f) (j : ℕ) (few : j ≤ f) where
   due : (phase : ℕ) → phase ≡ code (r / f) → (a : Arrival Tag) → a .source < 6 → SoundPacket (a .flight .packet) → Ages f r (a .flight) → Comes w j (a .chip) (a .flight) → Due w j phase a

@@ -12,7 +12,7 @@ use Rattle.steps.specs.Wants.{wantedOf}
 use Rattle.steps.specs.Deciding.{decided, outcomeOf}
 use Rattle.lists.specs.Lists.{All, upTo, total}
 use Rattle.lists.specs.Firsts.{firstFrom}
-use Rattle.mesh.specs.Steps.{Tables, tablesOf, linesAfter, arrivingFrom}
+use Rattle.mesh.specs.Steps.{Tables, tablesOf, linksAfter, arrivingFrom}
 use Rattle.mesh.specs.Asked.{Call, round, change}
 use Rattle.flood.specs.Ways.{Way, here, onward, within}
 use Rattle.flood.specs.Codes.{codesOf}
@@ -48,9 +48,9 @@ way : Way (s .mesh) 0 1 (0 ∷ [])
 way = onward 0 1 0 [] (lit< tt) refl (here 1)
 
 room : HasRoom (s .mesh) 0 1 (afterwards s 1 0 1 bytes t 6 calls .events)
-unfolding after isMarked isStamped allRoutes allFixed allCodes neverFalling rowsFew rowsOf wantedOf decided outcomeOf total linesAfter arrivingFrom ones onesIn passages EachPass firstFrom within
+unfolding after isMarked isStamped allRoutes allFixed allCodes neverFalling rowsFew rowsOf wantedOf decided outcomeOf total linksAfter arrivingFrom ones onesIn passages EachPass firstFrom within
 room = (λ own other. refl, (λ own other. absurd (other refl), tt))
 
 reached : Reaches (s .mesh) 0 0 1 (afterwards s 1 0 1 bytes t 6 calls)
-unfolding sequence All firstFrom within after isMarked isStamped allRoutes allFixed allCodes neverFalling rowsFew rowsOf wantedOf decided outcomeOf total linesAfter arrivingFrom ones onesIn
+unfolding sequence All firstFrom within after isMarked isStamped allRoutes allFixed allCodes neverFalling rowsFew rowsOf wantedOf decided outcomeOf total linksAfter arrivingFrom ones onesIn
 reached = flooded-way 2 1 1 0 (record { size = refl; phases = refl; monitored = lit≤ tt }) [] 0 1 bytes t 6 (0 ∷ []) calls refl follows way (lit≤ tt) (codes, tt) room (lit≤ tt)

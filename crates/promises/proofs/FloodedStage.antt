@@ -8,7 +8,7 @@ use lib.ListN.{length}
 use Rattle.packet.specs.Control.{kindOf}
 use Rattle.steps.specs.Errors.{errorsOf}
 use Rattle.lists.specs.Lists.{All}
-use Rattle.links.specs.Line.{Flight}
+use Rattle.links.specs.Link.{Flight}
 use Rattle.mesh.specs.Mesh.{Mesh}
 use Rattle.mesh.specs.Steps.{Arrival}
 use Rattle.mesh.specs.Calls.{many}

@@ -14,7 +14,7 @@ use Rattle.packet.specs.Refusal.{firstOf}
 use Rattle.kept.specs.Keeping.{empty}
 use Rattle.mesh.specs.declared.LinkRead.{LinkRead}
 use Rattle.mesh.specs.declared.FlightRead.{FlightRead}
-use Rattle.links.specs.Line.{Flight, Line, idle, isReady}
+use Rattle.links.specs.Link.{Flight, Link, idle, isReady}
 use Rattle.mesh.specs.Mesh.{Chip, Mesh, fresh}
 use Rattle.buffer.specs.Layout.{meshOf}
 use Rattle.buffer.specs.Holding.{holdsMesh}
@@ -23,10 +23,10 @@ use Rattle.mesh.specs.Calls as calls
 use Rattle.mesh.specs.Weights.{inFlight}
 use Rattle.mesh.specs.Asked.{Look, Call, inject, round, setLink, readRegisters, readCounter, lookMesh, lookLink, lookFlight, change, look, refusalOf, seenBy, ofAdded, ofRefusal, ofRegisters, ofCount, ofMesh, ofLink, ofFlight, leftBy, answerOf, Seen, ofLook}
 use Rattle.promises.specs.History.{Tag, turned, tagNow, accepted, after}
-use Rattle.promises.specs.Told.{plainFlight, plainLine, plainChip, plain, plainLeft}
+use Rattle.promises.specs.Told.{plainFlight, plainLink, plainChip, plain, plainLeft}
 use Rattle.promises.specs.Demand3.{Forgetting, Program}
 use Rattle.lists.proofs.Changed.{map-set}
-use Rattle.promises.proofs.Plains.{plainGoing, plain-chip, plain-line, plain-ready, plain-flying, plain-with, plain-pass, plain-rounded}
+use Rattle.promises.proofs.Plains.{plainGoing, plain-chip, plain-link, plain-ready, plain-flying, plain-with, plain-pass, plain-rounded}
 
 module _ {A : Type 0} where
   plain-unless : (n p : ℕ) (m : Mesh A) (g : Going A) → plainLeft (calls.unless n p m g) ≡ calls.unless n p (plain m) (plainGoing g)
@@ -38,33 +38,33 @@ module _ {A : Type 0} where
       go true = refl
       go false = refl
 
-  plain-of : (m : Mesh A) (chip link : ℕ) → calls.lineOf (plain m) chip link ≡ plainLine (calls.lineOf m chip link)
+  plain-of : (m : Mesh A) (chip link : ℕ) → calls.linkOf (plain m) chip link ≡ plainLink (calls.linkOf m chip link)
   plain-of m chip link =
-      ap (λ (c : Chip (Unit {0})). getD (c .lines) link idle) (plain-chip m chip) ∙ plain-line (getD (m .chips) chip fresh) link
+      ap (λ (c : Chip (Unit {0})). getD (c .links) link idle) (plain-chip m chip) ∙ plain-link (getD (m .chips) chip fresh) link
 
-  plain-link : (m : Mesh A) (chip link : ℕ) (up : Bool) → plain (calls.withLink m chip link up) ≡ calls.withLink (plain m) chip link up
-  plain-link m chip link up =
+  plain-set : (m : Mesh A) (chip link : ℕ) (up : Bool) → plain (calls.withLink m chip link up) ≡ calls.withLink (plain m) chip link up
+  plain-set m chip link up =
       let c = getD (m .chips) chip fresh in
-      let chip-with : Chip (Unit {0}) → List (Line (Unit {0})) → Chip (Unit {0}) = λ x lines. record { registers = x .registers; counters = x .counters; lines = lines } in
+      let chip-with : Chip (Unit {0}) → List (Link (Unit {0})) → Chip (Unit {0}) = λ x links. record { registers = x .registers; counters = x .counters; links = links } in
       plain-with m chip _
-      ∙ ap (λ (lines : List (Line (Unit {0}))). withChip (plain m) chip (chip-with (plainChip c) lines)) (map-set plainLine (c .lines) link (calls.withUp up (calls.lineOf m chip link)))
-      ∙ (λ k. withChip (plain m) chip (chip-with (sym (plain-chip m chip) k) (set (sym (plain-chip m chip) k .lines) link (calls.withUp up (sym (plain-of m chip link) k)))))
+      ∙ ap (λ (links : List (Link (Unit {0}))). withChip (plain m) chip (chip-with (plainChip c) links)) (map-set plainLink (c .links) link (calls.withUp up (calls.linkOf m chip link)))
+      ∙ (λ k. withChip (plain m) chip (chip-with (sym (plain-chip m chip) k) (set (sym (plain-chip m chip) k .links) link (calls.withUp up (sym (plain-of m chip link) k)))))
 
   plain-empty : (m : Mesh A) (chip : ℕ) → plain (calls.withEmpty m chip) ≡ calls.withEmpty (plain m) chip
   plain-empty m chip =
       plain-with m chip _
-      ∙ ap (λ (x : Chip (Unit {0})). withChip (plain m) chip (record { registers = empty; counters = x .counters; lines = x .lines })) (sym (plain-chip m chip))
+      ∙ ap (λ (x : Chip (Unit {0})). withChip (plain m) chip (record { registers = empty; counters = x .counters; links = x .links })) (sym (plain-chip m chip))
 
   plain-looked : (m : Mesh A) (chip link : ℕ) → calls.linkRead true m chip link ≡ calls.linkRead true (plain m) chip link
   plain-looked m chip link =
       let n = firstOf (calls.linkRefusals true (calls.many m) chip link) in
-      let l = calls.lineOf m chip link in
+      let l = calls.linkOf m chip link in
       let answer : Bool → ℕ → Bool → LinkRead =
       λ up held ready.
       cond (eqb n 0) (record { refusal = 0; up = flag up 1; held = held; ready = flag ready 1 })
       (record { refusal = n; up = 0; held = 0; ready = 0 }) in
       (λ k. answer (l .up) (sym (length-map (l .held) plainFlight) k) (sym (plain-ready l) k))
-      ∙ ap (λ (x : Line (Unit {0})). answer (x .up) (length (x .held)) (isReady x)) (sym (plain-of m chip link))
+      ∙ ap (λ (x : Link (Unit {0})). answer (x .up) (length (x .held)) (isReady x)) (sym (plain-of m chip link))
 
   plain-packets : (fs : List (Flight A)) → map (λ (f : Flight A). f .packet) fs ≡ map (λ (f : Flight (Unit {0})). f .packet) (map plainFlight fs)
   plain-packets [] = refl
@@ -73,12 +73,12 @@ module _ {A : Type 0} where
   plain-seen : (m : Mesh A) (chip link place : ℕ) → calls.flightRead true m chip link place ≡ calls.flightRead true (plain m) chip link place
   plain-seen m chip link place =
       let n = firstOf (calls.linkRefusals true (calls.many m) chip link) in
-      let l = calls.lineOf m chip link in
+      let l = calls.linkOf m chip link in
       let answer : ℕ → List Packet → FlightRead =
       λ held packets.
       cond (eqb n 0) (cond (ltb place held) (record { refusal = 0; packet = getD packets place nothing }) (calls.noFlight 9)) (calls.noFlight n) in
       (λ k. answer (sym (length-map (l .held) plainFlight) k) (plain-packets (l .held) k))
-      ∙ ap (λ (x : Line (Unit {0})). answer (length (x .held)) (map (λ (f : Flight (Unit {0})). f .packet) (x .held))) (sym (plain-of m chip link))
+      ∙ ap (λ (x : Link (Unit {0})). answer (length (x .held)) (map (λ (f : Flight (Unit {0})). f .packet) (x .held))) (sym (plain-of m chip link))
 
   forgets-seen : (m : Mesh A) (l : Look) → seenBy m l ≡ seenBy (plain m) l
   forgets-seen m (readCounter chip counter) =
@@ -103,7 +103,7 @@ module _ {A : Type 0} where
     forgets-left (change (setLink chip link up)) =
         let n = firstOf (calls.linkRefusals true (calls.many m) chip link) in
         plain-unless n 0 m (setOut (calls.withLink m chip link up))
-        ∙ ap (λ (x : Mesh (Unit {0})). calls.unless n 0 (plain m) (setOut x)) (plain-link m chip link up)
+        ∙ ap (λ (x : Mesh (Unit {0})). calls.unless n 0 (plain m) (setOut x)) (plain-set m chip link up)
     forgets-left (change (readRegisters chip)) =
         let n = firstOf (calls.chipRefusals true (calls.many m) chip) in
         plain-unless n 0 m (setOut (calls.withEmpty m chip))

@@ -13,11 +13,11 @@ use Rattle.packet.specs.Bytes.{packetAt}
 use Rattle.steps.specs.Links.{has, processorsOf}
 use Rattle.lists.specs.Lists.{total}
 use Rattle.lists.proofs.Alls.{all-or}
-use Rattle.links.specs.Line.{Flight, Line, idle}
+use Rattle.links.specs.Link.{Flight, Link, idle}
 use Rattle.mesh.specs.Mesh.{Chip, Mesh, fresh}
 use Rattle.mesh.specs.Steps.{Tables, setOut, injected}
-use Rattle.mesh.specs.Calls.{many, chipOf, lineOf}
-use Rattle.mesh.specs.Weights.{onLine, onChip, inFlight}
+use Rattle.mesh.specs.Calls.{many, chipOf, linkOf}
+use Rattle.mesh.specs.Weights.{onLink, onChip, inFlight}
 use Rattle.mesh.specs.Asked.{Call}
 use Rattle.mesh.specs.Sound.{SoundMesh}
 use Rattle.mesh.proofs.SoundSteps.{sound-injected}
@@ -47,11 +47,11 @@ unfolding total
 none-held [] e = refl
 none-held (x ∷ l) e = absurd (omega arith)
 
-quiet-line : (m : Mesh Tag) → inFlight m ≡ 0 → (c i : ℕ) → lineOf m c i .held ≡ []
+quiet-link : (m : Mesh Tag) → inFlight m ≡ 0 → (c i : ℕ) → linkOf m c i .held ≡ []
 unfolding total
-quiet-line m quiet c i =
+quiet-link m quiet c i =
     let chip : onChip (λ x. 1) (chipOf m c) ≡ 0 = all-or (λ (x : Chip Tag). onChip (λ x. 1) x ≡ 0) (m .chips) c fresh (all-zero (onChip (λ x. 1)) (m .chips) quiet) refl in
-    none-held _ (all-or (λ (l : Line Tag). onLine (λ x. 1) l ≡ 0) (chipOf m c .lines) i idle (all-zero (onLine (λ x. 1)) (chipOf m c .lines) chip) refl)
+    none-held _ (all-or (λ (l : Link Tag). onLink (λ x. 1) l ≡ 0) (chipOf m c .links) i idle (all-zero (onLink (λ x. 1)) (chipOf m c .links) chip) refl)
 
 none-handed : (n c q : ℕ) (es : List Event) → EachPass (λ p. OfOthers n (p .arrival .flight)) es → sumOf (handed n c q) es ≡ 0
 unfolding EachPass sumOf
@@ -86,7 +86,7 @@ module _ (w h f monitor : ℕ) (o : Opens w h f monitor) (xs : List Step) where
         passes-by-tree trip t only (s .accepted) (setOut m) (accepts.arrivalNow s source bytes) sound (fine .codes) (record { there = fine .there; from = inr refl; passable = fine .passable }) (shape.source-there (trip .asked) (trip .none))
         (inl (refl, shape.rooted (trip .asked) (trip .none) .root))
         (record { own = sym number; begun = sym before; fits = record { multicast = matching .multicast; unmarked = matching .unmarked; matching = matching .matching } }) (matching .errors)
-        (λ i near. subst (λ (k : Mesh Tag). source < many k → lineOf k source i .up ≡ true) found (λ there. trip .up source i there near) (fine .there)) (λ i near. quiet-line m quiet source i)
+        (λ i near. subst (λ (k : Mesh Tag). source < many k → linkOf k source i .up ≡ true) found (λ there. trip .up source i there near) (fine .there)) (λ i near. quiet-link m quiet source i)
 
     -- only the source is at depth 0
     off-source : (c : ℕ) → c < all trip → (c ≡ source → ⊥) → depth trip c ≡ 0 → route trip c ≡ 0
@@ -99,12 +99,12 @@ module _ (w h f monitor : ℕ) (o : Opens w h f monitor) (xs : List Step) where
     full-first : Full trip 0 (next .mesh)
     full-first c i there near = go (ℕ-discrete c source)
       where
-        go : Dec (c ≡ source) → Holds trip (leaves trip 0 c i) (lineOf (next .mesh) c i .held)
+        go : Dec (c ≡ source) → Holds trip (leaves trip 0 c i) (linkOf (next .mesh) c i .held)
         go (yes e) =
-            subst (λ (c : ℕ). Holds trip (leaves trip 0 c i) (lineOf (next .mesh) c i .held)) (sym e)
-            (subst (λ (b : Bool). Holds trip b (lineOf (next .mesh) source i .held)) (sym (all-leave trip 0 source i top)) (passes .here i near))
+            subst (λ (c : ℕ). Holds trip (leaves trip 0 c i) (linkOf (next .mesh) c i .held)) (sym e)
+            (subst (λ (b : Bool). Holds trip b (linkOf (next .mesh) source i .held)) (sym (all-leave trip 0 source i top)) (passes .here i near))
         go (no other) =
-            subst (λ (b : Bool). Holds trip b (lineOf (next .mesh) c i .held)) (sym (none-leaves trip 0 c i (off-source c there other))) (passes .elsewhere c i other ∙ quiet-line m quiet c i)
+            subst (λ (b : Bool). Holds trip b (linkOf (next .mesh) c i .held)) (sym (none-leaves trip 0 c i (off-source c there other))) (passes .elsewhere c i other ∙ quiet-link m quiet c i)
 
     no-passes : EachPass (λ p. OfOthers (trip .number) (p .arrival .flight)) (s .events)
     no-passes = each-pass-weaken _ (λ p. OfOthers (trip .number) (p .arrival .flight)) (λ p b e. omega (arith, b .0, number)) (s .events) (belonging w h f monitor o xs .1)

@@ -15,9 +15,9 @@ use Rattle.steps.specs.Wants.{wantedOf}
 use Rattle.steps.specs.Deciding.{decided, outcomeOf}
 use Rattle.lists.specs.Lists.{All, upTo, total}
 use Rattle.lists.proofs.Alls.{all-or, all-replicate}
-use Rattle.links.specs.Line.{idle}
-use Rattle.mesh.specs.Calls.{lineOf}
-use Rattle.mesh.specs.Steps.{Tables, tablesOf, linesAfter, arrivingFrom}
+use Rattle.links.specs.Link.{idle}
+use Rattle.mesh.specs.Calls.{linkOf}
+use Rattle.mesh.specs.Steps.{Tables, tablesOf, linksAfter, arrivingFrom}
 use Rattle.mesh.specs.Asked.{Call, round, change}
 use Rattle.flood.proofs.Levels.{apart}
 use Rattle.tree.specs.Way.{linksOf, wayTo}
@@ -80,12 +80,12 @@ deep (suc (suc (suc (suc zero))) ∷ k ∷ is) low e = false-not e
 deep (suc (suc (suc (suc (suc zero)))) ∷ k ∷ is) low e = false-not e
 deep (suc (suc (suc (suc (suc (suc i))))) ∷ k ∷ is) low e = absurd (omega (arith, low .0))
 
-all-up : (chip i : ℕ) → chip < 2 → i < 6 → lineOf (s .mesh) chip i .up ≡ true
+all-up : (chip i : ℕ) → chip < 2 → i < 6 → linkOf (s .mesh) chip i .up ≡ true
 all-up zero i there near = all-or (λ l. l .up ≡ true) (replicate 6 idle) i idle (all-replicate (λ l. l .up ≡ true) 6 idle refl) refl
 all-up (suc zero) i there near = all-or (λ l. l .up ≡ true) (replicate 6 idle) i idle (all-replicate (λ l. l .up ≡ true) 6 idle refl) refl
 all-up (suc (suc chip)) i there near = absurd (omega arith)
 
 delivered : Delivers a 0 (afterwards a s 1 1 bytes t 6 calls)
-unfolding sequence All after isMarked isStamped allRoutes allFixed allCodes neverFalling rowsFew rowsOf firstMatch wantedOf decided outcomeOf total linesAfter arrivingFrom ones onesIn
+unfolding sequence All after isMarked isStamped allRoutes allFixed allCodes neverFalling rowsFew rowsOf firstMatch wantedOf decided outcomeOf total linksAfter arrivingFrom ones onesIn
 delivered =
     grown-tree 2 1 1 0 (record { size = refl; phases = refl; monitored = lit≤ tt }) [] a 1 bytes t 6 calls accepted refl refl refl all-up refl only matching deep (lit≤ tt) (only, tt) (lit≤ tt)

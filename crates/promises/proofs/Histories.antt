@@ -9,7 +9,7 @@ use borrow.Author.Tests.{eqb-true}
 use Rattle.packet.specs.Bytes.{packetAt}
 use Rattle.packet.specs.Refusal.{firstOf}
 use Rattle.lists.specs.Lists.{All}
-use Rattle.links.specs.Line.{Flight}
+use Rattle.links.specs.Link.{Flight}
 use Rattle.mesh.specs.Mesh.{Mesh}
 use Rattle.mesh.specs.Steps.{Tables, Going, setOut, injected, rounded}
 use Rattle.mesh.specs.Calls.{Left, many, unless, placeIn, withLink, withEmpty, injectRefusals, roundRefusals, chipRefusals, linkRefusals}

@@ -6,29 +6,29 @@ use Prim.Native.Nat.{ℕ, zero, suc}
 use lib.ListN.{getD, set, List·getD-map}
 use Rattle.steps.specs.declared.Outcome.{Outcome}
 use Rattle.lists.proofs.Changed.{set-keeps}
-use Rattle.links.specs.Line.{Line, idle}
+use Rattle.links.specs.Link.{Link, idle}
 use Rattle.mesh.specs.Mesh.{Chip, Mesh, fresh}
-use Rattle.mesh.specs.Steps.{Tables, Arrival, Going, linesAfter, emptied, emptiedChip, setAside, roundOver, passAt}
-use Rattle.mesh.specs.Calls.{chipOf, lineOf, withUp, withLink, withEmpty}
+use Rattle.mesh.specs.Steps.{Tables, Arrival, Going, linksAfter, emptied, emptiedChip, setAside, roundOver, passAt}
+use Rattle.mesh.specs.Calls.{chipOf, linkOf, withUp, withLink, withEmpty}
 use Rattle.mesh.specs.Sound.{SoundMesh}
 use Rattle.flood.specs.Ways.{isUp}
 use Rattle.flood.proofs.SameLinks.{SameLinks}
 
 module _ {A : Type 0} where
-  lines-up : (o : Outcome) (tag : A) (i n : ℕ) (ls : List (Line A)) → getD (linesAfter o tag i ls) n idle .up ≡ getD ls n idle .up
-  unfolding linesAfter
-  lines-up o tag i n [] = refl
-  lines-up o tag i zero (l ∷ ls) = refl
-  lines-up o tag i (suc n) (l ∷ ls) = lines-up o tag (suc i) n ls
+  links-up : (o : Outcome) (tag : A) (i n : ℕ) (ls : List (Link A)) → getD (linksAfter o tag i ls) n idle .up ≡ getD ls n idle .up
+  unfolding linksAfter
+  links-up o tag i n [] = refl
+  links-up o tag i zero (l ∷ ls) = refl
+  links-up o tag i (suc n) (l ∷ ls) = links-up o tag (suc i) n ls
 
   -- a chip changed, its links up as before
-  chip-up : (m : Mesh A) (chip c i : ℕ) (x : Chip A) → getD (x .lines) i idle .up ≡ isUp m chip i → getD (getD (set (m .chips) chip x) c fresh .lines) i idle .up ≡ isUp m c i
-  chip-up m chip c i x e = set-keeps (λ (y : Chip A). getD (y .lines) i idle .up) (m .chips) chip c x fresh e
+  chip-up : (m : Mesh A) (chip c i : ℕ) (x : Chip A) → getD (x .links) i idle .up ≡ isUp m chip i → getD (getD (set (m .chips) chip x) c fresh .links) i idle .up ≡ isUp m c i
+  chip-up m chip c i x e = set-keeps (λ (y : Chip A). getD (y .links) i idle .up) (m .chips) chip c x fresh e
 
   aside-up : (m : Mesh A) (c i : ℕ) → isUp (setAside m) c i ≡ isUp m c i
   aside-up m c i =
-      ap (λ (x : Chip A). getD (x .lines) i idle .up) (List·getD-map emptiedChip (m .chips) c fresh)
-      ∙ ap (λ (l : Line A). l .up) (List·getD-map emptied (chipOf m c .lines) i idle)
+      ap (λ (x : Chip A). getD (x .links) i idle .up) (List·getD-map emptiedChip (m .chips) c fresh)
+      ∙ ap (λ (l : Link A). l .up) (List·getD-map emptied (chipOf m c .links) i idle)
 
 -- the same size, monitor and links' states
 pub record Alike {A : Type 0} (m k : Mesh A) : Type 0 where
@@ -62,14 +62,14 @@ module _ {A : Type 0} {m k : Mesh A} (alike : Alike m k) where
   pub alike-linked : (chip link : ℕ) (up : Bool) → isUp k chip link ≡ up → Alike m (withLink k chip link up)
   alike-linked chip link up e =
       still (withLink k chip link up) refl refl refl
-      (λ c i. chip-up k chip c i _ (set-keeps (λ (l : Line A). l .up) (chipOf k chip .lines) link i (withUp up (lineOf k chip link)) idle (sym e)))
+      (λ c i. chip-up k chip c i _ (set-keeps (λ (l : Link A). l .up) (chipOf k chip .links) link i (withUp up (linkOf k chip link)) idle (sym e)))
 
   pub alike-emptied : (chip : ℕ) → Alike m (withEmpty k chip)
   alike-emptied chip = still (withEmpty k chip) refl refl refl (λ c i. chip-up k chip c i _ refl)
 
 pub alike-pass : {A : Type 0} {m : Mesh A} (t : Tables) (turn : A → A) (g : Going A) (a : Arrival A) → Alike m (g .mesh) → Alike m (passAt t turn g a .mesh)
 alike-pass t turn g a alike =
-    still alike (passAt t turn g a .mesh) refl refl refl (λ c i. chip-up (g .mesh) (a .chip) c i _ (lines-up _ _ 0 i (chipOf (g .mesh) (a .chip) .lines)))
+    still alike (passAt t turn g a .mesh) refl refl refl (λ c i. chip-up (g .mesh) (a .chip) c i _ (links-up _ _ 0 i (chipOf (g .mesh) (a .chip) .links)))
 
 pub alike-passes : {A : Type 0} {m : Mesh A} (t : Tables) (turn : A → A) (g : Going A) (later : List (Arrival A)) → Alike m (g .mesh) → Alike m (foldl (passAt t turn) g later .mesh)
 alike-passes t turn g [] alike = alike

@@ -26,7 +26,7 @@ use Rattle.kept.specs.Keeping.{dropCount}
 use Rattle.kept.specs.Counting.{countsOf, sentCount, delivered, swallowed}
 use Rattle.steps.proofs.Flags.{error-flags, without-error}
 use Rattle.steps.specs.Links.{has}
-use Rattle.links.specs.Line.{idle, isReady}
+use Rattle.links.specs.Link.{idle, isReady}
 use Rattle.mesh.specs.Calls.{chipOf}
 use Rattle.mesh.specs.Weights.{onChip}
 use Rattle.mesh.proofs.SoundChanges.{chip-sound}
@@ -121,7 +121,7 @@ own p e more =
     ∷ []
 
 sum-own : (chip k : ℕ) (es : List Event)
-    → EachPass (λ p. (p .outcome ≡ outcomeOf (p .arrival .flight .packet) (p .arrival .source) (p .tables) (p .setting)) × ((i : ℕ) → i < 6 → has (p .setting .ready) i ≡ isReady (getD (p .here .lines) i idle))) es
+    → EachPass (λ p. (p .outcome ≡ outcomeOf (p .arrival .flight .packet) (p .arrival .source) (p .tables) (p .setting)) × ((i : ℕ) → i < 6 → has (p .setting .ready) i ≡ isReady (getD (p .here .links) i idle))) es
     → EachPass Sent es
     → sumOf (countedAt chip k) es ≡ sumOf (countAt chip k) es
 unfolding sumOf EachPass

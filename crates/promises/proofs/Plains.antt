@@ -12,15 +12,15 @@ use Rattle.steps.specs.Links.{has, setOf}
 use Rattle.steps.specs.Deciding.{outcomeOf, packetOn, legPacket}
 use Rattle.kept.specs.Keeping.{keptOf}
 use Rattle.kept.specs.Counting.{countedOf}
-use Rattle.links.specs.Line.{Flight, Line, idle, isReady, sent, lineAfter, readyLinks}
+use Rattle.links.specs.Link.{Flight, Link, idle, isReady, sent, linkAfter, readyLinks}
 use Rattle.links.specs.Across.{across, opposite}
 use Rattle.mesh.specs.Mesh.{Chip, Mesh, fresh}
-use Rattle.mesh.specs.Steps.{Tables, Arrival, Going, outcomeAt, logOf, linesAfter, chipAfter, withChips, withChip, emptied, emptiedChip, setAside, arrivingBy, arrivingAt, arrivingFrom, arrivals, roundOver, passAt, passed, rounded, same, setOut, tablesAt}
+use Rattle.mesh.specs.Steps.{Tables, Arrival, Going, outcomeAt, logOf, linksAfter, chipAfter, withChips, withChip, emptied, emptiedChip, setAside, arrivingBy, arrivingAt, arrivingFrom, arrivals, roundOver, passAt, passed, rounded, same, setOut, tablesAt}
 use Rattle.lists.specs.Lists.{total}
-use Rattle.mesh.specs.Weights.{onLine, onChip, inFlight}
+use Rattle.mesh.specs.Weights.{onLink, onChip, inFlight}
 use Rattle.lists.proofs.Changed.{map-set}
 use Rattle.lists.proofs.Totals.{total-map, total-ones}
-use Rattle.promises.specs.Told.{plainFlight, plainLine, plainChip, plain}
+use Rattle.promises.specs.Told.{plainFlight, plainLink, plainChip, plain}
 
 module _ {A : Type 0} where
   abbrev pub plainArrival : Arrival A → Arrival (Unit {0})
@@ -34,14 +34,14 @@ module _ {A : Type 0} where
   pub plain-chip : (m : Mesh A) (chip : ℕ) → getD (plain m .chips) chip fresh ≡ plainChip (getD (m .chips) chip fresh)
   plain-chip m chip = List·getD-map plainChip (m .chips) chip fresh
 
-  pub plain-line : (c : Chip A) (i : ℕ) → getD (plainChip c .lines) i idle ≡ plainLine (getD (c .lines) i idle)
-  plain-line c i = List·getD-map plainLine (c .lines) i idle
+  pub plain-link : (c : Chip A) (i : ℕ) → getD (plainChip c .links) i idle ≡ plainLink (getD (c .links) i idle)
+  plain-link c i = List·getD-map plainLink (c .links) i idle
 
-  pub plain-ready : (l : Line A) → isReady (plainLine l) ≡ isReady l
+  pub plain-ready : (l : Link A) → isReady (plainLink l) ≡ isReady l
   plain-ready l = ap (λ (n : ℕ). l .up && leb n 6) (length-map (l .held) plainFlight)
 
-  ready-links : (c : Chip A) → readyLinks (plainChip c .lines) ≡ readyLinks (c .lines)
-  ready-links c = ap setOf (fun-ext (λ i. ap isReady (plain-line c i) ∙ plain-ready (getD (c .lines) i idle)))
+  ready-links : (c : Chip A) → readyLinks (plainChip c .links) ≡ readyLinks (c .links)
+  ready-links c = ap setOf (fun-ext (λ i. ap isReady (plain-link c i) ∙ plain-ready (getD (c .links) i idle)))
 
   pub plain-outcome : (t : Tables) (m : Mesh A) (chip source : ℕ) (p : Packet) → outcomeAt t (plain m) chip source p ≡ outcomeAt t m chip source p
   plain-outcome t m chip source p =
@@ -49,13 +49,13 @@ module _ {A : Type 0} where
       (λ (ready : ℕ).
       outcomeOf p source (tablesAt t (m .height * m .width) chip)
       (record { width = m .width; height = m .height; monitor = m .monitor; phase = m .phase; ready = ready }))
-      (ap (λ (c : Chip (Unit {0})). readyLinks (c .lines)) (plain-chip m chip) ∙ ready-links (getD (m .chips) chip fresh))
+      (ap (λ (c : Chip (Unit {0})). readyLinks (c .links)) (plain-chip m chip) ∙ ready-links (getD (m .chips) chip fresh))
 
-  on-line : (l : Line A) → onLine (λ f. 1) (plainLine l) ≡ onLine (λ f. 1) l
-  on-line l = total-ones (map plainFlight (l .held)) ∙ length-map (l .held) plainFlight ∙ sym (total-ones (l .held))
+  on-link : (l : Link A) → onLink (λ f. 1) (plainLink l) ≡ onLink (λ f. 1) l
+  on-link l = total-ones (map plainFlight (l .held)) ∙ length-map (l .held) plainFlight ∙ sym (total-ones (l .held))
 
   on-chip : (c : Chip A) → onChip (λ f. 1) (plainChip c) ≡ onChip (λ f. 1) c
-  on-chip c = total-map (onLine (λ f. 1)) plainLine (c .lines) ∙ ap (λ (w : Line A → ℕ). total w (c .lines)) (fun-ext on-line)
+  on-chip c = total-map (onLink (λ f. 1)) plainLink (c .links) ∙ ap (λ (w : Link A → ℕ). total w (c .links)) (fun-ext on-link)
 
   pub plain-flying : (m : Mesh A) → inFlight (plain m) ≡ inFlight m
   plain-flying m = total-map (onChip (λ f. 1)) plainChip (m .chips) ∙ ap (λ (w : Chip A → ℕ). total w (m .chips)) (fun-ext on-chip)
@@ -66,8 +66,8 @@ module _ {A : Type 0} where
   plain-sent true p tag = refl
   plain-sent false p tag = refl
 
-  line-after : (o : Outcome) (tag : A) (i : ℕ) (l : Line A) → plainLine (lineAfter o tag i l) ≡ lineAfter o tt i (plainLine l)
-  line-after o tag i l =
+  link-after : (o : Outcome) (tag : A) (i : ℕ) (l : Link A) → plainLink (linkAfter o tag i l) ≡ linkAfter o tt i (plainLink l)
+  link-after o tag i l =
       ap (λ (held : List (Flight (Unit {0}))). record { up = l .up; held = held })
       (map-append plainFlight (l .held ++ sent (has (o .sent) i) (packetOn o i) tag) (sent (has (o .«leg_sent») i) (legPacket o) tag)
       ∙ (λ k.
@@ -76,15 +76,15 @@ module _ {A : Type 0} where
       k
       ++ plain-sent (has (o .«leg_sent») i) (legPacket o) tag k))
 
-  lines-after : (o : Outcome) (tag : A) (i : ℕ) (ls : List (Line A)) → map plainLine (linesAfter o tag i ls) ≡ linesAfter o tt i (map plainLine ls)
-  unfolding linesAfter
-  lines-after o tag i [] = refl
-  lines-after o tag i (l ∷ ls) = λ k. line-after o tag i l k ∷ lines-after o tag (suc i) ls k
+  links-after : (o : Outcome) (tag : A) (i : ℕ) (ls : List (Link A)) → map plainLink (linksAfter o tag i ls) ≡ linksAfter o tt i (map plainLink ls)
+  unfolding linksAfter
+  links-after o tag i [] = refl
+  links-after o tag i (l ∷ ls) = λ k. link-after o tag i l k ∷ links-after o tag (suc i) ls k
 
   chip-after : (o : Outcome) (tag : A) (c : Chip A) → plainChip (chipAfter o tag c) ≡ chipAfter o tt (plainChip c)
   chip-after o tag c =
-      ap (λ (lines : List (Line (Unit {0}))). record { registers = keptOf (c .registers) o; counters = countedOf (c .counters) o; lines = lines })
-      (lines-after o tag 0 (c .lines))
+      ap (λ (links : List (Link (Unit {0}))). record { registers = keptOf (c .registers) o; counters = countedOf (c .counters) o; links = links })
+      (links-after o tag 0 (c .links))
 
   pub plain-with : (m : Mesh A) (chip : ℕ) (c : Chip A) → plain (withChip m chip c) ≡ withChip (plain m) chip (plainChip c)
   plain-with m chip c = ap (λ (chips : List (Chip (Unit {0}))). withChips (plain m) chips) (map-set plainChip (m .chips) chip c)
@@ -113,8 +113,8 @@ module _ {A : Type 0} where
 
   plain-emptied : (c : Chip A) → plainChip (emptiedChip c) ≡ emptiedChip (plainChip c)
   plain-emptied c =
-      ap (λ (lines : List (Line (Unit {0}))). record { registers = c .registers; counters = c .counters; lines = lines })
-      (map-map plainLine emptied (c .lines) ∙ sym (map-map emptied plainLine (c .lines)))
+      ap (λ (links : List (Link (Unit {0}))). record { registers = c .registers; counters = c .counters; links = links })
+      (map-map plainLink emptied (c .links) ∙ sym (map-map emptied plainLink (c .links)))
 
   plain-aside : (m : Mesh A) → plain (setAside m) ≡ setAside (plain m)
   plain-aside m =
@@ -126,11 +126,11 @@ module _ {A : Type 0} where
   arriving-by : (m : Mesh A) (chip source : ℕ) → map plainArrival (arrivingBy m chip source) ≡ arrivingBy (plain m) chip source
   arriving-by m chip source =
       let c = getD (m .chips) (across (m .width) (m .height) chip source) fresh in
-      let l = getD (c .lines) (opposite source) idle in
+      let l = getD (c .links) (opposite source) idle in
       let arrive : Flight (Unit {0}) → Arrival (Unit {0}) = λ f. record { chip = chip; source = source; flight = f } in
-      let line : getD (getD (plain m .chips) (across (m .width) (m .height) chip source) fresh .lines) (opposite source) idle ≡ plainLine l =
-      ap (λ (x : Chip (Unit {0})). getD (x .lines) (opposite source) idle) (plain-chip m (across (m .width) (m .height) chip source)) ∙ plain-line c (opposite source) in
-      map-map plainArrival _ (l .held) ∙ sym (map-map arrive plainFlight (l .held)) ∙ ap (λ (x : Line (Unit {0})). map arrive (x .held)) (sym line)
+      let link : getD (getD (plain m .chips) (across (m .width) (m .height) chip source) fresh .links) (opposite source) idle ≡ plainLink l =
+      ap (λ (x : Chip (Unit {0})). getD (x .links) (opposite source) idle) (plain-chip m (across (m .width) (m .height) chip source)) ∙ plain-link c (opposite source) in
+      map-map plainArrival _ (l .held) ∙ sym (map-map arrive plainFlight (l .held)) ∙ ap (λ (x : Link (Unit {0})). map arrive (x .held)) (sym link)
 
   arriving-at : (m : Mesh A) (chip : ℕ) → map plainArrival (arrivingAt m chip) ≡ arrivingAt (plain m) chip
   arriving-at m chip =

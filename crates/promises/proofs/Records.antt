@@ -6,7 +6,7 @@ use Prim.Native.Nat.{ℕ, _<_}
 use lib.ListN.{getD}
 use Rattle.steps.specs.Links.{has}
 use Rattle.steps.specs.Deciding.{outcomeOf}
-use Rattle.links.specs.Line.{idle, isReady}
+use Rattle.links.specs.Link.{idle, isReady}
 use Rattle.mesh.specs.Steps.{logOf}
 use Rattle.steps.proofs.Sets.{has-set}
 use Rattle.promises.specs.History.{Passage, Event, packetPassed, registersEmptied}
@@ -37,7 +37,7 @@ log-told =
 abbrev Afresh : Passage → Type 0
 Afresh p =
     (p .outcome ≡ outcomeOf (p .arrival .flight .packet) (p .arrival .source) (p .tables) (p .setting))
-    × ((i : ℕ) → i < 6 → has (p .setting .ready) i ≡ isReady (getD (p .here .lines) i idle))
+    × ((i : ℕ) → i < 6 → has (p .setting .ready) i ≡ isReady (getD (p .here .links) i idle))
 
 pub no-stale-block : NoStaleBlock
-no-stale-block = always-each Afresh (λ t n m a sound codes h. (refl, has-set (λ i. isReady (getD (passage t n m a .here .lines) i idle))))
+no-stale-block = always-each Afresh (λ t n m a sound codes h. (refl, has-set (λ i. isReady (getD (passage t n m a .here .links) i idle))))

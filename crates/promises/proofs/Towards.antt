@@ -13,35 +13,35 @@ use Rattle.steps.specs.Deciding.{packetOn, legPacket}
 use Rattle.lists.specs.Lists.{All}
 use Rattle.lists.proofs.Alls.{all-nil, all-or, all-map, all-weaken}
 use Rattle.lists.proofs.Changed.{set-keeps}
-use Rattle.links.specs.Line.{Flight, Line, idle, lineAfter}
+use Rattle.links.specs.Link.{Flight, Link, idle, linkAfter}
 use Rattle.links.specs.Across.{across, opposite}
 use Rattle.mesh.specs.Mesh.{Chip, Mesh, fresh}
 use Rattle.mesh.specs.Steps.{Tables, Arrival, Going, outcomeAt, arrivingBy, arrivals, passAt}
-use Rattle.mesh.specs.Calls.{chipOf, lineOf, withUp, withLink, withEmpty}
+use Rattle.mesh.specs.Calls.{chipOf, linkOf, withUp, withLink, withEmpty}
 use Rattle.mesh.specs.Sound.{Arrives, SoundMesh}
 use Rattle.mesh.proofs.SoundArrivals.{opposite-there}
 use Rattle.mesh.proofs.SoundChanges.{chip-sound}
 use Rattle.flood.specs.Ways.{beyond}
 use Rattle.promises.specs.Told.{EachFlight}
-use Rattle.promises.proofs.Apart.{line-at}
-use Rattle.promises.proofs.Flights.{each-here, each-line-gets, all-arrivals}
+use Rattle.promises.proofs.Apart.{link-at}
+use Rattle.promises.proofs.Flights.{each-here, each-link-gets, all-arrivals}
 use Rattle.promises.proofs.OppositeLinks.{there-and-back}
 
 module _ {A : Type 0} where
   abbrev pub EachTo : (ℕ → Flight A → Type 0) → Mesh A → Type 0
-  EachTo P m = (chip i : ℕ) → i < 6 → All (P (beyond m chip i)) (lineOf m chip i .held)
+  EachTo P m = (chip i : ℕ) → i < 6 → All (P (beyond m chip i)) (linkOf m chip i .held)
 
   pub to-any : (Q : Flight A → Type 0) (m : Mesh A) → EachFlight Q m → EachTo (λ chip. Q) m
-  to-any Q m each chip i near = all-or (λ (l : Line A). All Q (l .held)) (chipOf m chip .lines) i idle (each-here Q m chip each) (all-nil Q)
+  to-any Q m each chip i near = all-or (λ (l : Link A). All Q (l .held)) (chipOf m chip .links) i idle (each-here Q m chip each) (all-nil Q)
 
   -- what the links hold where nothing passes
-  pub linked-held : (m : Mesh A) (chip link : ℕ) (up : Bool) (c i : ℕ) → lineOf (withLink m chip link up) c i .held ≡ lineOf m c i .held
+  pub linked-held : (m : Mesh A) (chip link : ℕ) (up : Bool) (c i : ℕ) → linkOf (withLink m chip link up) c i .held ≡ linkOf m c i .held
   linked-held m chip link up c i =
-      set-keeps (λ (x : Chip A). getD (x .lines) i idle .held) (m .chips) chip c _ fresh
-      (set-keeps (λ (l : Line A). l .held) (chipOf m chip .lines) link i (withUp up (lineOf m chip link)) idle refl)
+      set-keeps (λ (x : Chip A). getD (x .links) i idle .held) (m .chips) chip c _ fresh
+      (set-keeps (λ (l : Link A). l .held) (chipOf m chip .links) link i (withUp up (linkOf m chip link)) idle refl)
 
-  pub emptied-held : (m : Mesh A) (chip c i : ℕ) → lineOf (withEmpty m chip) c i .held ≡ lineOf m c i .held
-  emptied-held m chip c i = set-keeps (λ (x : Chip A). getD (x .lines) i idle .held) (m .chips) chip c _ fresh refl
+  pub emptied-held : (m : Mesh A) (chip c i : ℕ) → linkOf (withEmpty m chip) c i .held ≡ linkOf m c i .held
+  emptied-held m chip c i = set-keeps (λ (x : Chip A). getD (x .links) i idle .held) (m .chips) chip c _ fresh refl
 
 module _ {A : Type 0} (P : ℕ → Flight A → Type 0) where
   pub to-weaken : (Q : ℕ → Flight A → Type 0) → ((chip : ℕ) (x : Flight A) → P chip x → Q chip x) → (m : Mesh A) → EachTo P m → EachTo Q m
@@ -69,18 +69,18 @@ module _ {A : Type 0} (P : ℕ → Flight A → Type 0) where
     pub to-after-pass : SendsTo (g .mesh) (a .chip) o (turn (a .flight .tag)) → EachTo P (g .mesh) → EachTo P (passAt t turn g a .mesh)
     to-after-pass sends each c i near = go (ℕ-discrete c (a .chip))
       where
-        here : lineOf (passAt t turn g a .mesh) (a .chip) i ≡ lineAfter o (turn (a .flight .tag)) i (lineOf (g .mesh) (a .chip) i)
+        here : linkOf (passAt t turn g a .mesh) (a .chip) i ≡ linkAfter o (turn (a .flight .tag)) i (linkOf (g .mesh) (a .chip) i)
         here =
-            ap (λ (x : Chip A). getD (x .lines) i idle) (getD-set-same (g .mesh .chips) (a .chip) _ fresh (omega (arith, sound .many, h .there)))
-            ∙ line-at o (turn (a .flight .tag)) i (chipOf (g .mesh) (a .chip) .lines) (omega (arith, chip-sound sound (a .chip) (h .there) .six))
+            ap (λ (x : Chip A). getD (x .links) i idle) (getD-set-same (g .mesh .chips) (a .chip) _ fresh (omega (arith, sound .many, h .there)))
+            ∙ link-at o (turn (a .flight .tag)) i (chipOf (g .mesh) (a .chip) .links) (omega (arith, chip-sound sound (a .chip) (h .there) .six))
 
-        go : Dec (c ≡ a .chip) → All (P (beyond (g .mesh) c i)) (lineOf (passAt t turn g a .mesh) c i .held)
+        go : Dec (c ≡ a .chip) → All (P (beyond (g .mesh) c i)) (linkOf (passAt t turn g a .mesh) c i .held)
         go (yes e) =
-            subst (λ (k : ℕ). All (P (beyond (g .mesh) k i)) (lineOf (passAt t turn g a .mesh) k i .held)) (sym e)
-            (subst (λ (l : Line A). All (P (beyond (g .mesh) (a .chip) i)) (l .held)) (sym here)
-            (each-line-gets (P (beyond (g .mesh) (a .chip) i)) o (turn (a .flight .tag)) i (lineOf (g .mesh) (a .chip) i) (sends .links i near) (sends .leg i near) (each (a .chip) i near)))
+            subst (λ (k : ℕ). All (P (beyond (g .mesh) k i)) (linkOf (passAt t turn g a .mesh) k i .held)) (sym e)
+            (subst (λ (l : Link A). All (P (beyond (g .mesh) (a .chip) i)) (l .held)) (sym here)
+            (each-link-gets (P (beyond (g .mesh) (a .chip) i)) o (turn (a .flight .tag)) i (linkOf (g .mesh) (a .chip) i) (sends .links i near) (sends .leg i near) (each (a .chip) i near)))
         go (no other) =
-            subst (λ (x : Chip A). All (P (beyond (g .mesh) c i)) (getD (x .lines) i idle .held)) (sym (getD-set-other (g .mesh .chips) (a .chip) c _ fresh other)) (each c i near)
+            subst (λ (x : Chip A). All (P (beyond (g .mesh) c i)) (getD (x .links) i idle .held)) (sym (getD-set-other (g .mesh .chips) (a .chip) c _ fresh other)) (each c i near)
 
   -- ---- a round
 
@@ -95,5 +95,5 @@ module _ {A : Type 0} (P : ℕ → Flight A → Type 0) where
           let size = sizes.size (m .width) (m .height) (sound .size) in
           let back = there-and-back (m .width) (m .height) chip source (size .width-low) (size .height-low) there near in
           let from : ℕ = across (m .width) (m .height) chip source in
-          all-map ArrivesAt (λ (x : Flight A). record { chip = chip; source = source; flight = x }) (lineOf m from (opposite source) .held)
-          (subst (λ (k : ℕ). All (P k) (lineOf m from (opposite source) .held)) back (each from (opposite source) (opposite-there source)))
+          all-map ArrivesAt (λ (x : Flight A). record { chip = chip; source = source; flight = x }) (linkOf m from (opposite source) .held)
+          (subst (λ (k : ℕ). All (P k) (linkOf m from (opposite source) .held)) back (each from (opposite source) (opposite-there source)))

@@ -12,11 +12,11 @@ use borrow.Author.Tests.{eq-eqb, ne-eqb, eqb-true}
 use Rattle.packet.proofs.Types.{mc-marked, marked-stamped}
 use Rattle.steps.specs.Errors.{errorsOf}
 use Rattle.lists.specs.Lists.{All}
-use Rattle.links.specs.Line.{Flight}
+use Rattle.links.specs.Link.{Flight}
 use Rattle.links.specs.Across.{across, opposite}
 use Rattle.mesh.specs.Mesh.{Mesh}
 use Rattle.mesh.specs.Steps.{Arrival, arrivingBy, arrivingAt}
-use Rattle.mesh.specs.Calls.{lineOf}
+use Rattle.mesh.specs.Calls.{linkOf}
 use Rattle.mesh.specs.Sound.{SoundPacket}
 use Rattle.mesh.proofs.SoundArrivals.{opposite-there}
 use Rattle.flood.proofs.WholeWay.{no-error}
@@ -52,7 +52,7 @@ module _ (w : Trip) where
   leaves j c i = leads c i && eqb (depth c) j
 
   abbrev pub Full : ℕ → Mesh Tag → Type 0
-  Full j m = (c i : ℕ) → c < all → i < 6 → Holds w (leaves j c i) (lineOf m c i .held)
+  Full j m = (c i : ℕ) → c < all → i < 6 → Holds w (leaves j c i) (linkOf m c i .held)
 
   -- the chips that they lead to
   abbrev pub Due : ℕ → ℕ → Type 0
@@ -98,14 +98,14 @@ module _ (w : Trip) where
         let level : depth (next c s) ≡ j = eqb-true _ _ (both .1) in
         ((omega (arith, into .0, opposite-there s), omega (arith, into .1, level)), omega (arith, into .0))
 
-    by-held : (s : ℕ) → arrivingBy m c s ≡ map (at c s) (lineOf m (next c s) (opposite s) .held)
+    by-held : (s : ℕ) → arrivingBy m c s ≡ map (at c s) (linkOf m (next c s) (opposite s) .held)
     unfolding at
-    by-held s = λ i. map (λ (x : Flight Tag). record { chip = c; source = s; flight = x }) (lineOf m (across (wide i) (high i) c s) (opposite s) .held)
+    by-held s = λ i. map (λ (x : Flight Tag). record { chip = c; source = s; flight = x }) (linkOf m (across (wide i) (high i) c s) (opposite s) .held)
 
     by-none : (s : ℕ) → leaves j (next c s) (opposite s) ≡ false → arrivingBy m c s ≡ []
     by-none s e =
         by-held s
-        ∙ ap (map (at c s)) (subst (λ (b : Bool). Holds w b (lineOf m (next c s) (opposite s) .held)) e (full (next c s) (opposite s) (shape.next-there (w .asked) (w .none) c s) (opposite-there s)))
+        ∙ ap (map (at c s)) (subst (λ (b : Bool). Holds w b (linkOf m (next c s) (opposite s) .held)) e (full (next c s) (opposite s) (shape.next-there (w .asked) (w .none) c s) (opposite-there s)))
 
     pub none-arrives : (Due j c → ⊥) → arrivingAt m c ≡ []
     none-arrives idle = λ i. by 0 (lit< tt) i ++ by 1 (lit< tt) i ++ by 2 (lit< tt) i ++ by 3 (lit< tt) i ++ by 4 (lit< tt) i ++ by 5 (lit< tt) i
@@ -117,7 +117,7 @@ module _ (w : Trip) where
       pub copy : Flight Tag
       pub good : Copy w copy
       pub alone : arrivingAt m c ≡ record { chip = c; source = opposite (entered c); flight = copy } ∷ []
-      pub was : lineOf m (next c (opposite (entered c))) (opposite (opposite (entered c))) .held ≡ copy ∷ []
+      pub was : linkOf m (next c (opposite (entered c))) (opposite (opposite (entered c))) .held ≡ copy ∷ []
 
     -- what held of every packet in flight holds of it
     pub was-each : (one : ArrivesOne) (Q : Flight Tag → Type 0) → EachFlight Q m → Q (one .copy)
@@ -132,8 +132,8 @@ module _ (w : Trip) where
         let hang = shape.hangs (w .asked) (w .none) c there (due .0) in
         let on : leaves j (next c from) (opposite from) ≡ true =
         and-eq-true-iff (leads (next c from) (opposite from)) (eqb (depth (next c from)) j) .1 (ap (leads (next c from)) two ∙ hang .link, eq-eqb (depth (next c from)) j (omega (arith, hang .deeper, due .1))) in
-        let one : One w (lineOf m (next c from) (opposite from) .held) =
-        subst (λ (b : Bool). Holds w b (lineOf m (next c from) (opposite from) .held)) on (full (next c from) (opposite from) (shape.next-there (w .asked) (w .none) c from) (opposite-there from)) in
+        let one : One w (linkOf m (next c from) (opposite from) .held) =
+        subst (λ (b : Bool). Holds w b (linkOf m (next c from) (opposite from) .held)) on (full (next c from) (opposite from) (shape.next-there (w .asked) (w .none) c from) (opposite-there from)) in
         record {
           copy = one .copy;
           good = one .good;
@@ -141,7 +141,7 @@ module _ (w : Trip) where
           was = one .is;
         }
       where
-        by : (x : Flight Tag) → lineOf m (next c (opposite (entered c))) (opposite (opposite (entered c))) .held ≡ x ∷ [] → (s : ℕ) → s < 6 → Dec (s ≡ opposite (entered c))
+        by : (x : Flight Tag) → linkOf m (next c (opposite (entered c))) (opposite (opposite (entered c))) .held ≡ x ∷ [] → (s : ℕ) → s < 6 → Dec (s ≡ opposite (entered c))
             → arrivingBy m c s ≡ cond (eqb s (opposite (entered c))) (at c (opposite (entered c)) x ∷ []) []
         by x is s near (yes e) =
             ap (arrivingBy m c) e ∙ by-held (opposite (entered c)) ∙ ap (map (at c (opposite (entered c)))) is

@@ -10,7 +10,7 @@ use borrow.Author.Tests.{eq-eqb, eqb-true, le-leb, lt-leb}
 use Rattle.steps.specs.Links.{has}
 use Rattle.steps.proofs.Sets.{has-none}
 use Rattle.mesh.specs.Mesh.{Mesh}
-use Rattle.mesh.specs.Calls.{lineOf}
+use Rattle.mesh.specs.Calls.{linkOf}
 use Rattle.flood.proofs.Levels.{apart}
 use Rattle.promises.specs.History.{Tag, Passage, Event, packetPassed}
 use Rattle.promises.specs.Told.{EachPass, sumOf}
@@ -46,8 +46,8 @@ module _ (w : Trip) where
 
   -- the chips below k have the copies of depth j + 1
   pub record Midway (j k : ℕ) (m : Mesh Tag) (es : List Event) : Type 0 where
-    pub done : (c i : ℕ) → c < k → i < 6 → Holds w (leaves w (suc j) c i) (lineOf m c i .held)
-    pub todo : (c i : ℕ) → k ≤ c → c < all w → i < 6 → lineOf m c i .held ≡ []
+    pub done : (c i : ℕ) → c < k → i < 6 → Holds w (leaves w (suc j) c i) (linkOf m c i .held)
+    pub todo : (c i : ℕ) → k ≤ c → c < all w → i < 6 → linkOf m c i .held ≡ []
     pub told : (c q : ℕ) → c < k → sumOf (handed (w .number) c q) es ≡ handedDown (suc j) c q
     pub untold : (c q : ℕ) → k ≤ c → c < all w → sumOf (handed (w .number) c q) es ≡ handedDown j c q
     pub faultless : EachPass OwnFaultless es
@@ -81,10 +81,10 @@ module _ (w : Trip) where
             faultless = mid .faultless;
           }
         where
-          done-by : (c i : ℕ) → i < 6 → c < suc k → Dec (c ≡ k) → Holds w (leaves w (suc j) c i) (lineOf m c i .held)
+          done-by : (c i : ℕ) → i < 6 → c < suc k → Dec (c ≡ k) → Holds w (leaves w (suc j) c i) (linkOf m c i .held)
           done-by c i near low (yes e) =
-              subst (λ (c : ℕ). Holds w (leaves w (suc j) c i) (lineOf m c i .held)) (sym e)
-              (subst (λ (b : Bool). Holds w b (lineOf m k i .held)) (sym (none-leaves (suc j) k i no-route)) (mid .todo k i (omega arith) there near))
+              subst (λ (c : ℕ). Holds w (leaves w (suc j) c i) (linkOf m c i .held)) (sym e)
+              (subst (λ (b : Bool). Holds w b (linkOf m k i .held)) (sym (none-leaves (suc j) k i no-route)) (mid .todo k i (omega arith) there near))
           done-by c i near low (no other) = mid .done c i (omega arith) near
 
           told-by : (c q : ℕ) → c < suc k → Dec (c ≡ k) → sumOf (handed (w .number) c q) es ≡ handedDown (suc j) c q
@@ -119,10 +119,10 @@ module _ (w : Trip) where
             faultless = each-append OwnFaultless es (packetPassed p ∷ []) (mid .faultless) ((λ own. passes .faultless), tt);
           }
         where
-          done-by : (c i : ℕ) → i < 6 → c < suc k → Dec (c ≡ k) → Holds w (leaves w (suc j) c i) (lineOf next c i .held)
+          done-by : (c i : ℕ) → i < 6 → c < suc k → Dec (c ≡ k) → Holds w (leaves w (suc j) c i) (linkOf next c i .held)
           done-by c i near low (yes e) =
-              subst (λ (c : ℕ). Holds w (leaves w (suc j) c i) (lineOf next c i .held)) (sym e)
-              (subst (λ (b : Bool). Holds w b (lineOf next k i .held)) (sym (all-leave (suc j) k i level)) (passes .here i near))
+              subst (λ (c : ℕ). Holds w (leaves w (suc j) c i) (linkOf next c i .held)) (sym e)
+              (subst (λ (b : Bool). Holds w b (linkOf next k i .held)) (sym (all-leave (suc j) k i level)) (passes .here i near))
           done-by c i near low (no other) = subst (Holds w (leaves w (suc j) c i)) (sym (passes .elsewhere c i other)) (mid .done c i (omega arith) near)
 
           told-by : (c q : ℕ) → c < suc k → Dec (c ≡ k) → sumOf (handed (w .number) c q) (es ++ packetPassed p ∷ []) ≡ handedDown (suc j) c q

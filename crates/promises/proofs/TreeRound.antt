@@ -7,11 +7,11 @@ use mathlib.Core.Logic.{inl, inr}
 use native.Mathlib.Decide.{ℕ-discrete, decLt}
 use native.Mathlib.Omega.{arith}
 use lib.ListN.{getD, List·getD-map}
-use Rattle.links.specs.Line.{Line, idle}
+use Rattle.links.specs.Link.{Link, idle}
 use Rattle.links.specs.Across.{opposite}
 use Rattle.mesh.specs.Mesh.{Chip, Mesh, fresh}
 use Rattle.mesh.specs.Steps.{Tables, Arrival, Going, emptied, emptiedChip, setAside, arrivingAt, arrivingFrom, passAt}
-use Rattle.mesh.specs.Calls.{many, chipOf, lineOf}
+use Rattle.mesh.specs.Calls.{many, chipOf, linkOf}
 use Rattle.mesh.specs.Sound.{SoundPacket, Arrives, SoundMesh}
 use Rattle.mesh.proofs.SoundArrivals.{sound-passable, opposite-there}
 use Rattle.mesh.proofs.SoundSteps.{CodesFor, sound-pass}
@@ -29,17 +29,17 @@ use Rattle.promises.proofs.TreeArrivals.{all, depth, entered, Full, Due
 use Rattle.promises.proofs.TreeMidway.{Midway, nothing-comes, copy-comes}
 
 -- after all is set aside no link holds anything
-pub aside-holds : (m : Mesh Tag) (c i : ℕ) → lineOf (setAside m) c i .held ≡ []
+pub aside-holds : (m : Mesh Tag) (c i : ℕ) → linkOf (setAside m) c i .held ≡ []
 aside-holds m c i =
-    ap (λ (x : Chip Tag). getD (x .lines) i idle .held) (List·getD-map emptiedChip (m .chips) c fresh)
-    ∙ ap (λ (l : Line Tag). l .held) (List·getD-map emptied (chipOf m c .lines) i idle)
+    ap (λ (x : Chip Tag). getD (x .links) i idle .held) (List·getD-map emptiedChip (m .chips) c fresh)
+    ∙ ap (λ (l : Link Tag). l .held) (List·getD-map emptied (chipOf m c .links) i idle)
 
 -- a chip of the tree's, in a mesh like the one that the injection found
 module _ (w : Trip) (k : Mesh Tag) (alike : Alike (w .mesh) k) where
   pub as-many : many k ≡ all w
   as-many = many-same (w .mesh) k (alike .same) ∙ (λ i. w .high i * w .wide i)
 
-  pub still-up : (c i : ℕ) → c < all w → i < 6 → lineOf k c i .up ≡ true
+  pub still-up : (c i : ℕ) → c < all w → i < 6 → linkOf k c i .up ≡ true
   still-up c i there near =
       let here : c < many (w .mesh) = omega (arith, as-many, many-same (w .mesh) k (alike .same)) in
       alike .same .links c i here near ∙ w .up c i here near
@@ -54,7 +54,7 @@ module _ (w : Trip) (f : ℕ) (deep : AtMostDeep (w .asked) f) (t : Tables) (onl
 
   -- the pass of the copy that comes to a chip
   module _ (g : Going Tag) (sound : SoundMesh (g .mesh)) (codes : CodesFor t (g .mesh)) (alike : Alike (w .mesh) (g .mesh)) (phase : g .mesh .phase ≡ m .phase) (c : ℕ) (there : c < all w)
-      (free : (i : ℕ) → i < 6 → lineOf (g .mesh) c i .held ≡ []) (due : Due w j c) where
+      (free : (i : ℕ) → i < 6 → linkOf (g .mesh) c i .held ≡ []) (due : Due w j c) where
     one : ArrivesOne w j m wide high full c there
     one = one-arrives w j m wide high full c there due
 
@@ -101,7 +101,7 @@ module _ (w : Trip) (f : ℕ) (deep : AtMostDeep (w .asked) f) (t : Tables) (onl
 
       comes : Due w j k → More → Ended g es (arrivingAt m k ++ arrivingFrom m (suc k) n)
       comes due more =
-          let free : (i : ℕ) → i < 6 → lineOf (g .mesh) k i .held ≡ [] = λ i near. mid .todo k i (omega arith) here near in
+          let free : (i : ℕ) → i < 6 → linkOf (g .mesh) k i .held ≡ [] = λ i near. mid .todo k i (omega arith) here near in
           let x : Arrival Tag = a g sound codes alike phase k here free due in
           let p = passage t r (g .mesh) x in
           subst (λ (l : List (Arrival Tag)). Ended g es (l ++ arrivingFrom m (suc k) n)) (sym (one g sound codes alike phase k here free due .alone))

@@ -13,10 +13,10 @@ use borrow.Author.Tests.{eqb-true, le-leb}
 use Rattle.steps.specs.Links.{has}
 use Rattle.steps.proofs.Sets.{has-none}
 use Rattle.lists.specs.Lists.{All}
-use Rattle.links.specs.Line.{Flight, idle}
+use Rattle.links.specs.Link.{Flight, idle}
 use Rattle.mesh.specs.Mesh.{fresh}
 use Rattle.mesh.specs.Steps.{Tables, setOut, setAside, arrivals}
-use Rattle.mesh.specs.Calls.{lineOf}
+use Rattle.mesh.specs.Calls.{linkOf}
 use Rattle.mesh.specs.Asked.{Call}
 use Rattle.mesh.specs.Sound.{SoundMesh}
 use Rattle.mesh.proofs.SoundChanges.{chip-sound, sound-linked, sound-emptied}
@@ -147,9 +147,9 @@ module _ (w : Trip) (f d : ℕ) (deep : AtMostDeep (w .asked) d) where
     late = omega arith
 
     -- no link leads deeper
-    none-left : (c i : ℕ) → c < all w → i < 6 → lineOf (s .mesh) c i .held ≡ []
+    none-left : (c i : ℕ) → c < all w → i < 6 → linkOf (s .mesh) c i .held ≡ []
     none-left c i there near =
-        subst (λ (b : Bool). Holds w b (lineOf (s .mesh) c i .held)) (shape.not-both (leaves w (roundsBy w s) c i) (λ e.
+        subst (λ (b : Bool). Holds w b (linkOf (s .mesh) c i .held)) (shape.not-both (leaves w (roundsBy w s) c i) (λ e.
         let both = and-eq-true-iff (leads w c i) (eqb (depth w c) (roundsBy w s)) .0 e in
         let r = shape.rooted (w .asked) (w .none) in
         let on : ℕ = shape.next (w .asked) (w .none) c i in
@@ -179,6 +179,6 @@ module _ (w : Trip) (f d : ℕ) (deep : AtMostDeep (w .asked) d) where
           gone =
               each-place _ (s .mesh .chips) fresh (λ c low.
               let here : c < all w = omega (arith, h .sound .many, as-many w (s .mesh) (h .alike)) in
-              each-place _ (getD (s .mesh .chips) c fresh .lines) idle (λ i near.
+              each-place _ (getD (s .mesh .chips) c fresh .links) idle (λ i near.
               all-empty _ (none-left c i here (omega (arith, chip-sound (h .sound) c (omega (arith, h .sound .many)) .six)))));
         }

@@ -14,16 +14,16 @@ use Rattle.steps.specs.Links.{has, processorsOf}
 use Rattle.steps.specs.Errors.{errorsOf}
 use Rattle.steps.specs.Deciding.{packetOn, legPacket}
 use Rattle.steps.proofs.Sets.{has-none}
-use Rattle.links.specs.Line.{Flight, Line, idle, isReady, sent, lineAfter}
+use Rattle.links.specs.Link.{Flight, Link, idle, isReady, sent, linkAfter}
 use Rattle.mesh.specs.Mesh.{Chip, Mesh, fresh, readyOf}
 use Rattle.mesh.specs.Steps.{Tables, Arrival, Going, outcomeAt, settingAt, tablesAt, passAt}
-use Rattle.mesh.specs.Calls.{chipOf, lineOf}
+use Rattle.mesh.specs.Calls.{chipOf, linkOf}
 use Rattle.mesh.specs.Sound.{Arrives, SoundMesh}
 use Rattle.mesh.proofs.SoundChanges.{chip-sound}
 use Rattle.mesh.proofs.SoundSteps.{CodesFor, checked}
 use Rattle.promises.specs.History.{Tag, Passage, turned}
 use Rattle.promises.specs.GrownTree.{Asked, refusal, tree, Only, handed}
-use Rattle.promises.proofs.Apart.{line-at}
+use Rattle.promises.proofs.Apart.{link-at}
 use Rattle.promises.proofs.Runs.{passage}
 use Rattle.promises.proofs.TreeRows.{chip-rows}
 use Rattle.promises.proofs.TreePass.{ByRoute, ComesBy, Fits, set-all, by-route, sent-fits}
@@ -36,7 +36,7 @@ pub record Trip : Type 0 where
   pub mesh : Mesh Tag
   pub wide : mesh .width ≡ asked .width
   pub high : mesh .height ≡ asked .height
-  pub up : (c i : ℕ) → c < mesh .height * mesh .width → i < 6 → lineOf mesh c i .up ≡ true
+  pub up : (c i : ℕ) → c < mesh .height * mesh .width → i < 6 → linkOf mesh c i .up ≡ true
   pub number : ℕ
   pub before : ℕ
 
@@ -65,8 +65,8 @@ module _ (w : Trip) where
 
   -- what a pass at a chip makes of a mesh, and what it shows
   pub record Passes (chip : ℕ) (m next : Mesh Tag) (p : Passage) : Type 0 where
-    pub here : (i : ℕ) → i < 6 → Holds (leads (w .asked) (w .none) chip i) (lineOf next chip i .held)
-    pub elsewhere : (c i : ℕ) → (c ≡ chip → ⊥) → lineOf next c i .held ≡ lineOf m c i .held
+    pub here : (i : ℕ) → i < 6 → Holds (leads (w .asked) (w .none) chip i) (linkOf next chip i .held)
+    pub elsewhere : (c i : ℕ) → (c ≡ chip → ⊥) → linkOf next c i .held ≡ linkOf m c i .held
     pub hands : (k : ℕ) → handed (w .number) chip k p ≡ handedAt chip k
     pub none-else : (c k : ℕ) → (c ≡ chip → ⊥) → handed (w .number) c k p ≡ 0
     pub faultless : Faultless p
@@ -74,7 +74,7 @@ module _ (w : Trip) where
   module _ (t : Tables) (only : Only (w .asked) t) (r : ℕ) (g : Going Tag) (a : Arrival Tag) (sound : SoundMesh (g .mesh)) (codes : CodesFor t (g .mesh)) (h : Arrives (g .mesh .height * g .mesh .width) a)
       (there : a .chip < w .asked .height * w .asked .width) (comes : ComesBy (entered (w .asked) (w .none) (a .chip)) (a .source)) (copy : Copy (a .flight))
       (errors : errorsOf (a .flight .packet) (a .source) (g .mesh .phase) ≡ 0)
-      (up : (i : ℕ) → i < 6 → lineOf (g .mesh) (a .chip) i .up ≡ true) (free : (i : ℕ) → i < 6 → lineOf (g .mesh) (a .chip) i .held ≡ []) where
+      (up : (i : ℕ) → i < 6 → linkOf (g .mesh) (a .chip) i .up ≡ true) (free : (i : ℕ) → i < 6 → linkOf (g .mesh) (a .chip) i .held ≡ []) where
     abbrev m : Mesh Tag
     m = g .mesh
 
@@ -88,7 +88,7 @@ module _ (w : Trip) where
     p = passage t r m a
 
     ready : readyOf m (a .chip) ≡ 63
-    ready = set-all (λ i. isReady (lineOf m (a .chip) i)) (λ i near j. up i near j && leb (length (free i near j)) 6)
+    ready = set-all (λ i. isReady (linkOf m (a .chip) i)) (λ i near j. up i near j && leb (length (free i near j)) 6)
 
     by : ByRoute o way
     by =
@@ -105,12 +105,12 @@ module _ (w : Trip) where
         }
 
     -- what a link of the chip holds then
-    held-here : (i : ℕ) → i < 6 → lineOf (passAt t turned g a .mesh) (a .chip) i .held ≡ sent (leads (w .asked) (w .none) (a .chip) i) (packetOn o i) (turned (a .flight .tag)) ++ []
+    held-here : (i : ℕ) → i < 6 → linkOf (passAt t turned g a .mesh) (a .chip) i .held ≡ sent (leads (w .asked) (w .none) (a .chip) i) (packetOn o i) (turned (a .flight .tag)) ++ []
     held-here i near =
-        let line : lineOf (passAt t turned g a .mesh) (a .chip) i ≡ lineAfter o (turned (a .flight .tag)) i (lineOf m (a .chip) i) =
-        ap (λ (x : Chip Tag). getD (x .lines) i idle) (getD-set-same (m .chips) (a .chip) _ fresh (omega (arith, sound .many, h .there)))
-        ∙ line-at o (turned (a .flight .tag)) i (chipOf m (a .chip) .lines) (omega (arith, chip-sound sound (a .chip) (h .there) .six)) in
-        ap (λ (l : Line Tag). l .held) line
+        let link : linkOf (passAt t turned g a .mesh) (a .chip) i ≡ linkAfter o (turned (a .flight .tag)) i (linkOf m (a .chip) i) =
+        ap (λ (x : Chip Tag). getD (x .links) i idle) (getD-set-same (m .chips) (a .chip) _ fresh (omega (arith, sound .many, h .there)))
+        ∙ link-at o (turned (a .flight .tag)) i (chipOf m (a .chip) .links) (omega (arith, chip-sound sound (a .chip) (h .there) .six)) in
+        ap (λ (l : Link Tag). l .held) link
         ∙ (λ j. free i near j ++ sent (by .sent i near j) (packetOn o i) (turned (a .flight .tag)) ++ sent (has (by .leg-sent j) i) (legPacket o) (turned (a .flight .tag)))
         ∙ (λ j. [] ++ sent (leads (w .asked) (w .none) (a .chip) i) (packetOn o i) (turned (a .flight .tag)) ++ sent (has-none i j) (legPacket o) (turned (a .flight .tag)))
 
@@ -122,7 +122,7 @@ module _ (w : Trip) where
     passes-by-tree =
         record {
           here = λ i near. subst (Holds (leads (w .asked) (w .none) (a .chip) i)) (sym (held-here i near)) (holds (leads (w .asked) (w .none) (a .chip) i) (record { packet = packetOn o i; tag = turned (a .flight .tag) }) (sent-copy i));
-          elsewhere = λ c i other. ap (λ (x : Chip Tag). getD (x .lines) i idle .held) (getD-set-other (m .chips) (a .chip) c _ fresh other);
+          elsewhere = λ c i other. ap (λ (x : Chip Tag). getD (x .links) i idle .held) (getD-set-other (m .chips) (a .chip) c _ fresh other);
           hands = λ k j. cond (eq-eqb _ _ (copy .own) j && eq-eqb (a .chip) (a .chip) refl j && has (processorsOf (by .wanted j)) k) 1 0;
           none-else = λ c k other.
               (λ j. cond (eq-eqb _ _ (copy .own) j && ne-eqb (a .chip) c (λ e. other (sym e)) j && has (processorsOf (o .wanted)) k) 1 0);

@@ -20,7 +20,7 @@ use Rattle.kept.specs.Units.{weight, overLinks, weightSent}
 use Rattle.steps.proofs.Bounds.{outcome-sets}
 use Rattle.steps.proofs.SentPackets.{sent-marked, sent-plain, sent-leg, no-detour}
 use Rattle.steps.proofs.Sets.{has-none}
-use Rattle.links.specs.Line.{Flight, sent}
+use Rattle.links.specs.Link.{Flight, sent}
 use Rattle.mesh.specs.Mesh.{Chip}
 use Rattle.mesh.specs.Steps.{chipAfter}
 use Rattle.mesh.specs.Weights.{onChip}
@@ -70,19 +70,19 @@ module _ (p : Packet) (s : ℕ) (tables : ChipTables) (t : Setting) (h : Checked
       ∙ ap (λ (n : ℕ). overLinks (λ i. cond (has (o .sent) i) (cond (eqb (markOn o i) 1) 2 1) 0) + n) (links-ones (o .«leg_sent») (outcome-sets p s tables t .leg))
 
   -- so a chip of six links weighs more by what the pass sends
-  pub chip-weighs-sent : {A : Type 0} (tag : A) (c : Chip A) → length (c .lines) ≡ 6
+  pub chip-weighs-sent : {A : Type 0} (tag : A) (c : Chip A) → length (c .links) ≡ 6
       → onChip weighed (chipAfter (outcomeOf p s tables t) tag c) ≡ onChip weighed c + weightSent (outcomeOf p s tables t)
-  chip-weighs-sent tag c lines = chip-gains weighed (outcomeOf p s tables t) tag c lines ∙ ap (λ (n : ℕ). onChip weighed c + n) (sent-weighs tag)
+  chip-weighs-sent tag c links = chip-gains weighed (outcomeOf p s tables t) tag c links ∙ ap (λ (n : ℕ). onChip weighed c + n) (sent-weighs tag)
 
   -- and holds more by as many as it sends
-  pub chip-holds-sent : {A : Type 0} (tag : A) (c : Chip A) → length (c .lines) ≡ 6
+  pub chip-holds-sent : {A : Type 0} (tag : A) (c : Chip A) → length (c .links) ≡ 6
       → onChip (λ x. 1) (chipAfter (outcomeOf p s tables t) tag c) ≡ onChip (λ x. 1) c + sentCount (outcomeOf p s tables t)
-  chip-holds-sent tag c lines =
+  chip-holds-sent tag c links =
       let o = outcomeOf p s tables t in
       let sets = outcome-sets p s tables t in
       omega (
         arith,
-        chip-gains (λ x. 1) o tag c lines,
+        chip-gains (λ x. 1) o tag c links,
         over-add (λ i. cond (has (o .sent) i) 1 0) (λ i. cond (has (o .«leg_sent») i) 1 0),
         links-ones (o .sent) (sets .sent),
         links-ones (o .«leg_sent») (sets .leg),

@@ -8,7 +8,7 @@ use lib.ListN.{length, getD}
 use Rattle.steps.specs.Links.{has}
 use Rattle.steps.specs.Deciding.{outcomeOf}
 use Rattle.kept.specs.Units.{weight, extra, settled}
-use Rattle.links.specs.Line.{Flight, idle, isReady}
+use Rattle.links.specs.Link.{Flight, idle, isReady}
 use Rattle.mesh.specs.Mesh.{Mesh, fresh, opened}
 use Rattle.buffer.specs.Layout.{meshOf}
 use Rattle.buffer.specs.Holding.{holdsMesh}
@@ -107,12 +107,12 @@ Log = Always (λ f s. s .log ≡ recordsOf (s .events))
 abbrev pub NoStaleBlock : Type 0
 NoStaleBlock = Always (λ f s. EachPass (λ p.
     (p .outcome ≡ outcomeOf (p .arrival .flight .packet) (p .arrival .source) (p .tables) (p .setting))
-    × ((i : ℕ) → i < 6 → has (p .setting .ready) i ≡ isReady (getD (p .here .lines) i idle))) (s .events))
+    × ((i : ℕ) → i < 6 → has (p .setting .ready) i ≡ isReady (getD (p .here .links) i idle))) (s .events))
 
 -- 9. "Every directed link holds at most 8 packets", after every call.
 abbrev pub NoLinkAbove8 : Type 0
 NoLinkAbove8 = Always (λ f s. (chip link : ℕ) → chip < s .mesh .height * s .mesh .width → link < 6
-    → length (getD (getD (s .mesh .chips) chip fresh .lines) link idle .held) ≤ 8)
+    → length (getD (getD (s .mesh .chips) chip fresh .links) link idle .held) ≤ 8)
 
 -- 10. "Each copy there is tied to the injection it came from, so that equal bytes stay apart": it has the number of an accepted injection, with the packet that
 -- was handed in and the rounds accepted before. A new injection takes the number of none before it: all before are below `length given`.
@@ -130,4 +130,4 @@ pub record Behind (before after : List (Flight Tag)) (tag : Tag) : Type 0 where
 
 abbrev pub CopiesApart : Type 0
 CopiesApart = Always (λ f s. EachPass (λ p. (i : ℕ) → i < 6
-    → Behind (getD (p .here .lines) i idle .held) (getD (p .left .lines) i idle .held) (turned (p .arrival .flight .tag))) (s .events))
+    → Behind (getD (p .here .links) i idle .held) (getD (p .left .links) i idle .held) (turned (p .arrival .flight .tag))) (s .events))

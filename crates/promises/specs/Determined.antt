@@ -14,7 +14,7 @@ use Rattle.tables.specs.Tables.{ChipTables}
 use Rattle.router.specs.declared.Pass.{Pass}
 use Rattle.steps.specs.declared.Setting.{Setting}
 use Rattle.router.specs.Call.{passOf}
-use Rattle.links.specs.Line.{idle}
+use Rattle.links.specs.Link.{idle}
 use Rattle.mesh.specs.declared.Added.{Added}
 use Rattle.mesh.specs.declared.RegistersRead.{RegistersRead}
 use Rattle.mesh.specs.declared.CountRead.{CountRead}
@@ -25,9 +25,9 @@ use Rattle.buffer.specs.declared.opening.SizeRead.{SizeRead}
 use Rattle.buffer.specs.Layout.{meshOf, wordsFor, wordsOf}
 use Rattle.buffer.specs.Opening.{sizeOf, openRefusals, opening}
 use Rattle.buffer.specs.Holding.{holdsMesh}
-use Rattle.mesh.specs.Sound.{SoundLine}
+use Rattle.mesh.specs.Sound.{SoundLink}
 use Rattle.mesh.specs.Steps.{Tables}
-use Rattle.mesh.specs.Calls.{Left, many, chipOf, lineOf, registersRead, countRead, meshRead, linkRead, flightRead}
+use Rattle.mesh.specs.Calls.{Left, many, chipOf, linkOf, registersRead, countRead, meshRead, linkRead, flightRead}
 use Rattle.buffer.specs.Leaving.{Leaves, Moves, linkLeft, roundRoom}
 use Rattle.flood.specs.Codes.{floodRefusal, flooded}
 use Rattle.fewer.specs.declared.Fewer.{Fewer}
@@ -153,8 +153,8 @@ pub tree-determined : (width height source key mask : ℕ) (targets rows starts 
 tree-determined width height source key mask targets rows starts x y a b c d e f g h i j = (determined x y e f, (determined a b g h, determined c d i j))
 
 -- "Every directed link holds at most 8 packets", in every buffer that holds a mesh, as opening and every accepted call leave one.
-pub no-link-above-8 : (l : List ℕ) → holdsMesh l ≡ true → (chip link : ℕ) → chip < many (meshOf l) → link < 6 → length (lineOf (meshOf l) chip link .held) ≤ 8
+pub no-link-above-8 : (l : List ℕ) → holdsMesh l ≡ true → (chip link : ℕ) → chip < many (meshOf l) → link < 6 → length (linkOf (meshOf l) chip link .held) ≤ 8
 no-link-above-8 l holds chip link hc hl =
     let sound = holds-sound l holds in
     let c = chip-sound sound chip hc in
-    all-getD SoundLine (chipOf (meshOf l) chip .lines) link idle (c .lines) (omega (arith, c .six)) .few
+    all-getD SoundLink (chipOf (meshOf l) chip .links) link idle (c .links) (omega (arith, c .six)) .few

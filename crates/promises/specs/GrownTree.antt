@@ -16,7 +16,7 @@ use Rattle.steps.specs.Errors.{errorsOf}
 use Rattle.lists.specs.Lists.{All}
 use Rattle.links.specs.Across.{across}
 use Rattle.mesh.specs.Steps.{Tables}
-use Rattle.mesh.specs.Calls.{many, lineOf}
+use Rattle.mesh.specs.Calls.{many, linkOf}
 use Rattle.mesh.specs.Weights.{inFlight}
 use Rattle.mesh.specs.Asked.{Call, inject, round, setLink, readRegisters, change, look, leftBy}
 use Rattle.tree.specs.Growing.{targetsOf, Grown}
@@ -102,7 +102,7 @@ module _ (a : Asked) (s : State) (f d : ℕ) (bytes : List ℕ) (t : Tables) (ro
   abbrev pub DeliversAfter : List Call → Type 0
   DeliversAfter cs =
       refusal a ≡ 0 → s .mesh .width ≡ a .width → s .mesh .height ≡ a .height → inFlight (s .mesh) ≡ 0
-      → ((chip i : ℕ) → chip < many (s .mesh) → i < 6 → lineOf (s .mesh) chip i .up ≡ true)
+      → ((chip i : ℕ) → chip < many (s .mesh) → i < 6 → linkOf (s .mesh) chip i .up ≡ true)
       → leftBy turned (tagNow s injecting) (s .mesh) injecting .refusal ≡ 0
       → Only a t
       → Matching a (s .mesh .phase) (packetAt bytes)

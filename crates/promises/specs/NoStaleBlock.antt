@@ -14,10 +14,10 @@ use Rattle.steps.specs.declared.Setting.{Setting}
 use Rattle.steps.specs.Links.{has, linksOf, link}
 use Rattle.steps.specs.Errors.{flag}
 use Rattle.steps.specs.Deciding.{outcomeOf}
-use Rattle.links.specs.Line.{idle, isReady, readyLinks}
+use Rattle.links.specs.Link.{idle, isReady, readyLinks}
 use Rattle.mesh.specs.Mesh.{Chip, Mesh, fresh, readyOf}
 use Rattle.mesh.specs.Steps.{Tables, outcomeAt, tablesAt}
-use Rattle.mesh.specs.Calls.{many, chipOf, lineOf, withUp, withLink}
+use Rattle.mesh.specs.Calls.{many, chipOf, linkOf, withUp, withLink}
 use Rattle.mesh.specs.Sound.{SoundMesh}
 use Rattle.mesh.proofs.SoundChanges.{chip-sound}
 use Rattle.steps.proofs.Sets.{has-set}
@@ -52,7 +52,7 @@ pub record Alike {A B : Type 0} (m : Mesh A) (n : Mesh B) (chip : ℕ) : Type 0 
   pub height : m .height ≡ n .height
   pub monitor : m .monitor ≡ n .monitor
   pub phase : m .phase ≡ n .phase
-  pub ready : (i : ℕ) → i < 6 → isReady (lineOf m chip i) ≡ isReady (lineOf n chip i)
+  pub ready : (i : ℕ) → i < 6 → isReady (linkOf m chip i) ≡ isReady (linkOf n chip i)
 
 -- The past does not count: a packet passes there alike. Which links were blocked before, what else is in flight, what registers and counters hold, and the
 -- other chips make no difference.
@@ -70,14 +70,14 @@ past-does-not-count t m n chip source p a =
     })
 
 -- A link that is taken up and holds at most 6 packets is ready at the very next pass, whatever happened before.
-pub up-is-ready : {A : Type 0} (m : Mesh A) → SoundMesh m → (chip link : ℕ) → chip < many m → link < 6 → length (lineOf m chip link .held) ≤ 6
+pub up-is-ready : {A : Type 0} (m : Mesh A) → SoundMesh m → (chip link : ℕ) → chip < many m → link < 6 → length (linkOf m chip link .held) ≤ 6
     → has (readyOf (withLink m chip link true) chip) link ≡ true
 up-is-ready m sound chip link hc hl few =
     let c = chip-sound sound chip hc in
     let now : Chip _ =
-    record { registers = chipOf m chip .registers; counters = chipOf m chip .counters; lines = set (chipOf m chip .lines) link (withUp true (lineOf m chip link)) } in
+    record { registers = chipOf m chip .registers; counters = chipOf m chip .counters; links = set (chipOf m chip .links) link (withUp true (linkOf m chip link)) } in
     let here : chipOf (withLink m chip link true) chip ≡ now = getD-set-same (m .chips) chip now fresh (omega (arith, sound .many)) in
-    ap (λ (x : Chip _). has (readyLinks (x .lines)) link) here
-    ∙ has-set (λ i. isReady (getD (now .lines) i idle)) link hl
-    ∙ ap isReady (getD-set-same (chipOf m chip .lines) link (withUp true (lineOf m chip link)) idle (omega (arith, c .six)))
+    ap (λ (x : Chip _). has (readyLinks (x .links)) link) here
+    ∙ has-set (λ i. isReady (getD (now .links) i idle)) link hl
+    ∙ ap isReady (getD-set-same (chipOf m chip .links) link (withUp true (linkOf m chip link)) idle (omega (arith, c .six)))
     ∙ le-leb _ _ few

@@ -15,7 +15,7 @@ use Rattle.steps.specs.Links.{has}
 use Rattle.kept.specs.Keeping.{empty, dropCount, capped, withUnits}
 use Rattle.steps.specs.Errors.{flag, tooOld, wrongLength, badLocal}
 use Rattle.kept.specs.Counting.{delivered, swallowed}
-use Rattle.links.specs.Line.{Flight, Line}
+use Rattle.links.specs.Link.{Flight, Link}
 use Rattle.mesh.specs.Mesh.{Chip, Mesh}
 use Rattle.mesh.specs.Steps.{logOf}
 use Rattle.mesh.specs.Calls.{Left}
@@ -31,7 +31,7 @@ Stamped p = isStamped (p .control) ≡ true
 
 -- What holds of every packet in flight.
 abbrev pub EachFlight : {A : Type 0} → (Flight A → Type 0) → Mesh A → Type 0
-EachFlight P m = All (λ (c : Chip _). All (λ (l : Line _). All P (l .held)) (c .lines)) (m .chips)
+EachFlight P m = All (λ (c : Chip _). All (λ (l : Link _). All P (l .held)) (c .links)) (m .chips)
 
 -- What holds of every pass.
 unfoldable pub EachPass : (Passage → Type 0) → List Event → Type 0
@@ -127,11 +127,11 @@ module _ {A : Type 0} where
   abbrev pub plainFlight : Flight A → Flight (Unit {0})
   plainFlight f = record { packet = f .packet; tag = tt }
 
-  abbrev pub plainLine : Line A → Line (Unit {0})
-  plainLine l = record { up = l .up; held = map plainFlight (l .held) }
+  abbrev pub plainLink : Link A → Link (Unit {0})
+  plainLink l = record { up = l .up; held = map plainFlight (l .held) }
 
   abbrev pub plainChip : Chip A → Chip (Unit {0})
-  plainChip c = record { registers = c .registers; counters = c .counters; lines = map plainLine (c .lines) }
+  plainChip c = record { registers = c .registers; counters = c .counters; links = map plainLink (c .links) }
 
   abbrev pub plain : Mesh A → Mesh (Unit {0})
   plain m =

@@ -8,34 +8,34 @@ use lib.Seq.{paste, paste-zero, paste-suc, getD-drop}
 use Rattle.buffer.proofs.Asides.{copied-before}
 use Rattle.buffer.proofs.aside.copy_aside.Statement.{statement}
 use Rattle.buffer.proofs.aside.copy_aside.Tie as tie
-use Rattle.links.specs.Offsets.{placesAt, placeLong, depth, asidePlacesAt, lineLong}
+use Rattle.links.specs.Offsets.{placesAt, placeLong, depth, asidePlacesAt, linkLong}
 
 abbrev Inv-loop : tie.InvT-loop
-Inv-loop line₀ words i₀ line i = (i ≤ words) × ((length line ≡ lineLong) × (line ≡ paste line₀ asidePlacesAt (drop 2 line₀) i))
+Inv-loop link₀ words i₀ link i = (i ≤ words) × ((length link ≡ linkLong) × (link ≡ paste link₀ asidePlacesAt (drop 2 link₀) i))
 
 abbrev μ-loop : tie.MeasureT-loop
-μ-loop line₀ words i₀ line i = words - i
+μ-loop link₀ words i₀ link i = words - i
 
 loop-holds : tie.Need-loop-holds Inv-loop μ-loop
-loop-holds c = (omega arith, (c .pre .0, paste-zero (c .args .line .now) asidePlacesAt (drop 2 (c .args .line .now))))
+loop-holds c = (omega arith, (c .pre .0, paste-zero (c .args .link-words .now) asidePlacesAt (drop 2 (c .args .link-words .now))))
 
-add-line : tie.Need-add-line Inv-loop μ-loop
-add-line c = omega (arith, c .before .before .pre .1)
+add-link-words : tie.Need-add-link-words Inv-loop μ-loop
+add-link-words c = omega (arith, c .before .before .pre .1)
 
-mul-line : tie.Need-mul-line Inv-loop μ-loop
-mul-line c = omega (arith, c .before .before .pre .1)
+mul-link-words : tie.Need-mul-link-words Inv-loop μ-loop
+mul-link-words c = omega (arith, c .before .before .pre .1)
 
-slice-read-line : tie.Need-slice-read-line Inv-loop μ-loop
-slice-read-line c = omega (arith, c .before .before .before .pre .1)
+slice-read-link-words : tie.Need-slice-read-link-words Inv-loop μ-loop
+slice-read-link-words c = omega (arith, c .before .before .before .pre .1)
 
-add-line-2 : tie.Need-add-line-2 Inv-loop μ-loop
-add-line-2 c = omega (arith, c .before .before .before .pre .1)
+add-link-words-2 : tie.Need-add-link-words-2 Inv-loop μ-loop
+add-link-words-2 c = omega (arith, c .before .before .before .pre .1)
 
-mul-line-2 : tie.Need-mul-line-2 Inv-loop μ-loop
-mul-line-2 c = omega (arith, c .before .before .before .pre .1)
+mul-link-words-2 : tie.Need-mul-link-words-2 Inv-loop μ-loop
+mul-link-words-2 c = omega (arith, c .before .before .before .pre .1)
 
-slice-write-line : tie.Need-slice-write-line Inv-loop μ-loop
-slice-write-line c = omega (arith, c .before .before .before .pre .1)
+slice-write-link-words : tie.Need-slice-write-link-words Inv-loop μ-loop
+slice-write-link-words c = omega (arith, c .before .before .before .pre .1)
 
 add-i : tie.Need-add-i Inv-loop μ-loop
 add-i c = omega arith
@@ -46,10 +46,10 @@ loop-less c = omega arith
 loop-again : tie.Need-loop-again Inv-loop μ-loop
 loop-again c =
     let at = c .before .before .loop in
-    let l = c .before .before .before .args .line .now in
+    let l = c .before .before .before .args .link-words .now in
     let long = c .before .before .before .pre .0 in
     let few : at .i ≤ depth * placeLong = omega (arith, c .before .before .before .pre .1) in
-    let read : getD (at .line) (2 + at .i) 0 ≡ getD (drop placesAt l) (at .i) 0 =
+    let read : getD (at .link-words) (2 + at .i) 0 ≡ getD (drop placesAt l) (at .i) 0 =
     ap (λ (w : List ℕ). getD w (2 + at .i) 0) (at .inv .1 .1) ∙ copied-before l (at .i) long few (2 + at .i) (omega (arith, c .before .before .before .pre .1)) ∙ sym (getD-drop placesAt l (at .i) 0) in (
       omega arith,
       (
@@ -72,12 +72,12 @@ copy-aside-spec =
     Inv-loop
     μ-loop
     loop-holds
-    add-line
-    mul-line
-    slice-read-line
-    add-line-2
-    mul-line-2
-    slice-write-line
+    add-link-words
+    mul-link-words
+    slice-read-link-words
+    add-link-words-2
+    mul-link-words-2
+    slice-write-link-words
     add-i
     loop-less
     loop-again

@@ -6,7 +6,7 @@ use native.Mathlib.Nat.{add-sub-cancel-left}
 use Rattle.lists.specs.Lists.{putBack}
 use Rattle.buffer.proofs.changing.link_on_chip.Statement.{statement}
 use Rattle.buffer.proofs.changing.link_on_chip.Tie as tie
-use Rattle.links.specs.Offsets.{lineLong, linesAt}
+use Rattle.links.specs.Offsets.{linkLong, linksAt}
 
 mul-at : tie.Need-mul-at
 mul-at c = search needs
@@ -38,7 +38,7 @@ same-length c = search needs
 returns : tie.Need-returns
 returns c =
     let a = c .before .before .before .before .before .args in
-    rw (add-sub-cancel-left (linesAt + a .link * lineLong) lineLong) (ap (λ (ys : List ℕ). putBack (linesAt + a .link * lineLong) lineLong ys (a .chip .now)) (rw (add-sub-cancel-left (linesAt + a .link * lineLong) lineLong) at (c .before .before .set-state .ensures)))
+    rw (add-sub-cancel-left (linksAt + a .link * linkLong) linkLong) (ap (λ (ys : List ℕ). putBack (linksAt + a .link * linkLong) linkLong ys (a .chip .now)) (rw (add-sub-cancel-left (linksAt + a .link * linkLong) linkLong) at (c .before .before .set-state .ensures)))
 
 pub link-on-chip-spec : {M : Type 1} → statement M
 link-on-chip-spec =

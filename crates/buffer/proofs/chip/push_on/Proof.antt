@@ -9,7 +9,7 @@ use lib.Seq.{length-take-le}
 use Rattle.lists.specs.Lists.{putBack}
 use Rattle.buffer.proofs.chip.push_on.Statement.{statement}
 use Rattle.buffer.proofs.chip.push_on.Tie as tie
-use Rattle.links.specs.Offsets.{lineLong, linesAt}
+use Rattle.links.specs.Offsets.{linkLong, linksAt}
 
 mul-at : tie.Need-mul-at
 mul-at c = search needs
@@ -36,8 +36,8 @@ push-requires : tie.Need-push-requires
 push-requires c κs =
     let i = c .before .before .args .i in
     let l = c .before .before .args .chip .now in
-    rw (add-sub-cancel-left (linesAt + i * lineLong) lineLong)
-    (length-take-le lineLong (drop (linesAt + i * lineLong) l) (simp length-drop (omega arith)), c .before .before .pre .1 .1)
+    rw (add-sub-cancel-left (linksAt + i * linkLong) linkLong)
+    (length-take-le linkLong (drop (linksAt + i * linkLong) l) (simp length-drop (omega arith)), c .before .before .pre .1 .1)
 
 same-length : tie.Need-same-length
 same-length c = search needs
@@ -45,7 +45,7 @@ same-length c = search needs
 returns : tie.Need-returns
 returns c =
     let i = c .before .before .before .before .before .args .i in
-    rw (add-sub-cancel-left (linesAt + i * lineLong) lineLong) (ap (λ (ys : List ℕ). putBack (linesAt + i * lineLong) lineLong ys (c .before .before .before .before .before .args .chip .now)) (rw (add-sub-cancel-left (linesAt + i * lineLong) lineLong) at (c .before .before .push .ensures)))
+    rw (add-sub-cancel-left (linksAt + i * linkLong) linkLong) (ap (λ (ys : List ℕ). putBack (linksAt + i * linkLong) linkLong ys (c .before .before .before .before .before .args .chip .now)) (rw (add-sub-cancel-left (linksAt + i * linkLong) linkLong) at (c .before .before .push .ensures)))
 
 pub push-on-spec : {M : Type 1} → statement M
 push-on-spec =

@@ -17,80 +17,80 @@ registers-at-requires c κs = search needs
 registers-fine-requires : tie.Need-registers-fine-requires
 registers-fine-requires c κs = search needs
 
-sub-line-fine : tie.Need-sub-line-fine
-sub-line-fine c = search needs
+sub-link-fine : tie.Need-sub-link-fine
+sub-link-fine c = search needs
 
-part-line-fine-start : tie.Need-part-line-fine-start
-part-line-fine-start c = search needs
+part-link-fine-start : tie.Need-part-link-fine-start
+part-link-fine-start c = search needs
 
-part-line-fine-end : tie.Need-part-line-fine-end
-part-line-fine-end c = search needs
+part-link-fine-end : tie.Need-part-link-fine-end
+part-link-fine-end c = search needs
 
-line-fine-requires : tie.Need-line-fine-requires
-line-fine-requires c κs = search needs
+link-fine-requires : tie.Need-link-fine-requires
+link-fine-requires c κs = search needs
 
-sub-line-fine-2 : tie.Need-sub-line-fine-2
-sub-line-fine-2 c = search needs
+sub-link-fine-2 : tie.Need-sub-link-fine-2
+sub-link-fine-2 c = search needs
 
-part-line-fine-start-2 : tie.Need-part-line-fine-start-2
-part-line-fine-start-2 c = search needs
+part-link-fine-start-2 : tie.Need-part-link-fine-start-2
+part-link-fine-start-2 c = search needs
 
-part-line-fine-end-2 : tie.Need-part-line-fine-end-2
-part-line-fine-end-2 c = search needs
+part-link-fine-end-2 : tie.Need-part-link-fine-end-2
+part-link-fine-end-2 c = search needs
 
-line-fine-requires-2 : tie.Need-line-fine-requires-2
-line-fine-requires-2 c κs = search needs
+link-fine-requires-2 : tie.Need-link-fine-requires-2
+link-fine-requires-2 c κs = search needs
 
-sub-line-fine-3 : tie.Need-sub-line-fine-3
-sub-line-fine-3 c = search needs
+sub-link-fine-3 : tie.Need-sub-link-fine-3
+sub-link-fine-3 c = search needs
 
-part-line-fine-start-3 : tie.Need-part-line-fine-start-3
-part-line-fine-start-3 c = search needs
+part-link-fine-start-3 : tie.Need-part-link-fine-start-3
+part-link-fine-start-3 c = search needs
 
-part-line-fine-end-3 : tie.Need-part-line-fine-end-3
-part-line-fine-end-3 c = search needs
+part-link-fine-end-3 : tie.Need-part-link-fine-end-3
+part-link-fine-end-3 c = search needs
 
-line-fine-requires-3 : tie.Need-line-fine-requires-3
-line-fine-requires-3 c κs = search needs
+link-fine-requires-3 : tie.Need-link-fine-requires-3
+link-fine-requires-3 c κs = search needs
 
-sub-line-fine-4 : tie.Need-sub-line-fine-4
-sub-line-fine-4 c = search needs
+sub-link-fine-4 : tie.Need-sub-link-fine-4
+sub-link-fine-4 c = search needs
 
-part-line-fine-start-4 : tie.Need-part-line-fine-start-4
-part-line-fine-start-4 c = search needs
+part-link-fine-start-4 : tie.Need-part-link-fine-start-4
+part-link-fine-start-4 c = search needs
 
-part-line-fine-end-4 : tie.Need-part-line-fine-end-4
-part-line-fine-end-4 c = search needs
+part-link-fine-end-4 : tie.Need-part-link-fine-end-4
+part-link-fine-end-4 c = search needs
 
-line-fine-requires-4 : tie.Need-line-fine-requires-4
-line-fine-requires-4 c κs = search needs
+link-fine-requires-4 : tie.Need-link-fine-requires-4
+link-fine-requires-4 c κs = search needs
 
-sub-line-fine-5 : tie.Need-sub-line-fine-5
-sub-line-fine-5 c = search needs
+sub-link-fine-5 : tie.Need-sub-link-fine-5
+sub-link-fine-5 c = search needs
 
-part-line-fine-start-5 : tie.Need-part-line-fine-start-5
-part-line-fine-start-5 c = search needs
+part-link-fine-start-5 : tie.Need-part-link-fine-start-5
+part-link-fine-start-5 c = search needs
 
-part-line-fine-end-5 : tie.Need-part-line-fine-end-5
-part-line-fine-end-5 c = search needs
+part-link-fine-end-5 : tie.Need-part-link-fine-end-5
+part-link-fine-end-5 c = search needs
 
-line-fine-requires-5 : tie.Need-line-fine-requires-5
-line-fine-requires-5 c κs = search needs
+link-fine-requires-5 : tie.Need-link-fine-requires-5
+link-fine-requires-5 c κs = search needs
 
-sub-line-fine-6 : tie.Need-sub-line-fine-6
-sub-line-fine-6 c = search needs
+sub-link-fine-6 : tie.Need-sub-link-fine-6
+sub-link-fine-6 c = search needs
 
-part-line-fine-start-6 : tie.Need-part-line-fine-start-6
-part-line-fine-start-6 c = search needs
+part-link-fine-start-6 : tie.Need-part-link-fine-start-6
+part-link-fine-start-6 c = search needs
 
-part-line-fine-end-6 : tie.Need-part-line-fine-end-6
-part-line-fine-end-6 c = search needs
+part-link-fine-end-6 : tie.Need-part-link-fine-end-6
+part-link-fine-end-6 c = search needs
 
-line-fine-requires-6 : tie.Need-line-fine-requires-6
-line-fine-requires-6 c κs = search needs
+link-fine-requires-6 : tie.Need-link-fine-requires-6
+link-fine-requires-6 c κs = search needs
 
 returns : tie.Need-returns
-returns c = simp (c .before .before .before .before .before .before .before .before .before .before .before .before .registers-fine .ensures, c .before .before .before .before .before .before .before .before .before .before .before .before .before .registers-at .ensures, c .before .before .before .before .before .before .before .before .before .before .line-fine .ensures, c .before .before .before .before .before .before .before .before .line-fine2 .ensures, c .before .before .before .before .before .before .line-fine3 .ensures, c .before .before .before .before .line-fine4 .ensures, c .before .before .line-fine5 .ensures, c .line-fine6 .ensures)
+returns c = simp (c .before .before .before .before .before .before .before .before .before .before .before .before .registers-fine .ensures, c .before .before .before .before .before .before .before .before .before .before .before .before .before .registers-at .ensures, c .before .before .before .before .before .before .before .before .before .before .link-fine .ensures, c .before .before .before .before .before .before .before .before .link-fine2 .ensures, c .before .before .before .before .before .before .link-fine3 .ensures, c .before .before .before .before .link-fine4 .ensures, c .before .before .link-fine5 .ensures, c .link-fine6 .ensures)
 
 pub chip-fine-spec : {M : Type 1} → statement M
 chip-fine-spec =
@@ -101,28 +101,28 @@ chip-fine-spec =
     part-registers-at-end
     registers-at-requires
     registers-fine-requires
-    sub-line-fine
-    part-line-fine-start
-    part-line-fine-end
-    line-fine-requires
-    sub-line-fine-2
-    part-line-fine-start-2
-    part-line-fine-end-2
-    line-fine-requires-2
-    sub-line-fine-3
-    part-line-fine-start-3
-    part-line-fine-end-3
-    line-fine-requires-3
-    sub-line-fine-4
-    part-line-fine-start-4
-    part-line-fine-end-4
-    line-fine-requires-4
-    sub-line-fine-5
-    part-line-fine-start-5
-    part-line-fine-end-5
-    line-fine-requires-5
-    sub-line-fine-6
-    part-line-fine-start-6
-    part-line-fine-end-6
-    line-fine-requires-6
+    sub-link-fine
+    part-link-fine-start
+    part-link-fine-end
+    link-fine-requires
+    sub-link-fine-2
+    part-link-fine-start-2
+    part-link-fine-end-2
+    link-fine-requires-2
+    sub-link-fine-3
+    part-link-fine-start-3
+    part-link-fine-end-3
+    link-fine-requires-3
+    sub-link-fine-4
+    part-link-fine-start-4
+    part-link-fine-end-4
+    link-fine-requires-4
+    sub-link-fine-5
+    part-link-fine-start-5
+    part-link-fine-end-5
+    link-fine-requires-5
+    sub-link-fine-6
+    part-link-fine-start-6
+    part-link-fine-end-6
+    link-fine-requires-6
     returns)

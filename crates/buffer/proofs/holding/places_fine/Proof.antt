@@ -15,13 +15,13 @@ use Rattle.buffer.proofs.holding.places_fine.Statement.{statement}
 use Rattle.buffer.proofs.holding.places_fine.Tie as tie
 
 abbrev Inv-loop : tie.InvT-loop
-Inv-loop line count i₀ i = (i ≤ count) × (placesFine count (drop 2 line) ≡ placesFine (count - i) (drop (placesAt + i * placeLong) line))
+Inv-loop words count i₀ i = (i ≤ count) × (placesFine count (drop 2 words) ≡ placesFine (count - i) (drop (placesAt + i * placeLong) words))
 
 abbrev μ-loop : tie.MeasureT-loop
-μ-loop line count i₀ i = count - i
+μ-loop words count i₀ i = count - i
 
 loop-holds : tie.Need-loop-holds Inv-loop μ-loop
-loop-holds c = (omega arith, ap (λ (k : ℕ). placesFine k (drop 2 (c .before .args .line .now))) (sym (sub-zero (c .before .args .count))))
+loop-holds c = (omega arith, ap (λ (k : ℕ). placesFine k (drop 2 (c .before .args .words .now))) (sym (sub-zero (c .before .args .count))))
 
 mul-packet-at : tie.Need-mul-packet-at Inv-loop μ-loop
 mul-packet-at c = omega arith
@@ -38,7 +38,7 @@ packet-fine-requires c κs = search needs
 returns : tie.Need-returns Inv-loop μ-loop
 returns c =
     let at = c .before .before .before .before .loop in
-    let l = c .before .before .before .before .before .before .args .line .now in
+    let l = c .before .before .before .before .before .before .args .words .now in
     let n = c .before .before .before .before .before .before .args .count in
     let bad : packetFine (packetIn (drop (placesAt + at .i * placeLong) l)) ≡ false = sym (c .before .packet-fine .ensures ∙ ap packetFine (c .before .before .packet-at .ensures)) ∙ not-true _ (c .if1 .taken) in
     sym (at .inv .1 ∙ places-step n (at .i) l (c .before .before .before .loop-test .taken) ∙ simp bad)
@@ -52,7 +52,7 @@ loop-less c = omega arith
 loop-again : tie.Need-loop-again Inv-loop μ-loop
 loop-again c =
     let at = c .before .before .before .before .loop in
-    let l = c .before .before .before .before .before .before .args .line .now in
+    let l = c .before .before .before .before .before .before .args .words .now in
     let n = c .before .before .before .before .before .before .args .count in
     let good : packetFine (packetIn (drop (placesAt + at .i * placeLong) l)) ≡ true = sym (c .before .packet-fine .ensures ∙ ap packetFine (c .before .before .packet-at .ensures)) ∙ not-false _ (c .if1 .left) in
     (omega arith, at .inv .1 ∙ places-step n (at .i) l (c .before .before .before .loop-test .taken) ∙ simp good)

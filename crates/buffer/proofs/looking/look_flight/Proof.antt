@@ -7,7 +7,7 @@ use Rattle.buffer.proofs.Looks.{number-there}
 use Rattle.buffer.proofs.LooksAtFlights.{flight-refused, few-there, flight-found}
 use Rattle.buffer.proofs.looking.look_flight.Statement.{statement}
 use Rattle.buffer.proofs.looking.look_flight.Tie as tie
-use Rattle.links.specs.Offsets.{headerLong, lineLong, linesAt, chipLong}
+use Rattle.links.specs.Offsets.{headerLong, linkLong, linksAt, chipLong}
 
 holds-requires : tie.Need-holds-requires
 holds-requires c κs = search needs
@@ -57,14 +57,14 @@ part-look-place-end c =
 look-place-requires : tie.Need-look-place-requires
 look-place-requires c κs =
     let s = c .before .before .before .before .before in
-    let at = headerLong + s .args .chip * chipLong + (linesAt + s .args .link * lineLong) in
-    (search needs, rw (add-sub-cancel-left at lineLong) (few-there (s .args .mesh .now) (s .args .chip) (s .args .link) (s .args .place) _ (c .before .before .number-refusal .ensures) (c .before .if1 .left)))
+    let at = headerLong + s .args .chip * chipLong + (linksAt + s .args .link * linkLong) in
+    (search needs, rw (add-sub-cancel-left at linkLong) (few-there (s .args .mesh .now) (s .args .chip) (s .args .link) (s .args .place) _ (c .before .before .number-refusal .ensures) (c .before .if1 .left)))
 
 returns-2 : tie.Need-returns-2
 returns-2 c =
     let s = c .before .before .before .before .before .before in
-    let at = headerLong + s .args .chip * chipLong + (linesAt + s .args .link * lineLong) in
-    rw (add-sub-cancel-left at lineLong) at (c .look-place .ensures) ∙ flight-found (s .args .mesh .now) (s .args .chip) (s .args .link) (s .args .place) _ (c .before .before .before .number-refusal .ensures) (c .before .before .if1 .left)
+    let at = headerLong + s .args .chip * chipLong + (linksAt + s .args .link * linkLong) in
+    rw (add-sub-cancel-left at linkLong) at (c .look-place .ensures) ∙ flight-found (s .args .mesh .now) (s .args .chip) (s .args .link) (s .args .place) _ (c .before .before .before .number-refusal .ensures) (c .before .before .if1 .left)
 
 pub look-flight-spec : {M : Type 1} → statement M
 look-flight-spec =

@@ -11,7 +11,7 @@ no-flight-requires : tie.Need-no-flight-requires
 no-flight-requires c κs = search needs
 
 returns : tie.Need-returns
-returns c = c .no-flight .ensures ∙ place-empty (c .before .before .before .before .args .line .now) (c .before .before .before .before .args .place) (c .before .if1 .taken)
+returns c = c .no-flight .ensures ∙ place-empty (c .before .before .before .before .args .words .now) (c .before .before .before .before .args .place) (c .before .if1 .taken)
 
 mul-packet-at : tie.Need-mul-packet-at
 mul-packet-at c = search needs
@@ -23,7 +23,7 @@ packet-at-requires : tie.Need-packet-at-requires
 packet-at-requires c κs = search needs
 
 returns-2 : tie.Need-returns-2
-returns-2 c = rw (c .packet-at .ensures) (place-found (c .before .before .before .before .args .line .now) (c .before .before .before .before .args .place) (c .before .if1 .left))
+returns-2 c = rw (c .packet-at .ensures) (place-found (c .before .before .before .before .args .words .now) (c .before .before .before .before .args .place) (c .before .if1 .left))
 
 pub look-place-spec : {M : Type 1} → statement M
 look-place-spec =

@@ -12,7 +12,7 @@ use Rattle.steps.specs.Deciding.{Checked, outcomeOf}
 use Rattle.buffer.proofs.passing.pass_at.Statement.{statement}
 use Rattle.buffer.proofs.passing.pass_at.Tie as tie
 use Rattle.links.specs.Offsets.{widthAt, heightAt, monitorAt, phaseAt, headerLong, chipLong}
-use Rattle.links.specs.Line.{readyLinks}
+use Rattle.links.specs.Link.{readyLinks}
 use Rattle.tables.specs.Tables.{chipTables}
 
 mul-at : tie.Need-mul-at
@@ -57,7 +57,7 @@ outcome-of-requires c κs =
     let r = c .before .before .before .before .before .before .before .before .before .before .pre in
     let l = a .mesh .now in
     let at = headerLong + a .chip * chipLong in
-    let set : c .before .before .before .before .ready-of .result ≡ readyLinks (chipIn (chipWords (a .chip) l) .lines) = rw (add-sub-cancel-left at chipLong) at (c .before .before .before .before .ready-of .ensures) in
+    let set : c .before .before .before .before .ready-of .result ≡ readyLinks (chipIn (chipWords (a .chip) l) .links) = rw (add-sub-cancel-left at chipLong) at (c .before .before .before .before .ready-of .ensures) in
     let fine : Checked (a .p) (a .source) (chipTables (a .rows .now) (a .codes .now) (a .fixed)) (settingIn l (a .chip)) = checked-at l (a .chip) (a .source) (a .p) (chipTables (a .rows .now) (a .codes .now) (a .fixed)) r (source-near (a .source) (r .from)) in
     rw set fine
 
@@ -82,7 +82,7 @@ after-requires c κs =
     let r = c .before .before .before .before .before .before .before .before .before .before .before .before .pre in
     let l = a .mesh .now in
     let at = headerLong + a .chip * chipLong in
-    let set : c .before .before .before .before .before .before .ready-of .result ≡ readyLinks (chipIn (chipWords (a .chip) l) .lines) = rw (add-sub-cancel-left at chipLong) at (c .before .before .before .before .before .before .ready-of .ensures) in
+    let set : c .before .before .before .before .before .before .ready-of .result ≡ readyLinks (chipIn (chipWords (a .chip) l) .links) = rw (add-sub-cancel-left at chipLong) at (c .before .before .before .before .before .before .ready-of .ensures) in
     let fine : Checked (a .p) (a .source) (chipTables (a .rows .now) (a .codes .now) (a .fixed)) (settingIn l (a .chip)) = checked-at l (a .chip) (a .source) (a .p) (chipTables (a .rows .now) (a .codes .now) (a .fixed)) r (source-near (a .source) (r .from)) in
     let same : c .before .outcome-of .result ≡ outcomeOf (a .p) (a .source) (chipTables (a .rows .now) (a .codes .now) (a .fixed)) (settingIn l (a .chip)) =
     c .before .outcome-of .ensures ∙ ap (λ (n : ℕ). outcomeOf (a .p) (a .source) (chipTables (a .rows .now) (a .codes .now) (a .fixed)) (record { width = getD l widthAt 0; height = getD l heightAt 0; monitor = getD l monitorAt 0; phase = getD l phaseAt 0; ready = n })) set in
@@ -97,7 +97,7 @@ returns c =
     let r = c .before .before .before .before .before .before .before .before .before .before .before .before .before .before .before .pre in
     let l = a .mesh .now in
     let at = headerLong + a .chip * chipLong in
-    let set : c .before .before .before .before .before .before .before .before .before .ready-of .result ≡ readyLinks (chipIn (chipWords (a .chip) l) .lines) = rw (add-sub-cancel-left at chipLong) at (c .before .before .before .before .before .before .before .before .before .ready-of .ensures) in
+    let set : c .before .before .before .before .before .before .before .before .before .ready-of .result ≡ readyLinks (chipIn (chipWords (a .chip) l) .links) = rw (add-sub-cancel-left at chipLong) at (c .before .before .before .before .before .before .before .before .before .ready-of .ensures) in
     let fine : Checked (a .p) (a .source) (chipTables (a .rows .now) (a .codes .now) (a .fixed)) (settingIn l (a .chip)) = checked-at l (a .chip) (a .source) (a .p) (chipTables (a .rows .now) (a .codes .now) (a .fixed)) r (source-near (a .source) (r .from)) in
     let same : c .before .before .before .before .outcome-of .result ≡ outcomeOf (a .p) (a .source) (chipTables (a .rows .now) (a .codes .now) (a .fixed)) (settingIn l (a .chip)) =
     c .before .before .before .before .outcome-of .ensures ∙ ap (λ (n : ℕ). outcomeOf (a .p) (a .source) (chipTables (a .rows .now) (a .codes .now) (a .fixed)) (record { width = getD l widthAt 0; height = getD l heightAt 0; monitor = getD l monitorAt 0; phase = getD l phaseAt 0; ready = n })) set in

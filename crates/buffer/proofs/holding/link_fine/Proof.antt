@@ -1,8 +1,8 @@
 use borrow.Author.Needs.{needs}
 use mathlib.Core.Path.{_∙_}
 use borrow.Author.Tests.{le-leb, lt-leb}
-use Rattle.buffer.proofs.holding.line_fine.Statement.{statement}
-use Rattle.buffer.proofs.holding.line_fine.Tie as tie
+use Rattle.buffer.proofs.holding.link_fine.Statement.{statement}
+use Rattle.buffer.proofs.holding.link_fine.Tie as tie
 
 shared-slice-read-if1 : tie.Need-shared-slice-read-if1
 shared-slice-read-if1 c = search needs
@@ -28,8 +28,8 @@ places-fine-requires c κs = search needs
 returns-3 : tie.Need-returns-3
 returns-3 c = c .places-fine .ensures ∙ simp (le-leb _ _ (c .before .before .before .before .if1 .left), le-leb _ _ (c .before .before .if2 .left))
 
-pub line-fine-spec : {M : Type 1} → statement M
-line-fine-spec =
+pub link-fine-spec : {M : Type 1} → statement M
+link-fine-spec =
     tie.close
     (tie.spec
     shared-slice-read-if1

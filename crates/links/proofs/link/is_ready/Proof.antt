@@ -1,7 +1,7 @@
 use borrow.Author.Needs.{needs}
 use Rattle.links.proofs.Places.{length-places}
-use Rattle.links.proofs.line.is_ready.Statement.{statement}
-use Rattle.links.proofs.line.is_ready.Tie as tie
+use Rattle.links.proofs.link.is_ready.Statement.{statement}
+use Rattle.links.proofs.link.is_ready.Tie as tie
 
 shared-slice-read-result : tie.Need-shared-slice-read-result
 shared-slice-read-result c = search needs

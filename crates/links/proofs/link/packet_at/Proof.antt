@@ -1,8 +1,8 @@
 use borrow.Author.Needs.{needs}
 use mathlib.Core.Path.{sym}
 use Rattle.links.proofs.Places.{packet-at}
-use Rattle.links.proofs.line.packet_at.Statement.{statement}
-use Rattle.links.proofs.line.packet_at.Tie as tie
+use Rattle.links.proofs.link.packet_at.Statement.{statement}
+use Rattle.links.proofs.link.packet_at.Tie as tie
 
 mul-control : tie.Need-mul-control
 mul-control c = search needs
@@ -32,7 +32,7 @@ shared-slice-read-t13 : tie.Need-shared-slice-read-t13
 shared-slice-read-t13 c = search needs
 
 returns : tie.Need-returns
-returns c = let a = c .before .before .before .before .before .args in simp (c .before .before .carries-of .ensures) (sym (packet-at (a .line .now) (a .at)))
+returns c = let a = c .before .before .before .before .before .args in simp (c .before .before .carries-of .ensures) (sym (packet-at (a .words .now) (a .at)))
 
 pub packet-at-spec : {M : Type 1} → statement M
 packet-at-spec =

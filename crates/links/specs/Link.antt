@@ -21,25 +21,25 @@ pub record Flight (A : Type 0) : Type 0 where
   pub tag : A
 
 -- "Every directed link holds at most 8 packets", oldest first.
-pub record Line (A : Type 0) : Type 0 where
+pub record Link (A : Type 0) : Type 0 where
   pub up : Bool
   pub held : List (Flight A)
 
 module _ {A : Type 0} where
-  abbrev pub idle : Line A
+  abbrev pub idle : Link A
   idle = record { up = true; held = [] }
 
   -- "A link is ready when it is up and holds at most 6 outgoing, not counting those that the running round has set aside".
-  abbrev pub isReady : Line A → Bool
+  abbrev pub isReady : Link A → Bool
   isReady l = l .up && leb (length (l .held)) 6
 
   -- The ready ones of a chip's six links, as a set.
-  abbrev pub readyLinks : List (Line A) → ℕ
+  abbrev pub readyLinks : List (Link A) → ℕ
   readyLinks ls = setOf (λ i. isReady (getD ls i idle))
 
   -- What a link holds after a pass: "the one from step 5 goes first", then the second leg. A sending turns the tag.
   abbrev pub sent : Bool → Packet → A → List (Flight A)
   sent b p tag = cond b (record { packet = p; tag = tag } ∷ []) []
 
-  abbrev pub lineAfter : Outcome → A → ℕ → Line A → Line A
-  lineAfter o tag i l = record { up = l .up; held = l .held ++ sent (has (o .sent) i) (packetOn o i) tag ++ sent (has (o .«leg_sent») i) (legPacket o) tag }
+  abbrev pub linkAfter : Outcome → A → ℕ → Link A → Link A
+  linkAfter o tag i l = record { up = l .up; held = l .held ++ sent (has (o .sent) i) (packetOn o i) tag ++ sent (has (o .«leg_sent») i) (legPacket o) tag }
