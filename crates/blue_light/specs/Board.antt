@@ -2,8 +2,8 @@
 use Prim.Native.Nat.{ℕ, zero, suc, _+_, _%_, _^_}
 use mathlib.Core.List.{List, [], _∷_}
 use lib.ListN.{replicate}
-use Rattle.mesh.specs.Steps.{Tables, tablesOf}
-use Rattle.mesh.specs.Calls.{countRead}
+use Rattle.mesh.specs.Lending.{Tables, tablesOf}
+use Rattle.mesh.specs.Looks.{countRead}
 use Rattle.buffer.specs.Layout.{meshOf}
 use Rattle.buffer.specs.Holding.{holdsMesh}
 use Rattle.buffer.specs.Opening.{openedWords}

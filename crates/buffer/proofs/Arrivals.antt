@@ -21,11 +21,11 @@ use Rattle.buffer.specs.PassesInTurn.{arrival, asideFor, asideBy, asideF
 use Rattle.lists.specs.Lists.{All, upTo}
 use Rattle.lists.proofs.Alls.{all-any, all-append, all-left, all-map, all-nil, all-right}
 use Rattle.links.proofs.Places.{length-places}
-use Rattle.mesh.proofs.SoundArrivals.{across-there, opposite-there}
+use Rattle.links.proofs.Crossing.{across-there, opposite-there}
 use Rattle.buffer.proofs.LinkWords.{word-at, packet-there, places-at}
 use Rattle.lists.proofs.UpTo.{upto-same, one-by-one, rest, upto-split}
 use Rattle.buffer.proofs.Headers.{Head, head-range, head-same}
-use Rattle.buffer.proofs.Goings.{passed-none, passed-append, due-next}
+use Rattle.buffer.proofs.LoggedPasses.{passed-none, passed-append, due-next}
 
 -- ---- passes leave it alone
 

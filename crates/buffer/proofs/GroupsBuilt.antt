@@ -23,9 +23,10 @@ use Rattle.lists.proofs.UpTo.{upto-same}
 use Rattle.links.specs.Offsets.{widthAt, heightAt, placeLong, depth}
 use Rattle.links.specs.Words.{asidePlace, packetIn}
 use Rattle.buffer.proofs.Headers.{Head, head-range}
-use Rattle.buffer.proofs.Goings.{Cuts}
+use Rattle.buffer.proofs.LoggedPasses.{Cuts}
 use Rattle.buffer.proofs.Arrivals.{one, aside-read, count-at, count-few, places-there}
-use Rattle.mesh.specs.Steps.{Tables, tablesOf, rowsAt, Arrival}
+use Rattle.mesh.specs.Lending.{Tables, tablesOf, rowsAt}
+use Rattle.mesh.specs.Steps.{Arrival}
 use Rattle.mesh.specs.Room.{keysOf, roomAt, roomUpto}
 use Rattle.buffer.specs.PassesInTurn.{arrival, asideBy, DueAside}
 use Rattle.buffer.specs.Grouping.{AsideThere, RoomFits}

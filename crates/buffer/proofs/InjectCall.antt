@@ -11,12 +11,13 @@ use Rattle.packet.specs.declared.Taken.{Taken}
 use Rattle.packet.specs.Bytes.{packetAt, takenOf}
 use Rattle.packet.specs.Refusal.{firstOf}
 use Rattle.buffer.specs.Layout.{meshOf, wordsFor, chipsOf, wordsOf}
-use Rattle.mesh.specs.Steps.{Tables, Going, injected, passAt, same}
+use Rattle.mesh.specs.Lending.{Tables}
+use Rattle.mesh.specs.Steps.{Going, injected, passAt, same}
 use Rattle.buffer.specs.Holding.{holdsMesh, StatesFine}
 use Rattle.lists.specs.Lists.{All}
 use Rattle.mesh.specs.Sound.{SoundMesh}
 use Rattle.buffer.specs.PassesInTurn.{arrival, Due, Passed}
-use Rattle.mesh.specs.Calls.{Lent, injectRefusals, placeIn}
+use Rattle.mesh.specs.Refusals.{Lent, injectRefusals, placeIn}
 use Rattle.mesh.specs.declared.Added.{Added}
 use Rattle.buffer.specs.Leaving.{Moves, injectLeft}
 use Rattle.buffer.proofs.HoldsMesh.{holds-head, words-enough}

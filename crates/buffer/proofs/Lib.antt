@@ -5,7 +5,6 @@ pub mod Asides
 pub mod ChipParts
 pub mod FineSteps
 pub mod Flights
-pub mod Goings
 pub mod GroupsBuilt
 pub mod Headers
 pub mod HoldsMesh
@@ -13,6 +12,7 @@ pub mod InjectCall
 pub mod Leaving
 pub mod LinkWords
 pub mod LinksChanged
+pub mod LoggedPasses
 pub mod Logs
 pub mod Looks
 pub mod LooksAtFlights

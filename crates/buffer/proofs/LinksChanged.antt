@@ -107,8 +107,8 @@ module _ (l ws cs : List ℕ) (o : Outcome) (h : length l ≡ chipLong) (lw : le
         long = after-long;
         sent = t .sent;
         dropped = t .dropped;
-        legSent = t .legSent;
-        lost = t .lost;
+        leg-sent = t .leg-sent;
+        leg-dropped = t .leg-dropped;
         room = λ i hi. subst (λ (w : List ℕ). Room w o i) (sym (untouched i)) (t .room i hi);
         right = t .right;
         leg = t .leg;

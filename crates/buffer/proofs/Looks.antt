@@ -20,7 +20,9 @@ use Rattle.buffer.specs.Layout.{meshOf, chipsOf}
 use Rattle.buffer.specs.Holding.{holdsMesh}
 use Rattle.buffer.specs.ChipWords.{linkWords}
 use Rattle.buffer.specs.Passing.{chipWords}
-use Rattle.mesh.specs.Calls.{numberRefusals, chipRefusals, linkOf, countRead, meshRead, linkShown, linkRead}
+use Rattle.mesh.specs.Refusals.{numberRefusals, chipRefusals}
+use Rattle.mesh.specs.Calls.{linkOf}
+use Rattle.mesh.specs.Looks.{countRead, meshRead, linkShown, linkRead}
 use Rattle.lists.proofs.Parts.{take-drop}
 use Rattle.buffer.proofs.ChipParts.{link-at}
 use Rattle.buffer.proofs.MeshParts.{mesh-chip}

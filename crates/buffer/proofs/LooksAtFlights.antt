@@ -16,7 +16,9 @@ use Rattle.links.specs.Words.{packetIn, linkIn}
 use Rattle.links.proofs.Places.{length-places}
 use Rattle.buffer.specs.Layout.{meshOf, chipsOf}
 use Rattle.buffer.specs.Holding.{holdsMesh}
-use Rattle.mesh.specs.Calls.{numberRefusals, linkOf, noFlight, placeRead, flightRead}
+use Rattle.mesh.specs.Refusals.{numberRefusals}
+use Rattle.mesh.specs.Calls.{linkOf}
+use Rattle.mesh.specs.Looks.{noFlight, placeRead, flightRead}
 use Rattle.buffer.proofs.HoldsMesh.{held-few}
 use Rattle.buffer.proofs.LinkWords.{places-at}
 use Rattle.buffer.proofs.Looks.{number-there, link-part, link-of}

@@ -20,7 +20,8 @@ use Rattle.lists.specs.Lists.{putBack}
 use Rattle.buffer.specs.ChipWords.{changedOn, linkWords}
 use Rattle.buffer.specs.Passing.{chipWords}
 use Rattle.mesh.specs.Sound.{SoundMesh}
-use Rattle.mesh.specs.Calls.{numberRefusals, unless, linkOf, withUp, withLink}
+use Rattle.mesh.specs.Refusals.{numberRefusals}
+use Rattle.mesh.specs.Calls.{unless, linkOf, withUp, withLink}
 use Rattle.buffer.specs.Leaving.{Leaves, linkLeft, stateOn}
 use Rattle.lists.proofs.Parts.{length-back, part-same, part-before, part-behind, take-before, drop-behind}
 use Rattle.buffer.proofs.ChipParts.{order, words-other, words-same, chip-link}

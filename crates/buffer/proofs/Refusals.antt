@@ -12,12 +12,12 @@ use Rattle.packet.specs.Bytes.{rightLength, controlAt}
 use Rattle.packet.specs.Control.{isDirect}
 use Rattle.tables.specs.Accept.{startsRight, rowsFew}
 use Rattle.packet.proofs.First.{first-append}
-use Rattle.mesh.specs.Steps.{Tables}
+use Rattle.mesh.specs.Lending.{Tables}
 use Rattle.buffer.specs.declared.testing.Tested.{Tested}
 use Rattle.buffer.specs.Layout.{meshOf, chipsOf}
 use Rattle.mesh.specs.Weights.{inFlight}
 use Rattle.buffer.specs.Holding.{holdsMesh}
-use Rattle.mesh.specs.Calls.{tablesRefusals, placeIn, injectRefusals, roundRefusals, chipRefusals, numberRefusals}
+use Rattle.mesh.specs.Refusals.{tablesRefusals, placeIn, injectRefusals, roundRefusals, chipRefusals, numberRefusals}
 use Rattle.buffer.specs.Testing.{testedOf, injectNumber, roundNumber, placeTold, Sized}
 
 pub inject-first : (holds : Bool) (chips chip : ℕ) (t : Tables) (room : ℕ) (bytes : List ℕ) → firstOf (injectRefusals holds chips chip t room bytes)

@@ -19,7 +19,8 @@ use Rattle.mesh.specs.Steps.{withChip}
 use Rattle.buffer.specs.Holding.{holdsMesh}
 use Rattle.buffer.specs.ChipWords.{linkWords}
 use Rattle.buffer.specs.Passing.{chipWords}
-use Rattle.mesh.specs.Calls.{chipRefusals, chipOf, withEmpty, registersRead}
+use Rattle.mesh.specs.Refusals.{chipRefusals}
+use Rattle.mesh.specs.Calls.{chipOf, withEmpty, registersRead}
 use Rattle.buffer.specs.Leaving.{Leaves, registersLeft}
 use Rattle.lists.proofs.Parts.{length-back, part-same, part-behind}
 use Rattle.buffer.proofs.ChipParts.{registers-back}

@@ -11,7 +11,8 @@ use Rattle.tables.proofs.Sizes as sizes
 use lib.ListN.{length, getD, take, drop}
 use Rattle.mesh.specs.Mesh.{Chip, Mesh, fresh}
 use Rattle.buffer.specs.Layout.{meshOf, wordsFor, chipsOf, wordsOf}
-use Rattle.mesh.specs.Steps.{Tables, Going, setAside, arrivals, passAt, roundOver, rounded, same}
+use Rattle.mesh.specs.Lending.{Tables}
+use Rattle.mesh.specs.Steps.{Going, setAside, arrivals, passAt, roundOver, rounded, same}
 use Rattle.buffer.specs.Holding.{holdsMesh, StatesFine}
 use Rattle.buffer.specs.ChipWords.{linkWords}
 use Rattle.buffer.specs.Passing.{chipWords}
@@ -20,7 +21,7 @@ use Rattle.mesh.specs.Sound.{Arrives, SoundLink, SoundChip, SoundMesh}
 use Rattle.mesh.specs.Weights.{onLink, onChip, inFlight}
 use Rattle.buffer.specs.Aside.{AsideUpto}
 use Rattle.buffer.specs.PassesInTurn.{asideFrom, goingIn, DueAside, Passed}
-use Rattle.mesh.specs.Calls.{Lent, roundRefusals, placeIn}
+use Rattle.mesh.specs.Refusals.{Lent, roundRefusals, placeIn}
 use Rattle.mesh.specs.declared.Added.{Added}
 use Rattle.buffer.specs.Leaving.{Moves, roundLeft, roundRoom, overWords}
 use Rattle.groups.specs.Room.{longest}

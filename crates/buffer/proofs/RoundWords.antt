@@ -25,7 +25,7 @@ use Rattle.buffer.specs.Leaving.{overWords}
 use Rattle.buffer.proofs.ChipParts.{link-at}
 use Rattle.buffer.proofs.MeshParts.{mesh-chip}
 use Rattle.links.proofs.Places.{length-places}
-use Rattle.mesh.proofs.SoundArrivals.{across-there, opposite-there}
+use Rattle.links.proofs.Crossing.{across-there, opposite-there}
 use Rattle.buffer.proofs.Headers.{Head, head-same}
 use Rattle.lists.proofs.UpTo.{upto-same}
 

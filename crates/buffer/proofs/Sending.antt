@@ -96,7 +96,7 @@ module _ (l : List ℕ) (o : Outcome) (t : Takes l o) where
     pub legs-fit : PushFits (o .«leg_sent») k
     legs-fit = record {
       long = u .long;
-      small = t .legSent;
+      small = t .leg-sent;
       room = λ i hi h.
           subst (λ (w : List ℕ). getD w heldAt 0 ≤ 7) (sym (u .done i hi (none-among i hi)))
           (room-second (linkWords i l) o i (link-long i l hi (t .long)) (t .room i hi) h);

@@ -41,8 +41,8 @@ module _ (p : Packet) (s : ℕ) (tables : ChipTables) (t : Setting) (h : Checked
         long = long;
         sent = o .sent;
         dropped = o .dropped;
-        legSent = o .leg;
-        lost = o .lost;
+        leg-sent = o .leg-sent;
+        leg-dropped = o .leg-dropped;
         room = λ i hi. (λ sent. ready-room l i hi (by-ready i (sends-ready p s tables t h from i hi sent)), λ leg. ready-room l i hi (by-ready i (legs-ready p s tables t h from i hi leg)));
         right = λ i hi sent. sent-right p s tables t h from (sent-no-error p s tables t h from i hi sent) i;
         leg = λ i hi leg. leg-right p s tables t h from (leg-no-error p s tables t h from i hi leg);

@@ -28,8 +28,8 @@ pub record Takes (l : List ℕ) (o : Outcome) : Type 0 where
   pub long : length l ≡ chipLong
   pub sent : o .sent < 64
   pub dropped : o .dropped < 64
-  pub legSent : o .«leg_sent» < 64
-  pub lost : o .«leg_dropped» < 64
+  pub leg-sent : o .«leg_sent» < 64
+  pub leg-dropped : o .«leg_dropped» < 64
   pub room : (i : ℕ) → i < 6 → Room (linkWords i l) o i
   pub right : (i : ℕ) → i < 6 → has (o .sent) i ≡ true → Right (packetOn o i)
   pub leg : (i : ℕ) → i < 6 → has (o .«leg_sent») i ≡ true → Right (legPacket o)

@@ -10,12 +10,14 @@ use Rattle.buffer.specs.Holding.{holdsMesh}
 use Rattle.links.specs.Offsets.{roundsAt, phaseAt, elapsedAt, stateAt}
 use Rattle.links.specs.Phase.{nextPhase}
 use Rattle.links.specs.LinkWords.{stateOf}
-use Rattle.mesh.specs.Steps.{Tables, same}
+use Rattle.mesh.specs.Lending.{Tables}
+use Rattle.mesh.specs.Steps.{same}
 use Rattle.mesh.specs.declared.Added.{Added}
 use Rattle.packet.specs.Refusal.{firstOf}
 use Rattle.mesh.specs.Weights.{inFlight}
 use Rattle.mesh.specs.Room.{roomAfterRound}
-use Rattle.mesh.specs.Calls.{Left, addedOf, loggedOn, roundRefusals, injecting, rounding, linking, emptying}
+use Rattle.mesh.specs.Refusals.{roundRefusals}
+use Rattle.mesh.specs.Calls.{Left, addedOf, loggedOn, injecting, rounding, linking, emptying}
 
 -- A mesh buffer before and after a call that leaves r. "A refusal returns its number ..., and lent memory stays as it came." "Each buffer left by opening
 -- or by an accepted call holds one [a mesh]". Words past the needed length are never touched.

@@ -7,9 +7,9 @@ use lib.Dec.{eqb, ltb}
 use Rattle.tables.specs.Accept.{startsRight, rowsFew}
 use Rattle.packet.specs.Refusal.{firstOf, packetRefusals}
 use Rattle.buffer.specs.declared.testing.Tested.{Tested}
-use Rattle.mesh.specs.Steps.{Tables}
+use Rattle.mesh.specs.Lending.{Tables}
 use Rattle.buffer.specs.Holding.{holdsMesh}
-use Rattle.mesh.specs.Calls.{tablesRefusals, placeIn}
+use Rattle.mesh.specs.Refusals.{tablesRefusals, placeIn}
 use Rattle.buffer.specs.Layout.{chipsOf}
 
 -- Tables are held against the chips of a mesh, so that they are tested only where there is one: their number, and its place.

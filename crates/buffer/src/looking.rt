@@ -33,7 +33,7 @@ ghost use Rattle.links.specs.Offsets.{heldAt, linkLong};
 ghost use Rattle.links.specs.Words.{linkIn};
 ghost use Rattle.buffer.specs.Layout.{meshOf};
 ghost use Rattle.buffer.specs.Holding.{holdsMesh};
-ghost use Rattle.mesh.specs.Calls.{countRead, meshRead, linkShown, linkRead, noFlight, placeRead, flightRead};
+ghost use Rattle.mesh.specs.Looks.{countRead, meshRead, linkShown, linkRead, noFlight, placeRead, flightRead};
 
 // One of a chip's ten counters. Refusals, the first that applies: 8 no mesh, 9 chip or counter.
 pub fn read_counter(mesh: &[u32], chip: u32, counter: u32) -> CountRead

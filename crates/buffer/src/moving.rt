@@ -1,12 +1,12 @@
-// The two calls that move packets, injection and round: whether they are refused, and else their passes, one (`going`) or all of
-// a round (`arriving`).
-use super::arriving::pass_chips;
+// The two calls that move packets, injection and round: whether they are refused, and else their passes, one (`logged_pass`) or all of
+// a round (`round_passes`).
 use super::aside::set_aside;
-use super::going::pass_one;
-use super::going::row_place;
+use super::logged_pass::pass_one;
+use super::logged_pass::row_place;
 use super::refusing::inject_refusal;
 use super::refusing::place_told;
 use super::refusing::round_refusal;
+use super::round_passes::pass_chips;
 use super::testing::Tested;
 use super::testing::test;
 use links::offsets::ELAPSED;
@@ -23,8 +23,9 @@ ghost use mathlib.Core.Path.{_≡_};
 ghost use mathlib.Core.List.{[], _∷_};
 ghost use lib.ListN.{length, getD};
 ghost use Prim.Native.Nat.{_≤_};
-ghost use Rattle.mesh.specs.Steps.{tablesOf, passAt, same};
-ghost use Rattle.mesh.specs.Calls.{Lent};
+ghost use Rattle.mesh.specs.Lending.{tablesOf};
+ghost use Rattle.mesh.specs.Steps.{passAt, same};
+ghost use Rattle.mesh.specs.Refusals.{Lent};
 ghost use Rattle.buffer.specs.Layout.{chipsOf};
 ghost use Rattle.buffer.specs.PassesInTurn.{arrival, Due, Passed};
 ghost use Rattle.buffer.specs.Leaving.{Moves, injectLeft, roundLeft, roundRoom, overWords};

@@ -10,7 +10,7 @@ ghost use Rattle.packet.specs.Refusal.{firstOf};
 ghost use Rattle.buffer.specs.Layout.{meshOf, chipsOf};
 ghost use Rattle.buffer.specs.Holding.{holdsMesh};
 ghost use Rattle.mesh.specs.Weights.{inFlight};
-ghost use Rattle.mesh.specs.Calls.{chipRefusals, numberRefusals};
+ghost use Rattle.mesh.specs.Refusals.{chipRefusals, numberRefusals};
 ghost use Rattle.buffer.specs.Testing.{injectNumber, roundNumber, placeTold};
 
 // Injection: 8 no mesh, 9 chip, 15 starts, 16 too many rows, 17 route bits, 18 fixed routes, 11 codes, 29 room, 10 log, 2 length, 4 NN with T = 1.

@@ -18,9 +18,9 @@ ghost use mathlib.Core.List.{[]};
 ghost use lib.ListN.{length};
 ghost use Prim.Native.Nat.{_/_, _≤_};
 ghost use Rattle.packet.specs.Refusal.{firstOf};
-ghost use Rattle.mesh.specs.Steps.{tablesOf};
+ghost use Rattle.mesh.specs.Lending.{tablesOf};
 ghost use Rattle.tables.specs.Accept.{startsRight, rowsFew, startsFine, routesFine, fixedFine};
-ghost use Rattle.mesh.specs.Calls.{tablesRefusals, placeIn};
+ghost use Rattle.mesh.specs.Refusals.{tablesRefusals, placeIn};
 ghost use Rattle.buffer.specs.Testing.{testedOf, Sized};
 
 // Whether the buffer holds a mesh, and what the tables are refused for, or 0, with the place.

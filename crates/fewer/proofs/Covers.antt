@@ -1,17 +1,14 @@
 -- Rows that cover others: what a covered row matches its coverer matches, and covering goes on from row to row.
 use Prim.Native.Nat.{ℕ}
 use mathlib.Core.Path.{_≡_, refl, sym, ap, _∙_}
-use mathlib.Core.Bool.{Bool, true, false, _&&_, false≢true}
+use mathlib.Core.Bool.{Bool, true, false, _&&_}
 use lib.Bits.{bitAnd}
 use lib.Dec.{eqb}
 use borrow.Author.Tests.{eqb-true, eq-eqb}
+use Rattle.lists.proofs.Bools.{both}
 use Rattle.tables.specs.Rows.{Entry, matches}
 use Rattle.tables.proofs.Masked.{and-assoc, through}
 use Rattle.fewer.specs.Process.{covers}
-
-pub both : (a b : Bool) → (a && b) ≡ true → (a ≡ true) × (b ≡ true)
-both true b e = (refl, e)
-both false b e = absurd (false≢true e)
 
 and-both : {a b : Bool} → a ≡ true → b ≡ true → (a && b) ≡ true
 and-both {a} {b} e f = ap (λ (x : Bool). x && b) e ∙ f

@@ -7,10 +7,11 @@ use lib.Bits.{bitAnd, bitXor}
 use lib.Count.{ones}
 use lib.Dec.{eqb}
 use borrow.Author.Tests.{eqb-true, eqb-false, eq-eqb}
+use Rattle.lists.proofs.Bools.{both}
 use Rattle.tables.specs.Rows.{Entry, matches}
 use Rattle.fewer.specs.Process.{covers, matchesSome, pair, joined}
 use Rattle.fewer.proofs.BitByBit.{bit, differs, and-bit, xor-bit, same-bits, OneBit, single-bit}
-use Rattle.fewer.proofs.Covers.{both, covers-by, covered-matches}
+use Rattle.fewer.proofs.Covers.{covers-by, covered-matches}
 
 -- ---- at a bit: of the two keys a and b, their mask m, and a key x
 

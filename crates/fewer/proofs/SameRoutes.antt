@@ -26,41 +26,41 @@ module _ (key : ℕ) where
   abbrev matched : Entry → Bool
   matched r = matches key (r .key) (r .mask)
 
-  abbrev routeOf : List Numbered → Matched
-  routeOf rows = routeFor key (entries rows)
+  abbrev routeIn : List Numbered → Matched
+  routeIn rows = routeFor key (entries rows)
 
   further : (r : Entry) (rs : List Entry) (f : Found) → matchedOf (r ∷ rs) (next f) ≡ matchedOf rs f
   further r rs (At n) = refl
   further r rs Nothing = refl
 
   -- the first row decides where it matches, and the others where it does not
-  row-by-row : (r : Numbered) (rs : List Numbered) → routeOf (r ∷ rs) ≡ cond (matched (r .entry)) (Route (r .entry .route)) (routeOf rs)
+  row-by-row : (r : Numbered) (rs : List Numbered) → routeIn (r ∷ rs) ≡ cond (matched (r .entry)) (Route (r .entry .route)) (routeIn rs)
   unfolding entries firstMatch
   row-by-row r rs = go (matched (r .entry))
     where
-      go : (b : Bool) → matchedOf (entries (r ∷ rs)) (cond b (At 0) (next (firstMatch key (entries rs)))) ≡ cond b (Route (r .entry .route)) (routeOf rs)
+      go : (b : Bool) → matchedOf (entries (r ∷ rs)) (cond b (At 0) (next (firstMatch key (entries rs)))) ≡ cond b (Route (r .entry .route)) (routeIn rs)
       go true = refl
       go false = further (r .entry) (entries rs) (firstMatch key (entries rs))
 
   -- what comes below the same rows
-  below : (a x y : List Numbered) → routeOf x ≡ routeOf y → routeOf (a ++ x) ≡ routeOf (a ++ y)
+  below : (a x y : List Numbered) → routeIn x ≡ routeIn y → routeIn (a ++ x) ≡ routeIn (a ++ y)
   below [] x y e = e
   below (r ∷ a) x y e =
       row-by-row r (a ++ x) ∙ ap (cond (matched (r .entry)) (Route (r .entry .route))) (below a x y e) ∙ sym (row-by-row r (a ++ y))
 
   -- where one of them matches it does not count
-  decided : (a x y : List Numbered) (j : ℕ) → j < length a → matched (rowAt a j) ≡ true → routeOf (a ++ x) ≡ routeOf (a ++ y)
+  decided : (a x y : List Numbered) (j : ℕ) → j < length a → matched (rowAt a j) ≡ true → routeIn (a ++ x) ≡ routeIn (a ++ y)
   decided [] x y j h m = absurd (omega arith)
   decided (r ∷ a) x y zero h m = row-by-row r (a ++ x) ∙ both-first ∙ sym (row-by-row r (a ++ y))
     where
-      both-first : cond (matched (r .entry)) (Route (r .entry .route)) (routeOf (a ++ x)) ≡ cond (matched (r .entry)) (Route (r .entry .route)) (routeOf (a ++ y))
+      both-first : cond (matched (r .entry)) (Route (r .entry .route)) (routeIn (a ++ x)) ≡ cond (matched (r .entry)) (Route (r .entry .route)) (routeIn (a ++ y))
       both-first = simp m
   decided (r ∷ a) x y (suc j) h m =
       row-by-row r (a ++ x) ∙ ap (cond (matched (r .entry)) (Route (r .entry .route))) (decided a x y j (omega arith) m) ∙ sym (row-by-row r (a ++ y))
 
   module _ (rows : List Numbered) (i : ℕ) where
-    route-without : i < length rows → goes rows i ≡ true → routeOf (without rows i) ≡ routeOf rows
-    route-without h g = go (matched (x .entry)) refl ∙ ap routeOf split
+    route-without : i < length rows → goes rows i ≡ true → routeIn (without rows i) ≡ routeIn rows
+    route-without h g = go (matched (x .entry)) refl ∙ ap routeIn split
       where
         x : Numbered
         x = getD rows i blank
@@ -71,8 +71,8 @@ module _ (key : ℕ) where
         matched-there : (j : ℕ) → j < i → covers (rowAt rows j) (rowAt rows i) ≡ true → matched (x .entry) ≡ true → matched (rowAt (take i rows) j) ≡ true
         matched-there j l c m = ap (λ (r : Numbered). matched (r .entry)) (getD-take i rows j blank l) ∙ covered-matches (rowAt rows j) (rowAt rows i) c key m
 
-        go : (b : Bool) → matched (x .entry) ≡ b → routeOf (without rows i) ≡ routeOf (take i rows ++ x ∷ drop (i + 1) rows)
-        go false m = below (take i rows) (drop (i + 1) rows) (x ∷ drop (i + 1) rows) (sym (row-by-row x (drop (i + 1) rows) ∙ ap (λ (b : Bool). cond b (Route (x .entry .route)) (routeOf (drop (i + 1) rows))) m))
+        go : (b : Bool) → matched (x .entry) ≡ b → routeIn (without rows i) ≡ routeIn (take i rows ++ x ∷ drop (i + 1) rows)
+        go false m = below (take i rows) (drop (i + 1) rows) (x ∷ drop (i + 1) rows) (sym (row-by-row x (drop (i + 1) rows) ∙ ap (λ (b : Bool). cond b (Route (x .entry .route)) (routeIn (drop (i + 1) rows))) m))
         go true m =
             ⊎-elim (λ (n : matchesSome (rowAt rows i) ≡ false). absurd (true≢false (sym (used-of-match key (x .entry .key) (x .entry .mask) m) ∙ n)))
             (λ (c : (j : ℕ) × ((j < i) × (covers (rowAt rows j) (rowAt rows i) ≡ true))).
@@ -80,8 +80,8 @@ module _ (key : ℕ) where
             (why-goes rows i g)
 
     route-joined : i + 1 < length rows → joins rows i ≡ true → matchesSome (rowAt rows i) ≡ true → matchesSome (rowAt rows (i + 1)) ≡ true
-        → routeOf (withPair rows i) ≡ routeOf rows
-    route-joined h j some other = below (take i rows) (one ∷ rest) (a ∷ b ∷ rest) same ∙ ap routeOf split
+        → routeIn (withPair rows i) ≡ routeIn rows
+    route-joined h j some other = below (take i rows) (one ∷ rest) (a ∷ b ∷ rest) same ∙ ap routeIn split
       where
         a : Numbered
         a = getD rows i blank
@@ -103,23 +103,23 @@ module _ (key : ℕ) where
             ∙ ap (λ (l : List Numbered). take i rows ++ a ∷ l) (sym (drop-cons rows (suc i) blank (omega arith)))
             ∙ sym (split-at rows i blank (omega arith))
 
-        either : (x y : Bool) → cond (x || y) (Route (a .entry .route)) (routeOf rest) ≡ cond x (Route (a .entry .route)) (cond y (Route (b .entry .route)) (routeOf rest))
+        either : (x y : Bool) → cond (x || y) (Route (a .entry .route)) (routeIn rest) ≡ cond x (Route (a .entry .route)) (cond y (Route (b .entry .route)) (routeIn rest))
         either true y = refl
         either false true = ap Route (same-route (a .entry) (b .entry) j)
         either false false = refl
 
-        same : routeOf (one ∷ rest) ≡ routeOf (a ∷ b ∷ rest)
+        same : routeIn (one ∷ rest) ≡ routeIn (a ∷ b ∷ rest)
         same =
             row-by-row one rest
-            ∙ ap (λ (m : Bool). cond m (Route (a .entry .route)) (routeOf rest)) (joined-matches (a .entry) (b .entry) j some other key)
+            ∙ ap (λ (m : Bool). cond m (Route (a .entry .route)) (routeIn rest)) (joined-matches (a .entry) (b .entry) j some other key)
             ∙ either (matched (a .entry)) (matched (b .entry))
             ∙ sym (row-by-row a (b ∷ rest) ∙ ap (cond (matched (a .entry)) (Route (a .entry .route))) (row-by-row b rest))
 
-  same-step : (rows : List Entry) (p : Process) → routeOf (p .left) ≡ routeFor key rows → routeOf (step p .left) ≡ routeFor key rows
+  same-step : (rows : List Entry) (p : Process) → routeIn (p .left) ≡ routeFor key rows → routeIn (step p .left) ≡ routeFor key rows
   same-step rows p e =
       let left = p .left in
       let i = topPair left in
-      by-ways (λ (q : Process). routeOf (q .left) ≡ routeFor key rows) p
+      by-ways (λ (q : Process). routeIn (q .left) ≡ routeFor key rows) p
       (λ h. route-without left (topGoing left) h (first-holds (goes left) (length left) h) ∙ e)
       (λ g h. route-joined left i (omega arith) (first-holds (joins left) (length left - 1) h)
       (matches-where-stays left i (before-first (goes left) (length left) i (omega arith)))
@@ -135,4 +135,4 @@ entries-numbered n (r ∷ rows) = ap (λ (l : List Entry). r ∷ l) (entries-num
 pub same-routes : SameRoutes
 unfolding ended
 same-routes rows key =
-    steps-keep (λ (p : Process). routeOf key (p .left) ≡ routeFor key rows) (same-step key rows) (length rows) (begun rows) (ap (routeFor key) (entries-numbered 0 rows))
+    steps-keep (λ (p : Process). routeIn key (p .left) ≡ routeFor key rows) (same-step key rows) (length rows) (begun rows) (ap (routeFor key) (entries-numbered 0 rows))

@@ -1,7 +1,7 @@
 -- A flood ends with fewer levels than there are chips: each level marks a chip at least, or it is the last that could.
 use Prim.Native.Nat.{ℕ, zero, suc, _-_, _≤_, _<_}
 use mathlib.Core.Path.{_≡_, refl, sym, _∙_}
-use mathlib.Core.Bool.{Bool, true, false, _&&_, not, and-eq-true-iff}
+use mathlib.Core.Bool.{Bool, true, false, _&&_, not, and-eq-true-iff, true≢false}
 use mathlib.Core.Logic.{_⊎_, inl, inr, ⊎-elim}
 use native.Mathlib.Omega.{arith}
 use borrow.Author.Tests.{eq-eqb, not-true, ltb-true}
@@ -11,7 +11,7 @@ use Rattle.lists.proofs.Firsts.{lt-or-ge, first-holds, before-first}
 use Rattle.mesh.specs.Mesh.{Mesh}
 use Rattle.mesh.specs.Calls.{many}
 use Rattle.flood.specs.Ways.{within, fewest}
-use Rattle.flood.proofs.Levels.{apart, within-next, within-more, few-within, Still, still-on}
+use Rattle.flood.proofs.Levels.{within-next, within-more, few-within, Still, still-on}
 use Rattle.flood.proofs.Counting.{countTo, count-all, count-more}
 
 module _ {A : Type 0} (m : Mesh A) (to : ℕ) (there : to < many m) (fine : sizeFine (m .width) (m .height) ≡ true) where
@@ -33,14 +33,14 @@ module _ {A : Type 0} (m : Mesh A) (to : ℕ) (there : to < many m) (fine : size
         where
           go : (a b : Bool) → (a && not b) ≡ false → (b ≡ true → a ≡ true) → a ≡ b
           go true true e u = refl
-          go true false e u = absurd (apart e)
+          go true false e u = absurd (true≢false e)
           go false true e u = u refl
           go false false e u = refl
 
   -- after k levels one before was such, or k + 1 chips are within
   counts : (k : ℕ) → ((j : ℕ) × (j < k) × Still m to j) ⊎ (suc k ≤ countTo (within m to k) (many m))
   unfolding within
-  counts zero = inr (omega (arith, count-more (λ c. false) (within m to 0) (λ c e. absurd (apart (sym e))) (many m) to there refl (eq-eqb to to refl)))
+  counts zero = inr (omega (arith, count-more (λ c. false) (within m to 0) (λ c e. absurd (true≢false (sym e))) (many m) to there refl (eq-eqb to to refl)))
   counts (suc k) = go (counts k) (still-or-more k)
     where
       go : ((j : ℕ) × (j < k) × Still m to j) ⊎ (suc k ≤ countTo (within m to k) (many m))

@@ -1,11 +1,10 @@
 -- How many numbers below a bound pass a test: never more than there are, and more than before where one more passes.
 use Prim.Native.Nat.{ℕ, zero, suc, _≤_, _<_}
 use mathlib.Core.Path.{_≡_, refl, sym, ap, _∙_}
-use mathlib.Core.Bool.{Bool, true, false, cond}
+use mathlib.Core.Bool.{Bool, true, false, cond, true≢false}
 use mathlib.Core.Logic.{⊎-elim}
 use native.Mathlib.Omega.{arith}
 use Rattle.lists.proofs.Firsts.{lt-or-ge}
-use Rattle.flood.proofs.Levels.{apart}
 
 unfoldable pub countTo : (ℕ → Bool) → ℕ → ℕ
 countTo f zero = 0
@@ -38,7 +37,7 @@ module _ (f g : ℕ → Bool) (all : (c : ℕ) → f c ≡ true → g c ≡ true
     where
       go : (a b : Bool) → (a ≡ true → b ≡ true) → countTo f n ≤ countTo g n → cond a (suc (countTo f n)) (countTo f n) ≤ cond b (suc (countTo g n)) (countTo g n)
       go true true e h = omega arith
-      go true false e h = absurd (apart (sym (e refl)))
+      go true false e h = absurd (true≢false (sym (e refl)))
       go false true e h = omega arith
       go false false e h = h
 
@@ -50,7 +49,7 @@ module _ (f g : ℕ → Bool) (all : (c : ℕ) → f c ≡ true → g c ≡ true
     where
       go : (x y : Bool) → (x ≡ true → y ≡ true) → suc (countTo f n) ≤ countTo g n → suc (cond x (suc (countTo f n)) (countTo f n)) ≤ cond y (suc (countTo g n)) (countTo g n)
       go true true e k = omega arith
-      go true false e k = absurd (apart (sym (e refl)))
+      go true false e k = absurd (true≢false (sym (e refl)))
       go false true e k = omega arith
       go false false e k = k
 

@@ -1,7 +1,7 @@
 -- What each code says: 7 oneself, 6 no level within the count, and else a link, the first of a way that is counted.
 use Prim.Native.Nat.{ℕ, zero, suc, _-_, _≤_, _<_}
 use mathlib.Core.Path.{_≡_, refl, sym, ap, _∙_}
-use mathlib.Core.Bool.{Bool, true, false, cond, _||_}
+use mathlib.Core.Bool.{Bool, true, false, cond, _||_, true≢false}
 use native.Mathlib.Omega.{arith}
 use lib.Dec.{eqb, ltb}
 use borrow.Author.Tests.{lt-ltb, ltb-true}
@@ -10,7 +10,7 @@ use Rattle.mesh.specs.Mesh.{Mesh}
 use Rattle.mesh.specs.Calls.{many}
 use Rattle.flood.specs.Ways.{leadsTo, within, fewest, firstLink}
 use Rattle.flood.specs.Codes.{codeOf}
-use Rattle.flood.proofs.Levels.{apart, firstTo}
+use Rattle.flood.proofs.Levels.{firstTo}
 
 module _ {A : Type 0} (m : Mesh A) (from to : ℕ) where
   pub link-most : firstLink m from to ≤ 6
@@ -43,7 +43,7 @@ module _ {A : Type 0} (m : Mesh A) (from to : ℕ) where
     some-links = go (fewest m from to) refl
       where
         go : (n : ℕ) → fewest m from to ≡ n → suc (n - 1) ≡ n
-        go zero e = absurd (apart (sym (ap (λ (k : ℕ). within m to k from) (sym e) ∙ first-holds (λ k. within m to k from) (many m) (r .few)) ∙ r .other))
+        go zero e = absurd (true≢false (sym (ap (λ (k : ℕ). within m to k from) (sym e) ∙ first-holds (λ k. within m to k from) (many m) (r .few)) ∙ r .other))
         go (suc n) e = omega arith
 
     -- the last level but one is too few, and the last is not

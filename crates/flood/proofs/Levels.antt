@@ -1,7 +1,7 @@
 -- The levels of a flood: which chips each has reached, at which a chip is reached first, and that a level which reaches no more is the last that could.
 use Prim.Native.Nat.{ℕ, zero, suc, _+_, _-_, _≤_, _<_}
 use mathlib.Core.Path.{_≡_, refl, sym, ap, _∙_}
-use mathlib.Core.Bool.{Bool, true, false, _&&_, _||_}
+use mathlib.Core.Bool.{Bool, true, false, _&&_, _||_, true≢false}
 use mathlib.Core.Logic.{⊎-elim}
 use native.Mathlib.Omega.{arith}
 use lib.Dec.{ltb}
@@ -12,15 +12,12 @@ use Rattle.lists.specs.Firsts.{firstBelow}
 use Rattle.lists.proofs.Firsts.{lt-or-ge, first-holds, before-first, first-is, first-same}
 use Rattle.mesh.specs.Mesh.{Mesh}
 use Rattle.mesh.specs.Calls.{many}
-use Rattle.mesh.proofs.SoundArrivals.{across-there}
+use Rattle.links.proofs.Crossing.{across-there}
 use Rattle.flood.specs.Ways.{isUp, beyond, leadsTo, within, fewest}
-
-pub apart : true ≡ false → ⊥
-apart e = let z : _≡_ {A = ℕ} 0 1 = cc in omega arith
 
 -- the first place is no later than any
 pub first-least : (f : ℕ → Bool) (n i : ℕ) → f i ≡ true → firstBelow f n ≤ i
-first-least f n i e = ⊎-elim (λ (l : i < firstBelow f n). absurd (apart (sym e ∙ before-first f n i l))) (λ (l : firstBelow f n ≤ i). l) (lt-or-ge i (firstBelow f n))
+first-least f n i e = ⊎-elim (λ (l : i < firstBelow f n). absurd (true≢false (sym e ∙ before-first f n i l))) (λ (l : firstBelow f n ≤ i). l) (lt-or-ge i (firstBelow f n))
 
 -- every link leads to a chip of the mesh
 pub beyond-there : {A : Type 0} (m : Mesh A) → sizeFine (m .width) (m .height) ≡ true → (c i : ℕ) → beyond m c i < many m
@@ -47,7 +44,7 @@ module _ {A : Type 0} (m : Mesh A) (to : ℕ) where
   not-before k j c h e = go (within m to j c) refl
     where
       go : (b : Bool) → within m to j c ≡ b → within m to j c ≡ false
-      go true t = absurd (apart (sym (within-more j k c h t) ∙ e))
+      go true t = absurd (true≢false (sym (within-more j k c h t) ∙ e))
       go false t = t
 
   -- within so many links exactly where the fewest are at most so many, as `fewest` counts

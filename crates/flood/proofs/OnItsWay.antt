@@ -26,10 +26,11 @@ use Rattle.steps.specs.Detour.{carrySet, sendSet, dropSet, plainSendSet, plainD
 use Rattle.steps.specs.Errors.{errorsOf, stampedOf}
 use Rattle.steps.specs.Wants.{numberWanted, p2pWanted, wantedOf}
 use Rattle.steps.specs.Deciding.{legSet, markOn, packetOn, decided, outcomeOf}
-use Rattle.steps.proofs.Stamping.{Stamped, stamped}
+use Rattle.steps.proofs.Stamping.{StampedFrom, stamped}
 use Rattle.lists.proofs.Firsts.{first-holds}
 use Rattle.mesh.specs.Mesh.{Mesh, readyOf}
-use Rattle.mesh.specs.Steps.{Tables, codesAt, tablesAt, settingAt, outcomeAt}
+use Rattle.mesh.specs.Lending.{Tables, codesAt, tablesAt}
+use Rattle.mesh.specs.Steps.{settingAt, outcomeAt}
 use Rattle.mesh.specs.Calls.{many}
 use Rattle.mesh.specs.Sound.{SoundMesh}
 use Rattle.flood.specs.Ways.{beyond, onward, within, fewest, firstLink}
@@ -106,7 +107,7 @@ module _ {A : Type 0} (m : Mesh A) (sound : SoundMesh m) (t : Tables) (p : Packe
   abbrev after : Packet
   after = stampedOf p source (errorsOf p source (m .phase)) (m .phase)
 
-  pub as-it-was : Stamped p (stampedOf p source (errorsOf p source (m .phase)) (m .phase))
+  pub as-it-was : StampedFrom p (stampedOf p source (errorsOf p source (m .phase)) (m .phase))
   as-it-was = stamped p source (errorsOf p source (m .phase)) (m .phase) (f .control) (sound .phase)
 
   unmarked : isMarked (after .control) ≡ false
@@ -115,9 +116,9 @@ module _ {A : Type 0} (m : Mesh A) (sound : SoundMesh m) (t : Tables) (p : Packe
       let k = kindOf (after .control) in
       λ i. ne-eqb k 0 (λ e. omega (arith, as-it-was .kind, f .kind)) i || ne-eqb k 3 (λ e. omega (arith, as-it-was .kind, f .kind)) i
 
-  passed : Plain (outcomeAt t m from source p) after (numberWanted (codeOf m from to) 0 (m .monitor)) (readyOf m from)
+  goes-plainly : Plain (outcomeAt t m from source p) after (numberWanted (codeOf m from to) 0 (m .monitor)) (readyOf m from)
   unfolding outcomeOf
-  passed =
+  goes-plainly =
       let e = errorsOf p source (m .phase) in
       let tables = tablesAt t (many m) from in
       let code : codeFor (tables .codes) (m .width) (m .height) (p .word % 65536) ≡ codeOf m from to =
@@ -155,7 +156,7 @@ pub packet-sent : {A : Type 0} (m : Mesh A) (sound : SoundMesh m) (t : Tables) (
 packet-sent m sound t p source from to f i =
     let o = outcomeAt t m from source p in
     let q : Packet = after m sound t p source from to f in
-    ap (λ (x : Packet). cond (isMarked (x .control)) (withMark x (markOn o i)) x) (passed m sound t p source from to f .packet)
+    ap (λ (x : Packet). cond (isMarked (x .control)) (withMark x (markOn o i)) x) (goes-plainly m sound t p source from to f .packet)
     ∙ ap (λ (b : Bool). cond b (withMark q (markOn o i)) q) (unmarked m sound t p source from to f)
 
 -- a code that is a ready link
@@ -163,7 +164,7 @@ sent-on : {A : Type 0} (m : Mesh A) (sound : SoundMesh m) (t : Tables) (p : Pack
     → has (readyOf m from) (codeOf m from to) ≡ true → SentOn (outcomeAt t m from source p) p (codeOf m from to)
 sent-on m sound t p source from to f low ready =
     let i : ℕ = codeOf m from to in
-    let o = passed m sound t p source from to f in
+    let o = goes-plainly m sound t p source from to f in
     let one = by-one i (readyOf m from) low ready in
     let set : numberWanted i 0 (m .monitor) ≡ 2 ^ i = ap (λ (b : Bool). cond b (2 ^ i) (cond (eqb i 6) 0 (monitorBit (m .monitor)))) (lt-ltb i 6 low) in
     let same = packet-sent m sound t p source from to f i in
@@ -203,7 +204,7 @@ one-link-nearer A m sound t p source from to f other links w ready =
 
 pub handed-to-the-monitor : HandedToTheMonitor
 handed-to-the-monitor A m sound t p source to f =
-    let o = subst (λ (c : ℕ). Plain (outcomeAt t m to source p) (after m sound t p source to to f) (numberWanted c 0 (m .monitor)) (readyOf m to)) (code-oneself m to to (eq-eqb to to refl)) (passed m sound t p source to to f) in
+    let o = subst (λ (c : ℕ). Plain (outcomeAt t m to source p) (after m sound t p source to to f) (numberWanted c 0 (m .monitor)) (readyOf m to)) (code-oneself m to to (eq-eqb to to refl)) (goes-plainly m sound t p source to to f) in
     let above = above-links (m .monitor) in
     record {
       processors = ap processorsOf (o .wanted) ∙ above .1;

@@ -1,7 +1,7 @@
 -- A level as the code makes it, chip by chip on one list of marks, is a level of the flood; and the codes come of the marks.
 use Prim.Native.Nat.{ℕ, zero, suc, _+_, _*_, _-_, _≤_, _<_}
 use mathlib.Core.Path.{_≡_, refl, sym, ap, _∙_}
-use mathlib.Core.Bool.{Bool, true, false, cond, _&&_, _||_, and-eq-true-iff}
+use mathlib.Core.Bool.{Bool, true, false, cond, _&&_, _||_, and-eq-true-iff, true≢false}
 use mathlib.Core.List.{List}
 use mathlib.Core.Logic.{⊎-elim}
 use native.Mathlib.Omega.{arith}
@@ -17,7 +17,7 @@ use Rattle.mesh.specs.Calls.{many}
 use Rattle.flood.specs.Ways.{isUp, beyond, within, fewest, firstLink}
 use Rattle.flood.specs.Codes.{codeOf}
 use Rattle.flood.specs.Marks.{markAfter, Around, isBelow, firstOn, isNext, markedOn, codeOn, Spread}
-use Rattle.flood.proofs.Levels.{apart, beyond-there, firstTo, not-before, few-within, fewest-next, Still, still-on}
+use Rattle.flood.proofs.Levels.{beyond-there, firstTo, not-before, few-within, fewest-next, Still, still-on}
 
 -- ---- chip by chip
 
@@ -61,7 +61,7 @@ module _ (around before : List ℕ) (level chip : ℕ) (marks : List ℕ) (more 
             (here ∙ sym (ap (λ (b : Bool). cond b level (getD before chip 0)) (sym next-same ∙ t)));
         rest = λ c l. other c (λ x. omega arith) ∙ s .rest c (omega arith);
         same = λ c. go c (eqb c chip) refl here other was;
-        still = λ e. absurd (apart e);
+        still = λ e. absurd (true≢false e);
       }
     where
       go : (c : ℕ) (b : Bool) → eqb c chip ≡ b → getD (set marks chip level) chip 0 ≡ level
@@ -183,7 +183,7 @@ module _ {A : Type 0} (m : Mesh A) (all to : ℕ) (around : List ℕ) (a : Aroun
 -- at first the destination alone
 pub reached-first : {A : Type 0} (m : Mesh A) (all to : ℕ) → to < all → all ≤ 144 → many m ≡ all → Reached m all to 0 (set (replicate 144 255) to 0) true
 unfolding within
-reached-first m all to h few e = record { each = each; over = λ f. absurd (apart f) }
+reached-first m all to h few e = record { each = each; over = λ f. absurd (true≢false f) }
   where
     each : (c : ℕ) → c < all → _≡_ {A = ℕ} (getD (set (replicate 144 255) to 0) c 0) (cond (eqb c to) (fewest m c to) 255)
     each c hc = go (eqb c to) refl

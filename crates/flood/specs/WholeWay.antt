@@ -9,7 +9,8 @@ use Rattle.steps.specs.Links.{has}
 use Rattle.steps.specs.Deciding.{packetOn}
 use Rattle.links.specs.Across.{opposite}
 use Rattle.mesh.specs.Mesh.{Mesh, readyOf}
-use Rattle.mesh.specs.Steps.{Tables, outcomeAt, roundOver}
+use Rattle.mesh.specs.Lending.{Tables}
+use Rattle.mesh.specs.Steps.{outcomeAt, roundOver}
 use Rattle.mesh.specs.Calls.{many}
 use Rattle.mesh.specs.Sound.{SoundMesh}
 use Rattle.flood.specs.Ways.{isUp, beyond, Way, fewest}

@@ -2,7 +2,7 @@
 use Prim.Native.Nat.{ℕ, suc, _+_, _*_, _-_, _≤_, _<_}
 use mathlib.Core.Path.{_≡_, refl, sym, ap, _∙_}
 use mathlib.Core.Logic.{⊎-elim}
-use mathlib.Core.Bool.{Bool, true, false, cond}
+use mathlib.Core.Bool.{Bool, true, false, cond, true≢false}
 use mathlib.Core.List.{List, [], _∷_, _++_}
 use native.Mathlib.Omega.{arith}
 use lib.ListN.{length, getD, take, drop, length-append, length-drop, take-append-drop, List·getD-append}
@@ -64,9 +64,6 @@ module _ (marks tops : List ℕ) (rows : List Entry) (room₀ room : List ℕ)
     (long : length room ≡ length room₀)
     (fits : roomFor (length rows) ≤ length room₀)
   where
-    apart : true ≡ false → ⊥
-    apart e = let z : _≡_ {A = ℕ} 0 1 = cc in omega arith
-
     -- a word of a block behind the numbers of its group
     kept-word : (g k : ℕ) → g < 256 → k < length rows → (isIn g tops ≡ true → length (groupOf rows g) ≤ k) → getD room (257 + g * length rows + k) 0 ≡ getD room₀ (257 + g * length rows + k) 0
     kept-word g k s l past =
@@ -115,7 +112,7 @@ module _ (marks tops : List ℕ) (rows : List Entry) (room₀ room : List ℕ)
             (λ k l.
             let within : k < length rows = omega (arith, many) in
             part-at (257 + g * length rows) (length rows) room k within
-            ∙ kept-word g k s within (λ d. absurd (apart (sym d ∙ e)))
+            ∙ kept-word g k s within (λ d. absurd (true≢false (sym d ∙ e)))
             ∙ sym (part-at (257 + g * length rows) (length rows) room₀ k within))
             ∙ ap (λ (b : Bool). cond b (groupOf rows g ++ drop (length (groupOf rows g)) before) before) (sym none)
 

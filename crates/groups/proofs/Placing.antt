@@ -2,7 +2,7 @@
 use Prim.Native.Nat.{ℕ, suc, _+_, _*_, _≤_, _<_}
 use mathlib.Core.Path.{_≡_, refl, sym, ap, _∙_, subst}
 use mathlib.Core.Logic.{⊎-elim}
-use mathlib.Core.Bool.{Bool, true, false, cond}
+use mathlib.Core.Bool.{Bool, true, false, cond, true≢false}
 use mathlib.Core.List.{List}
 use native.Mathlib.Omega.{arith}
 use native.Mathlib.Nat.{le-antisymm}
@@ -130,9 +130,6 @@ module _ (tops : List ℕ) (rows : List Entry) (many : ℕ → ℕ) (room : List
         kept-listed : isIn g tops ≡ true → Kept tops (length rows) many′ room after
         kept-listed e = record { same = λ j h u. elsewhere j (λ z. omega arith) (λ z. u g (many g) small e (omega (arith, one)) z) }
 
-        apart : true ≡ false → ⊥
-        apart e = let z : _≡_ {A = ℕ} 0 1 = cc in omega arith
-
         pub put-placed : Placed tops rows many′ (afterPut room (length rows) g number) × Kept tops (length rows) many′ room (afterPut room (length rows) g number)
         unfolding after
         put-placed = go (isIn g tops) refl
@@ -142,4 +139,4 @@ module _ (tops : List ℕ) (rows : List Entry) (many : ℕ → ℕ) (room : List
                 subst (λ (r : List ℕ). Placed tops rows many′ r × Kept tops (length rows) many′ room r) (sym (listed number e)) (placed-listed e, kept-listed e)
             go false e =
                 subst (λ (r : List ℕ). Placed tops rows many′ r × Kept tops (length rows) many′ room r) (sym (unlisted number e))
-                (said-so tops rows many many′ room (λ h s d. others h (λ z. apart (sym d ∙ ap (λ (k : ℕ). isIn k tops) z ∙ e))) p, kept-none tops (length rows) many′ room)
+                (said-so tops rows many many′ room (λ h s d. others h (λ z. true≢false (sym d ∙ ap (λ (k : ℕ). isIn k tops) z ∙ e))) p, kept-none tops (length rows) many′ room)

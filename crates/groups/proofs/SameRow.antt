@@ -1,7 +1,7 @@
 -- The group of a key's top byte finds the row that the whole table finds: a row that is left out fixes another top byte, and cannot match.
 use Prim.Native.Nat.{ℕ, suc, _+_, _^_, _<_}
 use mathlib.Core.Path.{_≡_, refl, sym, ap, _∙_}
-use mathlib.Core.Bool.{Bool, true, false, not, cond}
+use mathlib.Core.Bool.{Bool, true, false, not, cond, true≢false}
 use mathlib.Core.List.{List, [], _∷_}
 use native.Mathlib.Omega.{arith}
 use native.Mathlib.Nat.{mod-eq-of-lt}
@@ -29,12 +29,9 @@ same-top key row mask small fixed e =
 left-out : (key : ℕ) (r : Entry) → key < 2 ^ 32 → inGroup (topOf key) r ≡ false → matches key (r .key) (r .mask) ≡ false
 left-out key r small out = go (fixesTop r) refl (matches key (r .key) (r .mask)) refl out
   where
-    never : {A : Type 0} → true ≡ false → A
-    never e = let z : _≡_ {A = ℕ} 0 1 = cc in absurd (omega arith)
-
     go : (f : Bool) → fixesTop r ≡ f → (m : Bool) → matches key (r .key) (r .mask) ≡ m → inGroup (topOf key) r ≡ false → m ≡ false
     go f e false m o = refl
-    go false e true m o = never (simp e at o)
+    go false e true m o = absurd (true≢false (simp e at o))
     go true e true m o =
         absurd (eqb-false (topOf (r .key)) (topOf key) (simp e at o) (same-top key (r .key) (r .mask) small (eqb-true (topOf (r .mask)) 255 e) (eqb-true (bitAnd key (r .mask)) (r .key) m)))
 

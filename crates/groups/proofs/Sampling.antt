@@ -1,7 +1,7 @@
 -- Rows that go into a group, counted one by one; and when groups pay, by the tests that the code makes first.
 use Prim.Native.Nat.{ℕ, zero, suc, _+_, _*_, _-_, _/_, _≤_, _<_}
 use mathlib.Core.Path.{_≡_, refl, sym, ap, _∙_}
-use mathlib.Core.Bool.{Bool, true, false, not, cond}
+use mathlib.Core.Bool.{Bool, true, false, not, cond, false≢true}
 use mathlib.Core.Logic.{⊎-elim}
 use mathlib.Core.List.{List}
 use native.Mathlib.Omega.{arith}
@@ -46,9 +46,6 @@ taken-by-mark words marks i top none here fixed e mark =
 
 -- ---- the rules, as the code asks for them
 
-apart : false ≡ true → ⊥
-apart e = let z : _≡_ {A = ℕ} 0 1 = cc in omega arith
-
 module _ (packets rows : ℕ) where
   pub too-few : rows < 64 → false ≡ worth packets rows
   too-few h = simp (lt-leb 64 rows h)
@@ -57,7 +54,7 @@ module _ (packets rows : ℕ) where
   too-many h = simp (le-leb 64 rows (omega arith), lt-leb rows 1024 h)
 
   pub worth-few : worth packets rows ≡ true → rows ≤ 1024
-  worth-few e = ⊎-elim (λ (l : 1024 < rows). absurd (apart (too-many l ∙ e))) (λ (l : rows ≤ 1024). l) (lt-or-ge 1024 rows)
+  worth-few e = ⊎-elim (λ (l : 1024 < rows). absurd (false≢true (too-many l ∙ e))) (λ (l : rows ≤ 1024). l) (lt-or-ge 1024 rows)
 
   pub worth-between : 64 ≤ rows → rows ≤ 1024 → ltb (rows * 6 + 1600) (packets * (rows - 40)) ≡ worth packets rows
   worth-between some most = simp (le-leb 64 rows some, le-leb rows 1024 most)

@@ -15,7 +15,7 @@ use Rattle.steps.specs.Wants.{wantedOf}
 use Rattle.steps.specs.Deciding.{outcomeOf, Source, Checked}
 use Rattle.steps.proofs.Emergency.{emergency-wants-nothing}
 use Rattle.steps.proofs.Flags.{without-error}
-use Rattle.steps.proofs.Stamping.{Stamped, stamped}
+use Rattle.steps.proofs.Stamping.{StampedFrom, stamped}
 use Rattle.steps.proofs.SentBy.{no-link-wanted}
 use Rattle.kept.specs.Units.{weightIn, extra, weightSent, settled}
 use Rattle.kept.proofs.Account.{Consistent, account-decided}
@@ -29,7 +29,7 @@ module _ (p : Packet) (s : ℕ) (tables : ChipTables) (t : Setting) (h : Checked
         arrived = λ none marked one. ⊎-elim (λ near. near) (λ local. absurd (bad local (before marked) (sym (q .mark) ∙ one) (without-error p s (t .phase) none .local))) from;
       }
     where
-      q : Stamped p (stampedOf p s (errorsOf p s (t .phase)) (t .phase))
+      q : StampedFrom p (stampedOf p s (errorsOf p s (t .phase)) (t .phase))
       q = stamped p s (errorsOf p s (t .phase)) (t .phase) (h .control) (h .phase)
 
       before : isMarked (stampedOf p s (errorsOf p s (t .phase)) (t .phase) .control) ≡ true → isMarked (p .control) ≡ true

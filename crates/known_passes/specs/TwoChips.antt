@@ -5,8 +5,10 @@ use mathlib.Core.List.{List, [], _∷_}
 use lib.Dec.{eqb}
 use lib.ListN.{length, getD, replicate}
 use Rattle.mesh.specs.Mesh.{Mesh, opened}
-use Rattle.mesh.specs.Steps.{Tables, tablesOf, same}
-use Rattle.mesh.specs.Calls.{Left, injecting, rounding, loggedOn, meshRead, countRead, linkRead}
+use Rattle.mesh.specs.Lending.{Tables, tablesOf}
+use Rattle.mesh.specs.Steps.{same}
+use Rattle.mesh.specs.Calls.{Left, injecting, rounding, loggedOn}
+use Rattle.mesh.specs.Looks.{meshRead, countRead, linkRead}
 use Rattle.buffer.specs.Layout.{meshOf}
 use Rattle.buffer.specs.Holding.{holdsMesh}
 

@@ -1,7 +1,7 @@
 -- The first place where something holds: it holds there and nowhere before, and there is no other such place.
 use Prim.Native.Nat.{ℕ, zero, suc, _+_, _≤_, _<_}
 use mathlib.Core.Path.{_≡_, refl, sym, ap, _∙_}
-use mathlib.Core.Bool.{Bool, true, false, cond}
+use mathlib.Core.Bool.{Bool, true, false, cond, true≢false}
 use native.Mathlib.Omega.{arith}
 use native.Mathlib.Nat.{le-antisymm}
 use mathlib.Core.Logic.{_⊎_, inl, inr, ⊎-elim}
@@ -14,9 +14,6 @@ lt-or-ge i j = go (decLt i j)
     go : Dec (i < j) → (i < j) ⊎ (j ≤ i)
     go (yes h) = inl h
     go (no h) = inr (omega arith)
-
-apart : true ≡ false → ⊥
-apart e = let z : _≡_ {A = ℕ} 0 1 = cc in omega arith
 
 -- ---- of the n numbers from i on
 
@@ -66,15 +63,15 @@ module _ (f : ℕ → Bool) (n : ℕ) where
   -- the only such place
   pub first-is : (k : ℕ) → k < n → f k ≡ true → ((j : ℕ) → j < k → f j ≡ false) → firstBelow f n ≡ k
   first-is k h there before =
-      ⊎-elim (λ (l : firstBelow f n < k). absurd (apart (sym (first-holds (omega arith)) ∙ before (firstBelow f n) l)))
+      ⊎-elim (λ (l : firstBelow f n < k). absurd (true≢false (sym (first-holds (omega arith)) ∙ before (firstBelow f n) l)))
       (λ (l : k ≤ firstBelow f n).
-      ⊎-elim (λ (m : k < firstBelow f n). absurd (apart (sym there ∙ before-first k m))) (λ (m : firstBelow f n ≤ k). le-antisymm m l) (lt-or-ge k (firstBelow f n)))
+      ⊎-elim (λ (m : k < firstBelow f n). absurd (true≢false (sym there ∙ before-first k m))) (λ (m : firstBelow f n ≤ k). le-antisymm m l) (lt-or-ge k (firstBelow f n)))
       (lt-or-ge (firstBelow f n) k)
 
   -- where it holds nowhere
   pub first-none : ((j : ℕ) → j < n → f j ≡ false) → firstBelow f n ≡ n
   first-none none =
-      ⊎-elim (λ (l : firstBelow f n < n). absurd (apart (sym (first-holds l) ∙ none (firstBelow f n) l))) (λ (l : n ≤ firstBelow f n). le-antisymm first-most l) (lt-or-ge (firstBelow f n) n)
+      ⊎-elim (λ (l : firstBelow f n < n). absurd (true≢false (sym (first-holds l) ∙ none (firstBelow f n) l))) (λ (l : n ≤ firstBelow f n). le-antisymm first-most l) (lt-or-ge (firstBelow f n) n)
 
 -- by two tests that agree below n
 pub first-same : (f g : ℕ → Bool) (n : ℕ) → ((j : ℕ) → j < n → f j ≡ g j) → firstBelow f n ≡ firstBelow g n
@@ -89,7 +86,7 @@ module _ (f : ℕ → Bool) (n : ℕ) where
   pub exact : (fine : Bool) → (fine ≡ true → (j : ℕ) → j < n → f j ≡ false) → (((j : ℕ) → j < n → f j ≡ false) → fine ≡ true) → Exact f n fine
   exact fine none all =
       let below : fine ≡ false → firstBelow f n < n =
-      λ e. ⊎-elim (λ (l : firstBelow f n < n). l) (λ (l : n ≤ firstBelow f n). absurd (apart (sym (all (λ j h. before-first f n j (omega arith))) ∙ e))) (lt-or-ge (firstBelow f n) n) in
+      λ e. ⊎-elim (λ (l : firstBelow f n < n). l) (λ (l : n ≤ firstBelow f n). absurd (true≢false (sym (all (λ j h. before-first f n j (omega arith))) ∙ e))) (lt-or-ge (firstBelow f n) n) in
       record { below = below; there = λ e. first-holds f n (below e); before = λ e. before-first f n; none = none }
 
   -- so the place says whether all is fine
@@ -98,5 +95,5 @@ module _ (f : ℕ → Bool) (n : ℕ) where
   exact-fine false e h = absurd (omega (arith, e .below refl))
 
   pub exact-not : (fine : Bool) → Exact f n fine → firstBelow f n < n → fine ≡ false
-  exact-not true e h = absurd (apart (sym (first-holds f n h) ∙ e .none refl (firstBelow f n) h))
+  exact-not true e h = absurd (true≢false (sym (first-holds f n h) ∙ e .none refl (firstBelow f n) h))
   exact-not false e h = refl

@@ -1,4 +1,5 @@
 pub mod Alls
+pub mod Bools
 pub mod Changed
 pub mod Firsts
 pub mod Parts

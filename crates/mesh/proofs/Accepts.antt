@@ -13,9 +13,9 @@ use Rattle.packet.specs.Refusal.{firstOf}
 use Rattle.packet.proofs.First.{not-refused}
 use Rattle.tables.specs.Accept.{allCodes, allFixed, startsRight, rowsFew, fixedFine, codesFine}
 use Rattle.groups.specs.Room.{longest, roomShort}
-use Rattle.mesh.specs.Steps.{Tables}
+use Rattle.mesh.specs.Lending.{Tables}
 use Rattle.mesh.specs.Sound.{Passable}
-use Rattle.mesh.specs.Calls.{Lent, injectRefusals, roundRefusals}
+use Rattle.mesh.specs.Refusals.{Lent, injectRefusals, roundRefusals}
 
 lent-tables : (t : Tables) (chips : ℕ) → startsRight (t .starts) chips (length (t .rows) / 3) ≡ true → rowsFew (t .starts) ≡ true → fixedFine (t .fixed) chips ≡ true → codesFine (t .codes) (chips * chips) ≡ true
     → Lent t chips

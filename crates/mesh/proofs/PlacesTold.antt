@@ -7,7 +7,7 @@ use lib.ListN.{length}
 use Rattle.tables.specs.Accept.{startsRight, rowsFew, routesFine, fixedFine, codesFine}
 use Rattle.groups.specs.Room.{longest, roomShort}
 use Rattle.tables.proofs.WrongPlaces.{starts-exact, crowd-exact, route-exact, fixed-exact, right-long}
-use Rattle.mesh.specs.Steps.{Tables}
+use Rattle.mesh.specs.Lending.{Tables}
 use Rattle.mesh.specs.Places.{FirstWrong, PlacesTold}
 
 pub places-told : PlacesTold

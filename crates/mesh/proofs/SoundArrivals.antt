@@ -2,8 +2,7 @@
 use mathlib.Core.Path.{sym, subst}
 use mathlib.Core.Logic.{inl}
 use mathlib.Core.Bool.{and-eq-true-iff}
-use Prim.Native.Nat.{ℕ, zero, suc, _+_, _*_, _/_, _%_, _≤_, _<_}
-use native.Mathlib.Nat.{mod-lt, mul-le-mul-right}
+use Prim.Native.Nat.{ℕ, zero, suc, _+_, _*_, _≤_, _<_}
 use native.Mathlib.Omega.{arith}
 use lib.Dec.{lit<}
 use lib.ListN.{getD}
@@ -11,7 +10,8 @@ use borrow.Author.Tests.{ltb-true, eqb-true, not-true}
 use Rattle.packet.specs.declared.Packet.{Packet}
 use Rattle.tables.proofs.Sizes as sizes
 use Rattle.links.specs.Link.{idle}
-use Rattle.links.specs.Across.{across, opposite, stepEast, stepNorth}
+use Rattle.links.specs.Across.{across, opposite}
+use Rattle.links.proofs.Crossing.{across-there, opposite-there}
 use Rattle.mesh.specs.Mesh.{Mesh, fresh}
 use Rattle.mesh.specs.Steps.{arrivingBy, arrivingAt, arrivingFrom, arrivals}
 use Rattle.lists.specs.Lists.{All}
@@ -27,16 +27,6 @@ sound-passable h =
       nine = omega (arith, h .right);
       absent = λ e. eqb-true _ _ (simp e at (t .1));
     }
-
--- the chip at the other end of a link is there
-pub across-there : (w h chip i : ℕ) → 1 ≤ w → 1 ≤ h → across w h chip i < h * w
-across-there w h chip i hw hh =
-    let y : (chip / w + stepNorth h i) % h < h = mod-lt _ hh in
-    let x : (chip % w + stepEast w i) % w < w = mod-lt _ hw in
-    omega (arith, mul-le-mul-right w y)
-
-pub opposite-there : (i : ℕ) → opposite i < 6
-opposite-there i = mod-lt (i + 3) (lit< tt)
 
 module _ {A : Type 0} {m : Mesh A} (sound : SoundMesh m) where
   by-sound : (chip source : ℕ) → chip < m .height * m .width → source < 6 → All (Arrives (m .height * m .width)) (arrivingBy m chip source)

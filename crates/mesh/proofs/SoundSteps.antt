@@ -16,7 +16,8 @@ use Rattle.steps.proofs.Bounds.{set-small}
 use Rattle.links.specs.Link.{Flight, Link, idle, isReady}
 use Rattle.links.specs.Phase.{nextPhase}
 use Rattle.mesh.specs.Mesh.{Chip, Mesh, fresh, opened, roundsFine}
-use Rattle.mesh.specs.Steps.{Tables, Arrival, Going, settingAt, emptied, emptiedChip, setAside, arrivals, roundOver, passAt, injected, passed, rounded, tablesAt}
+use Rattle.mesh.specs.Lending.{Tables, tablesAt}
+use Rattle.mesh.specs.Steps.{Arrival, Going, settingAt, emptied, emptiedChip, setAside, arrivals, roundOver, passAt, injected, passed, rounded}
 use Rattle.lists.specs.Lists.{All}
 use Rattle.mesh.specs.Sound.{Passable, Arrives, SoundLink, SoundChip, SoundMesh}
 use Rattle.lists.proofs.Alls.{all-nil, all-map, all-weaken, all-replicate}

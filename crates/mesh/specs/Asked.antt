@@ -11,8 +11,9 @@ use Rattle.mesh.specs.declared.MeshRead.{MeshRead}
 use Rattle.mesh.specs.declared.LinkRead.{LinkRead}
 use Rattle.mesh.specs.declared.FlightRead.{FlightRead}
 use Rattle.mesh.specs.Mesh.{Mesh}
-use Rattle.mesh.specs.Steps.{Tables}
+use Rattle.mesh.specs.Lending.{Tables}
 use Rattle.mesh.specs.Calls as calls
+use Rattle.mesh.specs.Looks as looks
 
 -- ---- each call that is lent a mesh, with all its inputs; of a log only its length counts
 
@@ -56,10 +57,10 @@ pub data Answer : Type 0 where
 
 module _ {A : Type 0} where
   abbrev pub seenBy : Mesh A → Look → Seen
-  seenBy m (readCounter chip counter) = ofCount (calls.countRead true m chip counter)
-  seenBy m lookMesh = ofMesh (calls.meshRead true m)
-  seenBy m (lookLink chip link) = ofLink (calls.linkRead true m chip link)
-  seenBy m (lookFlight chip link place) = ofFlight (calls.flightRead true m chip link place)
+  seenBy m (readCounter chip counter) = ofCount (looks.countRead true m chip counter)
+  seenBy m lookMesh = ofMesh (looks.meshRead true m)
+  seenBy m (lookLink chip link) = ofLink (looks.linkRead true m chip link)
+  seenBy m (lookFlight chip link place) = ofFlight (looks.flightRead true m chip link place)
 
   abbrev pub leftBy : (A → A) → A → Mesh A → Call → calls.Left A
   leftBy turn tag m (change (inject chip bytes t room)) = calls.injecting true t turn m room chip bytes tag

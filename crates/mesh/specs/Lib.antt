@@ -1,7 +1,10 @@
 pub mod Asked
 pub mod Calls
+pub mod Lending
+pub mod Looks
 pub mod Mesh
 pub mod Places
+pub mod Refusals
 pub mod Room
 pub mod Sound
 pub mod Steps

@@ -6,8 +6,8 @@ use lib.Dec.{eqb}
 use lib.ListN.{length}
 use Rattle.packet.specs.Refusal.{firstOf}
 use Rattle.tables.specs.Places.{startWrong, crowded, rowWrong, fixedWrong}
-use Rattle.mesh.specs.Steps.{Tables}
-use Rattle.mesh.specs.Calls.{tablesRefusals, placeIn}
+use Rattle.mesh.specs.Lending.{Tables}
+use Rattle.mesh.specs.Refusals.{tablesRefusals, placeIn}
 
 -- Whether the tables are wrong at a place: 15 a position of the starts, 16 a chip's rows, 17 a row of all that are lent, 18 a chip's fixed route.
 abbrev pub wrongAt : Tables → ℕ → ℕ → ℕ → Bool

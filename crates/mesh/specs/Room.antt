@@ -7,7 +7,8 @@ use lib.ListN.{length}
 use Rattle.tables.specs.Rows.{rowsOf}
 use Rattle.groups.specs.Grouping.{groupsLeft}
 use Rattle.mesh.specs.Mesh.{Mesh}
-use Rattle.mesh.specs.Steps.{Tables, Arrival, rowsAt, arrivingAt}
+use Rattle.mesh.specs.Lending.{Tables, rowsAt}
+use Rattle.mesh.specs.Steps.{Arrival, arrivingAt}
 
 -- The words of all packets that arrive at a chip: what its groups are asked for by.
 abbrev pub keysOf : {A : Type 0} → List (Arrival A) → List ℕ

@@ -1,9 +1,9 @@
 -- What happens in a mesh: a pass at a chip, an injection, a round. A pass is that of the router, with the chip's own ready set, tables and phase.
-use Prim.Native.Nat.{ℕ, zero, suc, _+_, _-_, _*_}
+use Prim.Native.Nat.{ℕ, zero, suc, _+_, _*_}
 use mathlib.Core.Bool.{cond}
 use mathlib.Core.List.{List, [], _∷_, _++_, map, foldl}
 use lib.Dec.{ltb}
-use lib.ListN.{getD, take, drop, set}
+use lib.ListN.{getD, set}
 use Rattle.packet.specs.declared.Packet.{Packet}
 use Rattle.steps.specs.declared.Outcome.{Outcome}
 use Rattle.steps.specs.declared.Setting.{Setting}
@@ -15,30 +15,7 @@ use Rattle.links.specs.Link.{Flight, Link, idle, linkAfter}
 use Rattle.links.specs.Across.{across, opposite}
 use Rattle.links.specs.Phase.{nextPhase}
 use Rattle.mesh.specs.Mesh.{Chip, Mesh, fresh, readyOf}
-use Rattle.tables.specs.Tables.{ChipTables, chipTables}
-
--- ---- tables
-
--- "All rows of the mesh in one slice, a second slice giving where each chip's rows start ..., and the P2P codes chip after chip." "Each chip gets one route of 26 bits, lent
--- with the tables": the fixed routes, a number for each chip. The length of the room for groups that is lent beside them, 0 where none is: no pass looks at it.
-pub record Tables : Type 0 where
-  pub rows : List ℕ
-  pub starts : List ℕ
-  pub codes : List ℕ
-  pub fixed : List ℕ
-  pub room : ℕ
-
-abbrev pub tablesOf : List ℕ → List ℕ → List ℕ → List ℕ → ℕ → Tables
-tablesOf rows starts codes fixed room = record { rows = rows; starts = starts; codes = codes; fixed = fixed; room = room }
-
-abbrev pub rowsAt : Tables → ℕ → List ℕ
-rowsAt t c = take ((getD (t .starts) (c + 1) 0 - getD (t .starts) c 0) * 3) (drop (getD (t .starts) c 0 * 3) (t .rows))
-
-abbrev pub codesAt : Tables → ℕ → ℕ → List ℕ
-codesAt t chips c = take chips (drop (c * chips) (t .codes))
-
-abbrev pub tablesAt : Tables → ℕ → ℕ → ChipTables
-tablesAt t chips c = chipTables (rowsAt t c) (codesAt t chips c) (getD (t .fixed) c 0)
+use Rattle.mesh.specs.Lending.{Tables, tablesAt}
 
 -- "A pass that hands a packet to at least one processor adds one log record of six 32-bit numbers: chip, processor set (bit k for processor k), error
 -- flags (1 parity, 2 age, 4 length, 8 bad local, added), control byte, word, payload or 0."

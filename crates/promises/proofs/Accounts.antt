@@ -11,7 +11,8 @@ use Rattle.kept.specs.Units.{weightIn, extra, weightSent, settled}
 use Rattle.packet.specs.Bytes.{packetAt}
 use Rattle.kept.proofs.OnePass as pass
 use Rattle.mesh.specs.Mesh.{Chip, Mesh, fresh, opened}
-use Rattle.mesh.specs.Steps.{Tables, Arrival, Going, setOut, settingAt, outcomeAt, setAside, arrivals, passAt, tablesAt}
+use Rattle.mesh.specs.Lending.{Tables, tablesAt}
+use Rattle.mesh.specs.Steps.{Arrival, Going, setOut, settingAt, outcomeAt, setAside, arrivals, passAt}
 use Rattle.mesh.specs.Calls.{chipOf}
 use Rattle.lists.specs.Lists.{total, All}
 use Rattle.mesh.specs.Weights.{onChip, onMesh}

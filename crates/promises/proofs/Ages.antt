@@ -8,7 +8,8 @@ use native.Mathlib.Omega.{arith}
 use Rattle.packet.specs.Bytes.{packetAt}
 use Rattle.steps.specs.Deciding.{Checked}
 use Rattle.mesh.specs.Mesh.{Mesh}
-use Rattle.mesh.specs.Steps.{Tables, Arrival, Going, settingAt, setAside, arrivals, setOut, tablesAt}
+use Rattle.mesh.specs.Lending.{Tables, tablesAt}
+use Rattle.mesh.specs.Steps.{Arrival, Going, settingAt, setAside, arrivals, setOut}
 use Rattle.lists.specs.Lists.{All}
 use Rattle.mesh.specs.Sound.{Arrives, SoundMesh}
 use Rattle.mesh.proofs.SoundArrivals.{sound-arrivals}

@@ -10,7 +10,8 @@ use lib.Seq.{getD-at}
 use Rattle.packet.specs.Bytes.{packetAt}
 use Rattle.steps.specs.declared.Outcome.{Outcome}
 use Rattle.links.specs.Link.{Flight}
-use Rattle.mesh.specs.Steps.{Tables, Arrival, setOut, setAside, arrivals}
+use Rattle.mesh.specs.Lending.{Tables}
+use Rattle.mesh.specs.Steps.{Arrival, setOut, setAside, arrivals}
 use Rattle.mesh.specs.Sound.{SoundMesh}
 use Rattle.mesh.proofs.SoundArrivals.{sound-arrivals}
 use Rattle.mesh.proofs.SoundSteps.{CodesFor, sound-aside}

@@ -15,7 +15,8 @@ use Rattle.lists.proofs.Alls.{all-weaken}
 use Rattle.lists.proofs.Totals.{total-same, total-none}
 use Rattle.links.specs.Link.{Flight}
 use Rattle.mesh.specs.Mesh.{Mesh}
-use Rattle.mesh.specs.Steps.{Tables, Arrival, Going, outcomeAt, passAt}
+use Rattle.mesh.specs.Lending.{Tables}
+use Rattle.mesh.specs.Steps.{Arrival, Going, outcomeAt, passAt}
 use Rattle.mesh.specs.Weights.{onLink, onChip, onMesh}
 use Rattle.mesh.specs.Sound.{Arrives, SoundMesh}
 use Rattle.promises.specs.History.{Tag, Passage, Event, packetPassed, registersEmptied, turned}

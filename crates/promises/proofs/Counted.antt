@@ -11,7 +11,8 @@ use lib.Seq.{getD-set-same, getD-set-other}
 use borrow.Author.Tests.{eqb-true, eqb-false, eq-eqb}
 use Rattle.kept.specs.Counting.{countsOf, plus, added, zeros}
 use Rattle.mesh.specs.Mesh.{Chip, Mesh, fresh}
-use Rattle.mesh.specs.Steps.{Tables, Arrival, setOut, emptiedChip, passAt}
+use Rattle.mesh.specs.Lending.{Tables}
+use Rattle.mesh.specs.Steps.{Arrival, setOut, emptiedChip, passAt}
 use Rattle.mesh.specs.Sound.{SoundMesh}
 use Rattle.lists.proofs.Changed.{set-keeps}
 use Rattle.promises.specs.History.{Tag, Passage, Event, packetPassed, registersEmptied, turned}

@@ -70,7 +70,7 @@ module _ (p : Passage) where
   pub length-dropped : Sets (p .outcome) → length (droppedUnits p) ≡ dropCount (p .outcome)
   length-dropped s =
       length-append (unitsOf p (o .dropped) 0) (unitsOf p (o .«leg_dropped») 1)
-      ∙ (λ k. length-units (o .dropped) 0 (s .dropped) k + length-units (o .«leg_dropped») 1 (s .lost) k)
+      ∙ (λ k. length-units (o .dropped) 0 (s .dropped) k + length-units (o .«leg_dropped») 1 (s .leg-dropped) k)
 
   -- a unit's packet with a source, a phase, a link, and so many units
   abbrev shown : ℕ → ℕ → ℕ → ℕ → ℕ → Registers
@@ -100,7 +100,7 @@ module _ (p : Passage) where
       count ds ls e f =
           length-append (by 0 ds) (by 1 ls)
           ∙ (λ k. (length-map ds (λ j. unit p j 0) ∙ ap length (sym e)) k + (length-map ls (λ j. unit p j 1) ∙ ap length (sym f)) k)
-          ∙ (λ k. listed (o .dropped) (s .dropped) .many k + listed (o .«leg_dropped») (s .lost) .many k)
+          ∙ (λ k. listed (o .dropped) (s .dropped) .many k + listed (o .«leg_dropped») (s .leg-dropped) .many k)
 
       -- a set whose first link is i
       there : (set i : ℕ) (is : List ℕ) → set < 64 → linksIn set ≡ i ∷ is → (set ≡ 0 → ⊥) × (i ≡ lowest set)
@@ -122,7 +122,7 @@ module _ (p : Passage) where
           let h = there (o .dropped) d ds (s .dropped) e in
           (λ k. shown (p .arrival .source) (p .setting .phase) (h .1 k) 0 (count (d ∷ ds) ls e f k)) ∙ told false (sym (ne-eqb (o .dropped) 0 (h .0)))
       go [] e (l ∷ ls) f =
-          let h = there (o .«leg_dropped») l ls (s .lost) f in
+          let h = there (o .«leg_dropped») l ls (s .leg-dropped) f in
           (λ k. shown (p .arrival .source) (p .setting .phase) (h .1 k) 1 (count [] (l ∷ ls) e f k))
           ∙ told true (sym (nothing (o .dropped) (s .dropped) e (eqb (o .dropped) 0) refl))
       go [] e [] f = absurd (some (sym (count [] [] e f)))

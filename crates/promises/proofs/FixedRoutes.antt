@@ -23,7 +23,7 @@ use Rattle.steps.specs.Detour.{carrySet, sendSet, dropSet, plainSendSet, plainD
 use Rattle.steps.specs.Errors.{flag, errorsOf, stampedOf}
 use Rattle.steps.specs.Wants.{wants, fixedWanted, wantedOf}
 use Rattle.steps.specs.Deciding.{decided, outcomeOf, markOn, packetOn, legPacket, legSet}
-use Rattle.steps.proofs.Stamping.{Stamped, stamped}
+use Rattle.steps.proofs.Stamping.{StampedFrom, stamped}
 use Rattle.promises.specs.FixedRoute.{SameMarks, SameWords, SameSets, Each, Alike, KeyAndRowsIgnored, AsMulticast}
 
 -- a new mark, and a new stamp, leave two packets alike
@@ -77,10 +77,10 @@ module _ (p q : Packet) (s : ℕ) (a b : ChipTables) (t : Setting) (like : Alike
   abbrev sq : Packet
   sq = stampedOf q s eq (t .phase)
 
-  after-p : Stamped p sp
+  after-p : StampedFrom p sp
   after-p = stamped p s ep (t .phase) (like .one) (like .phase)
 
-  after-q : Stamped q sq
+  after-q : StampedFrom q sq
   after-q = stamped q s eq (t .phase) (like .other) (like .phase)
 
   marked-p : isMarked (sp .control) ≡ true

@@ -12,7 +12,8 @@ use Rattle.steps.specs.Wants.{wantedOf}
 use Rattle.steps.specs.Deciding.{decided, outcomeOf}
 use Rattle.lists.specs.Lists.{All, upTo, total}
 use Rattle.lists.specs.Firsts.{firstFrom}
-use Rattle.mesh.specs.Steps.{Tables, tablesOf, linksAfter, arrivingFrom}
+use Rattle.mesh.specs.Lending.{Tables, tablesOf}
+use Rattle.mesh.specs.Steps.{linksAfter, arrivingFrom}
 use Rattle.mesh.specs.Asked.{Call, round, change}
 use Rattle.flood.specs.Ways.{Way, here, onward, within}
 use Rattle.flood.specs.Codes.{codesOf}

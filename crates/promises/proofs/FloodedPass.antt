@@ -1,6 +1,6 @@
 -- One pass of a P2P packet by flooded codes, in a mesh that has no other copy of it: it is sent on, one link nearer, or handed to the monitor.
 use mathlib.Core.Path.{_≡_, refl, sym, ap, _∙_, subst}
-use mathlib.Core.Bool.{true}
+use mathlib.Core.Bool.{true, true≢false}
 use mathlib.Core.List.{List, [], _∷_, _++_}
 use mathlib.Core.Logic.{inl, inr}
 use Prim.Native.Nat.{ℕ, zero, suc, _+_, _*_, _/_, _%_, _^_, _<_}
@@ -16,13 +16,13 @@ use Rattle.lists.specs.Lists.{All}
 use Rattle.lists.proofs.Alls.{all-append}
 use Rattle.lists.proofs.Firsts.{first-holds}
 use Rattle.mesh.specs.Mesh.{Mesh, readyOf}
-use Rattle.mesh.specs.Steps.{Tables, Arrival, Going, outcomeAt, passAt}
+use Rattle.mesh.specs.Lending.{Tables}
+use Rattle.mesh.specs.Steps.{Arrival, Going, outcomeAt, passAt}
 use Rattle.mesh.specs.Calls.{many}
 use Rattle.mesh.specs.Sound.{Arrives, SoundMesh}
 use Rattle.flood.specs.Ways.{beyond, within, fewest}
 use Rattle.flood.specs.Codes.{codeOf, codesOf}
 use Rattle.flood.specs.OnItsWay.{Follows, SentOn, Nearer, HandedOver}
-use Rattle.flood.proofs.Levels.{apart}
 use Rattle.flood.proofs.WaysWithin.{within-way}
 use Rattle.flood.proofs.OnItsWay.{one-link-nearer, handed-to-the-monitor}
 use Rattle.flood.proofs.SameLinks.{many-same, fewest-same, code-same, codes-same}
@@ -120,7 +120,7 @@ module _ (w : Trip) (t : Tables) (lent : t .codes ≡ codesOf (w .mesh)) (r : �
           links = λ i low sent own′.
               subst (λ (i : ℕ). Comes w (suc j) (beyond k chip i) (record { packet = packetOn (p .outcome) i; tag = turned (a .flight .tag) }))
               (sym (has-only c i (near .link) low (ap (λ (s : ℕ). has s i) (sym (near .sent .sent)) ∙ sent))) comes;
-          leg = λ i low sent own′. absurd (apart (sym sent ∙ ap (λ (s : ℕ). has s i) (near .sent .leg-sent) ∙ has-none i));
+          leg = λ i low sent own′. absurd (true≢false (sym sent ∙ ap (λ (s : ℕ). has s i) (near .sent .leg-sent) ∙ has-none i));
         }
 
     none : EachTo (Ours w (suc j)) k

@@ -10,7 +10,8 @@ use borrow.Author.Tests.{eq-eqb}
 use Rattle.packet.specs.Bytes.{packetAt}
 use Rattle.lists.proofs.Alls.{all-nil}
 use Rattle.mesh.specs.Mesh.{Mesh}
-use Rattle.mesh.specs.Steps.{Tables, setOut, injected}
+use Rattle.mesh.specs.Lending.{Tables}
+use Rattle.mesh.specs.Steps.{setOut, injected}
 use Rattle.mesh.specs.Asked.{Call}
 use Rattle.mesh.specs.Sound.{SoundMesh}
 use Rattle.mesh.proofs.SoundSteps.{sound-injected}

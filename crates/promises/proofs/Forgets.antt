@@ -19,7 +19,9 @@ use Rattle.mesh.specs.Mesh.{Chip, Mesh, fresh}
 use Rattle.buffer.specs.Layout.{meshOf}
 use Rattle.buffer.specs.Holding.{holdsMesh}
 use Rattle.mesh.specs.Steps.{Going, withChip, injected, rounded, same, setOut}
+use Rattle.mesh.specs.Refusals as refusals
 use Rattle.mesh.specs.Calls as calls
+use Rattle.mesh.specs.Looks as looks
 use Rattle.mesh.specs.Weights.{inFlight}
 use Rattle.mesh.specs.Asked.{Look, Call, inject, round, setLink, readRegisters, readCounter, lookMesh, lookLink, lookFlight, change, look, refusalOf, seenBy, ofAdded, ofRefusal, ofRegisters, ofCount, ofMesh, ofLink, ofFlight, leftBy, answerOf, Seen, ofLook}
 use Rattle.promises.specs.History.{Tag, turned, tagNow, accepted, after}
@@ -55,9 +57,9 @@ module _ {A : Type 0} where
       plain-with m chip _
       ∙ ap (λ (x : Chip (Unit {0})). withChip (plain m) chip (record { registers = empty; counters = x .counters; links = x .links })) (sym (plain-chip m chip))
 
-  plain-looked : (m : Mesh A) (chip link : ℕ) → calls.linkRead true m chip link ≡ calls.linkRead true (plain m) chip link
+  plain-looked : (m : Mesh A) (chip link : ℕ) → looks.linkRead true m chip link ≡ looks.linkRead true (plain m) chip link
   plain-looked m chip link =
-      let n = firstOf (calls.linkRefusals true (calls.many m) chip link) in
+      let n = firstOf (refusals.linkRefusals true (calls.many m) chip link) in
       let l = calls.linkOf m chip link in
       let answer : Bool → ℕ → Bool → LinkRead =
       λ up held ready.
@@ -70,42 +72,42 @@ module _ {A : Type 0} where
   plain-packets [] = refl
   plain-packets (f ∷ fs) = ap (λ (ps : List Packet). f .packet ∷ ps) (plain-packets fs)
 
-  plain-seen : (m : Mesh A) (chip link place : ℕ) → calls.flightRead true m chip link place ≡ calls.flightRead true (plain m) chip link place
+  plain-seen : (m : Mesh A) (chip link place : ℕ) → looks.flightRead true m chip link place ≡ looks.flightRead true (plain m) chip link place
   plain-seen m chip link place =
-      let n = firstOf (calls.linkRefusals true (calls.many m) chip link) in
+      let n = firstOf (refusals.linkRefusals true (calls.many m) chip link) in
       let l = calls.linkOf m chip link in
       let answer : ℕ → List Packet → FlightRead =
       λ held packets.
-      cond (eqb n 0) (cond (ltb place held) (record { refusal = 0; packet = getD packets place nothing }) (calls.noFlight 9)) (calls.noFlight n) in
+      cond (eqb n 0) (cond (ltb place held) (record { refusal = 0; packet = getD packets place nothing }) (looks.noFlight 9)) (looks.noFlight n) in
       (λ k. answer (sym (length-map (l .held) plainFlight) k) (plain-packets (l .held) k))
       ∙ ap (λ (x : Link (Unit {0})). answer (length (x .held)) (map (λ (f : Flight (Unit {0})). f .packet) (x .held))) (sym (plain-of m chip link))
 
   forgets-seen : (m : Mesh A) (l : Look) → seenBy m l ≡ seenBy (plain m) l
   forgets-seen m (readCounter chip counter) =
-      let n = firstOf (calls.counterRefusals true (calls.many m) chip counter) in
+      let n = firstOf (refusals.counterRefusals true (calls.many m) chip counter) in
       ap (λ (x : Chip (Unit {0})). ofCount (record { refusal = n; count = cond (eqb n 0) (getD (x .counters .count) counter 0) 0 })) (sym (plain-chip m chip))
-  forgets-seen m lookMesh = ap (λ (flying : ℕ). ofMesh (calls.meshShown m flying)) (sym (plain-flying m))
+  forgets-seen m lookMesh = ap (λ (flying : ℕ). ofMesh (looks.meshShown m flying)) (sym (plain-flying m))
   forgets-seen m (lookLink chip link) = ap ofLink (plain-looked m chip link)
   forgets-seen m (lookFlight chip link place) = ap ofFlight (plain-seen m chip link place)
 
   module _ (turn : A → A) (tag : A) (m : Mesh A) where
     forgets-left : (c : Call) → plainLeft (leftBy turn tag m c) ≡ leftBy same tt (plain m) c
     forgets-left (change (inject chip bytes t room)) =
-        let n = firstOf (calls.injectRefusals true (calls.many m) chip t room bytes) in
+        let n = firstOf (refusals.injectRefusals true (calls.many m) chip t room bytes) in
         let f : Flight A = record { packet = packetAt bytes; tag = tag } in
-        plain-unless n (calls.placeIn t (calls.many m) n) m (injected t turn m chip f)
-        ∙ ap (λ (g : Going (Unit {0})). calls.unless n (calls.placeIn t (calls.many m) n) (plain m) g)
+        plain-unless n (refusals.placeIn t (calls.many m) n) m (injected t turn m chip f)
+        ∙ ap (λ (g : Going (Unit {0})). calls.unless n (refusals.placeIn t (calls.many m) n) (plain m) g)
         (plain-pass t turn (setOut m) (record { chip = chip; source = 7; flight = f }))
     forgets-left (change (round t room)) =
-        let number : ℕ → ℕ = λ flying. firstOf (calls.roundRefusals true (calls.many m) flying t room) in
-        plain-unless (number (inFlight m)) (calls.placeIn t (calls.many m) (number (inFlight m))) m (rounded t turn m)
-        ∙ (λ k. calls.unless (number (sym (plain-flying m) k)) (calls.placeIn t (calls.many m) (number (sym (plain-flying m) k))) (plain m) (plain-rounded t turn m k))
+        let number : ℕ → ℕ = λ flying. firstOf (refusals.roundRefusals true (calls.many m) flying t room) in
+        plain-unless (number (inFlight m)) (refusals.placeIn t (calls.many m) (number (inFlight m))) m (rounded t turn m)
+        ∙ (λ k. calls.unless (number (sym (plain-flying m) k)) (refusals.placeIn t (calls.many m) (number (sym (plain-flying m) k))) (plain m) (plain-rounded t turn m k))
     forgets-left (change (setLink chip link up)) =
-        let n = firstOf (calls.linkRefusals true (calls.many m) chip link) in
+        let n = firstOf (refusals.linkRefusals true (calls.many m) chip link) in
         plain-unless n 0 m (setOut (calls.withLink m chip link up))
         ∙ ap (λ (x : Mesh (Unit {0})). calls.unless n 0 (plain m) (setOut x)) (plain-set m chip link up)
     forgets-left (change (readRegisters chip)) =
-        let n = firstOf (calls.chipRefusals true (calls.many m) chip) in
+        let n = firstOf (refusals.chipRefusals true (calls.many m) chip) in
         plain-unless n 0 m (setOut (calls.withEmpty m chip))
         ∙ ap (λ (x : Mesh (Unit {0})). calls.unless n 0 (plain m) (setOut x)) (plain-empty m chip)
     forgets-left (look l) = ap (λ (r : Seen). record { refusal = refusalOf r; place = 0; mesh = plain m; log = [] }) (forgets-seen m l)
@@ -115,7 +117,7 @@ module _ {A : Type 0} where
     forgets-answer (change (round t room)) = ap (λ (r : calls.Left (Unit {0})). ofAdded (calls.addedOf r)) (forgets-left (change (round t room)))
     forgets-answer (change (setLink chip link up)) = ap (λ (r : calls.Left (Unit {0})). ofRefusal (r .refusal)) (forgets-left (change (setLink chip link up)))
     forgets-answer (change (readRegisters chip)) =
-        let n = firstOf (calls.chipRefusals true (calls.many m) chip) in
+        let n = firstOf (refusals.chipRefusals true (calls.many m) chip) in
         ap (λ (x : Chip (Unit {0})). ofRegisters (record { refusal = n; registers = cond (eqb n 0) (x .registers) empty })) (sym (plain-chip m chip))
     forgets-answer (look l) = ap ofLook (forgets-seen m l)
 

@@ -15,7 +15,8 @@ use Rattle.lists.specs.Lists.{total}
 use Rattle.lists.proofs.Alls.{all-or}
 use Rattle.links.specs.Link.{Flight, Link, idle}
 use Rattle.mesh.specs.Mesh.{Chip, Mesh, fresh}
-use Rattle.mesh.specs.Steps.{Tables, setOut, injected}
+use Rattle.mesh.specs.Lending.{Tables}
+use Rattle.mesh.specs.Steps.{setOut, injected}
 use Rattle.mesh.specs.Calls.{many, chipOf, linkOf}
 use Rattle.mesh.specs.Weights.{onLink, onChip, inFlight}
 use Rattle.mesh.specs.Asked.{Call}

@@ -1,6 +1,6 @@
 -- What GrownTree assumes can be met: on a mesh of 2 by 1 with F = 1, a tree from chip 0 to processor 3 of chip 1, a packet with its key, and one round. All of it is computed.
 use mathlib.Core.Path.{_≡_, refl, sym}
-use mathlib.Core.Bool.{true, false}
+use mathlib.Core.Bool.{true, false, false≢true}
 use mathlib.Core.List.{List, [], _∷_}
 use Prim.Native.Nat.{ℕ, zero, suc, _≤_, _<_}
 use native.Mathlib.Omega.{arith}
@@ -17,9 +17,9 @@ use Rattle.lists.specs.Lists.{All, upTo, total}
 use Rattle.lists.proofs.Alls.{all-or, all-replicate}
 use Rattle.links.specs.Link.{idle}
 use Rattle.mesh.specs.Calls.{linkOf}
-use Rattle.mesh.specs.Steps.{Tables, tablesOf, linksAfter, arrivingFrom}
+use Rattle.mesh.specs.Lending.{Tables, tablesOf}
+use Rattle.mesh.specs.Steps.{linksAfter, arrivingFrom}
 use Rattle.mesh.specs.Asked.{Call, round, change}
-use Rattle.flood.proofs.Levels.{apart}
 use Rattle.tree.specs.Way.{linksOf, wayTo}
 use Rattle.tree.specs.Growing.{targetsOf, lastShared, added, grownBy}
 use Rattle.tree.specs.Rows.{startOf}
@@ -59,25 +59,22 @@ unfolding isMarked isStamped ones onesIn
 matching = record { multicast = refl; unmarked = refl; errors = refl; matching = refl }
 
 -- chip 0 has link 1 alone, and chip 1 has none
-false-not : {X : Type 0} → false ≡ true → X
-false-not e = absurd (apart (sym e))
-
 deep : AtMostDeep a 1
 unfolding All along targetsOf grownBy added lastShared linksOf wayTo
 deep [] low e = lit≤ tt
 deep (i ∷ []) low e = lit≤ tt
-deep (zero ∷ k ∷ is) low e = false-not e
-deep (suc zero ∷ zero ∷ is) low e = false-not e
-deep (suc zero ∷ suc zero ∷ is) low e = false-not e
-deep (suc zero ∷ suc (suc zero) ∷ is) low e = false-not e
-deep (suc zero ∷ suc (suc (suc zero)) ∷ is) low e = false-not e
-deep (suc zero ∷ suc (suc (suc (suc zero))) ∷ is) low e = false-not e
-deep (suc zero ∷ suc (suc (suc (suc (suc zero)))) ∷ is) low e = false-not e
+deep (zero ∷ k ∷ is) low e = absurd (false≢true e)
+deep (suc zero ∷ zero ∷ is) low e = absurd (false≢true e)
+deep (suc zero ∷ suc zero ∷ is) low e = absurd (false≢true e)
+deep (suc zero ∷ suc (suc zero) ∷ is) low e = absurd (false≢true e)
+deep (suc zero ∷ suc (suc (suc zero)) ∷ is) low e = absurd (false≢true e)
+deep (suc zero ∷ suc (suc (suc (suc zero))) ∷ is) low e = absurd (false≢true e)
+deep (suc zero ∷ suc (suc (suc (suc (suc zero)))) ∷ is) low e = absurd (false≢true e)
 deep (suc zero ∷ suc (suc (suc (suc (suc (suc k))))) ∷ is) low e = absurd (omega (arith, low .1 .0))
-deep (suc (suc zero) ∷ k ∷ is) low e = false-not e
-deep (suc (suc (suc zero)) ∷ k ∷ is) low e = false-not e
-deep (suc (suc (suc (suc zero))) ∷ k ∷ is) low e = false-not e
-deep (suc (suc (suc (suc (suc zero)))) ∷ k ∷ is) low e = false-not e
+deep (suc (suc zero) ∷ k ∷ is) low e = absurd (false≢true e)
+deep (suc (suc (suc zero)) ∷ k ∷ is) low e = absurd (false≢true e)
+deep (suc (suc (suc (suc zero))) ∷ k ∷ is) low e = absurd (false≢true e)
+deep (suc (suc (suc (suc (suc zero)))) ∷ k ∷ is) low e = absurd (false≢true e)
 deep (suc (suc (suc (suc (suc (suc i))))) ∷ k ∷ is) low e = absurd (omega (arith, low .0))
 
 all-up : (chip i : ℕ) → chip < 2 → i < 6 → linkOf (s .mesh) chip i .up ≡ true

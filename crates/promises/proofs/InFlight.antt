@@ -18,7 +18,8 @@ use Rattle.lists.proofs.Six.{six}
 use Rattle.lists.proofs.Totals.{total-append, total-none, total-map, total-set}
 use Rattle.links.specs.Link.{Flight, Link, idle, sent, linkAfter}
 use Rattle.mesh.specs.Mesh.{Chip, Mesh, fresh}
-use Rattle.mesh.specs.Steps.{Tables, Arrival, Going, outcomeAt, linksAfter, chipAfter, withChip, emptied, emptiedChip, setAside, arrivals, passAt}
+use Rattle.mesh.specs.Lending.{Tables}
+use Rattle.mesh.specs.Steps.{Arrival, Going, outcomeAt, linksAfter, chipAfter, withChip, emptied, emptiedChip, setAside, arrivals, passAt}
 use Rattle.mesh.specs.Calls.{chipOf, linkOf, withUp, withLink, withEmpty}
 use Rattle.mesh.specs.Weights.{onLink, onChip, onMesh}
 use Rattle.mesh.specs.Sound.{Arrives, SoundMesh}

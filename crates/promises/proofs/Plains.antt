@@ -15,7 +15,8 @@ use Rattle.kept.specs.Counting.{countedOf}
 use Rattle.links.specs.Link.{Flight, Link, idle, isReady, sent, linkAfter, readyLinks}
 use Rattle.links.specs.Across.{across, opposite}
 use Rattle.mesh.specs.Mesh.{Chip, Mesh, fresh}
-use Rattle.mesh.specs.Steps.{Tables, Arrival, Going, outcomeAt, logOf, linksAfter, chipAfter, withChips, withChip, emptied, emptiedChip, setAside, arrivingBy, arrivingAt, arrivingFrom, arrivals, roundOver, passAt, passed, rounded, same, setOut, tablesAt}
+use Rattle.mesh.specs.Lending.{Tables, tablesAt}
+use Rattle.mesh.specs.Steps.{Arrival, Going, outcomeAt, logOf, linksAfter, chipAfter, withChips, withChip, emptied, emptiedChip, setAside, arrivingBy, arrivingAt, arrivingFrom, arrivals, roundOver, passAt, passed, rounded, same, setOut}
 use Rattle.lists.specs.Lists.{total}
 use Rattle.mesh.specs.Weights.{onLink, onChip, inFlight}
 use Rattle.lists.proofs.Changed.{map-set}

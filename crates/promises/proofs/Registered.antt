@@ -13,7 +13,8 @@ use Rattle.steps.specs.Deciding.{decided, outcomeOf}
 use Rattle.kept.specs.Keeping.{empty, keptOf}
 use Rattle.steps.proofs.Bounds.{outcome-sets}
 use Rattle.mesh.specs.Mesh.{Chip, Mesh, fresh}
-use Rattle.mesh.specs.Steps.{Tables, Arrival, setOut, settingAt, emptiedChip, passAt, tablesAt}
+use Rattle.mesh.specs.Lending.{Tables, tablesAt}
+use Rattle.mesh.specs.Steps.{Arrival, setOut, settingAt, emptiedChip, passAt}
 use Rattle.mesh.specs.Calls.{withEmpty}
 use Rattle.mesh.specs.Sound.{Arrives, SoundMesh}
 use Rattle.lists.proofs.Changed.{set-keeps}

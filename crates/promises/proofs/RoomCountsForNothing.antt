@@ -17,8 +17,10 @@ use Rattle.groups.specs.Room.{longest, roomShort}
 use Rattle.steps.specs.declared.Setting.{Setting}
 use Rattle.router.specs.Call.{settingFine, sourceFine, passRefusals, checkedOf, answer, passOf}
 use Rattle.mesh.specs.Mesh.{Mesh}
-use Rattle.mesh.specs.Steps.{Tables, Going, injected, rounded, same}
-use Rattle.mesh.specs.Calls.{Left, many, unless, tablesRefusals, injectRefusals, roundRefusals, placeIn, injecting, rounding, linking, emptying, addedOf}
+use Rattle.mesh.specs.Lending.{Tables}
+use Rattle.mesh.specs.Steps.{Going, injected, rounded, same}
+use Rattle.mesh.specs.Refusals.{tablesRefusals, injectRefusals, roundRefusals, placeIn}
+use Rattle.mesh.specs.Calls.{Left, many, unless, injecting, rounding, linking, emptying, addedOf}
 use Rattle.mesh.specs.Weights.{inFlight}
 use Rattle.mesh.specs.Asked.{change, look, inject, round, setLink, readRegisters, ofAdded}
 use Rattle.records.specs.declared.Call.{Call}

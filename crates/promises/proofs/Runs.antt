@@ -9,7 +9,8 @@ use native.Mathlib.Omega.{arith}
 use lib.ListN.{getD}
 use lib.Seq.{getD-set-same}
 use Rattle.mesh.specs.Mesh.{Mesh, fresh, opened}
-use Rattle.mesh.specs.Steps.{Tables, Arrival, Going, setOut, settingAt, outcomeAt, logOf, chipAfter, setAside, arrivals, roundOver, passAt, tablesAt}
+use Rattle.mesh.specs.Lending.{Tables, tablesAt}
+use Rattle.mesh.specs.Steps.{Arrival, Going, setOut, settingAt, outcomeAt, logOf, chipAfter, setAside, arrivals, roundOver, passAt}
 use Rattle.mesh.specs.Calls.{withLink, withEmpty}
 use Rattle.lists.specs.Lists.{All}
 use Rattle.mesh.specs.Sound.{Arrives, SoundMesh}

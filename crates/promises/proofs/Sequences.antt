@@ -6,7 +6,8 @@ use Prim.Native.Nat.{ℕ, _-_}
 use lib.Dec.{eqb}
 use lib.ListN.{length}
 use Rattle.mesh.specs.Mesh.{Mesh}
-use Rattle.mesh.specs.Steps.{Tables, same}
+use Rattle.mesh.specs.Lending.{Tables}
+use Rattle.mesh.specs.Steps.{same}
 use Rattle.mesh.specs.Calls.{Left}
 use Rattle.records.specs.declared.Call.{Call as KeptCall}
 use Rattle.records.specs.Records.{packetOf}

@@ -18,7 +18,7 @@ use Rattle.mesh.specs.Mesh.{Mesh}
 use Rattle.mesh.specs.Steps.{Arrival, arrivingBy, arrivingAt}
 use Rattle.mesh.specs.Calls.{linkOf}
 use Rattle.mesh.specs.Sound.{SoundPacket}
-use Rattle.mesh.proofs.SoundArrivals.{opposite-there}
+use Rattle.links.proofs.Crossing.{opposite-there}
 use Rattle.flood.proofs.WholeWay.{no-error}
 use Rattle.promises.specs.History.{Tag}
 use Rattle.promises.specs.Told.{Stamped, EachFlight}

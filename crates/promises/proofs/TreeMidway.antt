@@ -1,7 +1,7 @@
 -- In the midst of a round by a grown tree: the chips below one are done, the others not yet. A chip that gets nothing is done as it is, and one that gets its copy is done by the pass.
 use Prim.Native.Nat.{ℕ, suc, _+_, _/_, _≤_, _<_}
 use mathlib.Core.Path.{_≡_, sym, ap, _∙_, subst}
-use mathlib.Core.Bool.{Bool, false, cond, _&&_, and-true, and-false, and-eq-true-iff}
+use mathlib.Core.Bool.{Bool, false, cond, _&&_, and-true, and-false, and-eq-true-iff, true≢false}
 use mathlib.Core.List.{List, [], _∷_, _++_}
 use native.Mathlib.Decide.{ℕ-discrete, decLt}
 use native.Mathlib.Omega.{arith}
@@ -11,7 +11,6 @@ use Rattle.steps.specs.Links.{has}
 use Rattle.steps.proofs.Sets.{has-none}
 use Rattle.mesh.specs.Mesh.{Mesh}
 use Rattle.mesh.specs.Calls.{linkOf}
-use Rattle.flood.proofs.Levels.{apart}
 use Rattle.promises.specs.History.{Tag, Passage, Event, packetPassed}
 use Rattle.promises.specs.Told.{EachPass, sumOf}
 use Rattle.promises.specs.GrownTree.{handed}
@@ -33,7 +32,7 @@ module _ (w : Trip) where
   none-leaves l c i no-route =
       shape.not-both _ (λ e.
       let both = and-eq-true-iff (leads w c i) (eqb (depth w c) l) .0 e in
-      apart (sym (both .0) ∙ ap (λ (r : ℕ). has r i) (no-route (eqb-true _ _ (both .1))) ∙ has-none i))
+      true≢false (sym (both .0) ∙ ap (λ (r : ℕ). has r i) (no-route (eqb-true _ _ (both .1))) ∙ has-none i))
 
   pub nobody : (l c q : ℕ) → route w c ≡ 0 → handedDown l c q ≡ 0
   nobody l c q e =

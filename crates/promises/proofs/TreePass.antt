@@ -1,7 +1,7 @@
 -- One pass by a grown tree: where all six links of a chip are free, a matching packet without error and without a mark is sent by each link of the chip's route and handed to its processors, and nothing else is done with it.
 use Prim.Native.Nat.{ℕ, zero, suc, _+_, _/_, _%_, _^_, _<_}
 use mathlib.Core.Path.{_≡_, refl, sym, ap, _∙_, subst}
-use mathlib.Core.Bool.{Bool, true, false, cond, not, _&&_, _||_, and-false}
+use mathlib.Core.Bool.{Bool, true, false, cond, not, _&&_, _||_, and-false, true≢false}
 use mathlib.Core.List.{[], _∷_}
 use mathlib.Core.Logic.{_⊎_, inl, inr}
 use native.Mathlib.Nat.{mod-lt}
@@ -26,7 +26,6 @@ use Rattle.steps.proofs.Sets.{has-none, has-set}
 use Rattle.steps.proofs.Stamping.{outcome-stamped}
 use Rattle.steps.proofs.SentPackets.{sent-marked}
 use Rattle.links.specs.Across.{opposite}
-use Rattle.flood.proofs.Levels.{apart}
 use Rattle.tree.specs.Rows.{needsRow}
 
 -- what a pass does with a packet by a route
@@ -128,7 +127,7 @@ pub record Fits (key mask : ℕ) (p : Packet) : Type 0 where
 straight : (entered route source : ℕ) → ComesBy entered source → needsRow entered route ≡ false → (eqb source 7 ≡ false) × (2 ^ link (source + 3) ≡ route)
 straight entered route source (inl x) e =
     let z : _≡_ {A = Bool} true false = ap (λ (k : ℕ). needsRow k route) (sym (x .1)) ∙ e in
-    absurd (apart z)
+    absurd (true≢false z)
 straight entered route source (inr x) e =
     let same : route ≡ 2 ^ entered = eqb-true _ _ (not-false _ (ap (λ (b : Bool). cond b (not (eqb route (2 ^ entered))) (eqb entered 6)) (sym (lt-ltb entered 6 (x .0))) ∙ e)) in
     let back : link (source + 3) ≡ entered = omega (arith, x .0, x .1) in

@@ -10,10 +10,12 @@ use lib.ListN.{getD, List·getD-map}
 use Rattle.links.specs.Link.{Link, idle}
 use Rattle.links.specs.Across.{opposite}
 use Rattle.mesh.specs.Mesh.{Chip, Mesh, fresh}
-use Rattle.mesh.specs.Steps.{Tables, Arrival, Going, emptied, emptiedChip, setAside, arrivingAt, arrivingFrom, passAt}
+use Rattle.mesh.specs.Lending.{Tables}
+use Rattle.mesh.specs.Steps.{Arrival, Going, emptied, emptiedChip, setAside, arrivingAt, arrivingFrom, passAt}
 use Rattle.mesh.specs.Calls.{many, chipOf, linkOf}
 use Rattle.mesh.specs.Sound.{SoundPacket, Arrives, SoundMesh}
-use Rattle.mesh.proofs.SoundArrivals.{sound-passable, opposite-there}
+use Rattle.links.proofs.Crossing.{opposite-there}
+use Rattle.mesh.proofs.SoundArrivals.{sound-passable}
 use Rattle.mesh.proofs.SoundSteps.{CodesFor, sound-pass}
 use Rattle.flood.proofs.SameLinks.{many-same}
 use Rattle.promises.specs.History.{Tag, Event, packetPassed, turned, passages}

@@ -9,7 +9,7 @@ use lib.ListN.{length, getD, take, drop}
 use lib.Seq.{take-at, drop-at}
 use borrow.Author.Tests.{eq-eqb}
 use Rattle.lists.proofs.UpTo.{rest, upto-split}
-use Rattle.mesh.specs.Steps.{Tables, rowsAt}
+use Rattle.mesh.specs.Lending.{Tables, rowsAt}
 use Rattle.flood.proofs.ChipAfterChip.{at-each}
 use Rattle.tree.specs.Growing.{Grown}
 use Rattle.tree.specs.Rows.{hasRow, routeAt, startOf, rowOf, rowsBelow, startsBelow}

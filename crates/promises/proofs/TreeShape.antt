@@ -1,7 +1,7 @@
 -- The shape of a grown tree: what leads into a chip, where a chip of the tree hangs, that every chip of it is reached by links along it, and so how deep it can be.
 use Prim.Native.Nat.{ℕ, zero, suc, _+_, _*_, _≤_, _<_}
 use mathlib.Core.Path.{_≡_, refl, sym, ap, _∙_, subst}
-use mathlib.Core.Bool.{Bool, true, false, and-true, and-eq-true-iff}
+use mathlib.Core.Bool.{Bool, true, false, and-true, and-eq-true-iff, true≢false}
 use mathlib.Core.List.{List, [], _∷_, _++_}
 use mathlib.Core.Logic.{_⊎_, inl, inr, ⊎-elim}
 use native.Mathlib.Decide.{ℕ-discrete, decLt}
@@ -13,8 +13,7 @@ use Rattle.lists.specs.Lists.{All}
 use Rattle.lists.proofs.Alls.{all-append}
 use Rattle.links.specs.Across.{across, opposite}
 use Rattle.tables.proofs.Sizes as sizes
-use Rattle.mesh.proofs.SoundArrivals.{across-there, opposite-there}
-use Rattle.flood.proofs.Levels.{apart}
+use Rattle.links.proofs.Crossing.{across-there, opposite-there}
 use Rattle.tree.specs.Rows.{enteredAt, routeAt}
 use Rattle.tree.specs.Rooted.{isLink, Rooted}
 use Rattle.tree.specs.Promises.{chipAfter}
@@ -74,7 +73,7 @@ module _ (a : Asked) (none : refusal a ≡ 0) where
 
   -- a link of the tree leaves a chip of it
   pub inside : (c i : ℕ) → c < all → leads c i ≡ true → entered c ≡ 7 → ⊥
-  inside c i there e out = apart (sym e ∙ ap (λ (r : ℕ). has r i) (rooted .outside c there out) ∙ has-none i)
+  inside c i there e out = true≢false (sym e ∙ ap (λ (r : ℕ). has r i) (rooted .outside c there out) ∙ has-none i)
 
   -- where a chip of the tree hangs
   pub record Hangs (c : ℕ) : Type 0 where

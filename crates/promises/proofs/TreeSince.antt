@@ -15,7 +15,8 @@ use Rattle.steps.proofs.Sets.{has-none}
 use Rattle.lists.specs.Lists.{All}
 use Rattle.links.specs.Link.{Flight, idle}
 use Rattle.mesh.specs.Mesh.{fresh}
-use Rattle.mesh.specs.Steps.{Tables, setOut, setAside, arrivals}
+use Rattle.mesh.specs.Lending.{Tables}
+use Rattle.mesh.specs.Steps.{setOut, setAside, arrivals}
 use Rattle.mesh.specs.Calls.{linkOf}
 use Rattle.mesh.specs.Asked.{Call}
 use Rattle.mesh.specs.Sound.{SoundMesh}

@@ -16,7 +16,8 @@ use Rattle.steps.specs.Deciding.{packetOn, legPacket}
 use Rattle.steps.proofs.Sets.{has-none}
 use Rattle.links.specs.Link.{Flight, Link, idle, isReady, sent, linkAfter}
 use Rattle.mesh.specs.Mesh.{Chip, Mesh, fresh, readyOf}
-use Rattle.mesh.specs.Steps.{Tables, Arrival, Going, outcomeAt, settingAt, tablesAt, passAt}
+use Rattle.mesh.specs.Lending.{Tables, tablesAt}
+use Rattle.mesh.specs.Steps.{Arrival, Going, outcomeAt, settingAt, passAt}
 use Rattle.mesh.specs.Calls.{chipOf, linkOf}
 use Rattle.mesh.specs.Sound.{Arrives, SoundMesh}
 use Rattle.mesh.proofs.SoundChanges.{chip-sound}

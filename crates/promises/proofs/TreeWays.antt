@@ -13,7 +13,7 @@ use Rattle.tables.proofs.Sizes.{Size, size}
 use Rattle.mesh.specs.Mesh.{Mesh}
 use Rattle.mesh.specs.Calls.{many}
 use Rattle.mesh.specs.Sound.{SoundMesh}
-use Rattle.mesh.proofs.SoundArrivals.{across-there}
+use Rattle.links.proofs.Crossing.{across-there}
 use Rattle.flood.specs.Ways.{Way, here, onward, beyond, within, fewest}
 use Rattle.flood.proofs.WaysWithin.{within-way}
 use Rattle.flood.proofs.FewestLinks.{fewest-least}

@@ -67,7 +67,7 @@ module _ (p : Packet) (s : ℕ) (tables : ChipTables) (t : Setting) (h : Checked
       let o = outcomeOf p s tables t in
       (λ j. overLinks (λ i. cond (has (o .sent) i) (on-weighs i j) 0 + cond (has (o .«leg_sent») i) (leg-weighs j) 0))
       ∙ over-add (λ i. cond (has (o .sent) i) (cond (eqb (markOn o i) 1) 2 1) 0) (λ i. cond (has (o .«leg_sent») i) 1 0)
-      ∙ ap (λ (n : ℕ). overLinks (λ i. cond (has (o .sent) i) (cond (eqb (markOn o i) 1) 2 1) 0) + n) (links-ones (o .«leg_sent») (outcome-sets p s tables t .leg))
+      ∙ ap (λ (n : ℕ). overLinks (λ i. cond (has (o .sent) i) (cond (eqb (markOn o i) 1) 2 1) 0) + n) (links-ones (o .«leg_sent») (outcome-sets p s tables t .leg-sent))
 
   -- so a chip of six links weighs more by what the pass sends
   pub chip-weighs-sent : {A : Type 0} (tag : A) (c : Chip A) → length (c .links) ≡ 6
@@ -85,5 +85,5 @@ module _ (p : Packet) (s : ℕ) (tables : ChipTables) (t : Setting) (h : Checked
         chip-gains (λ x. 1) o tag c links,
         over-add (λ i. cond (has (o .sent) i) 1 0) (λ i. cond (has (o .«leg_sent») i) 1 0),
         links-ones (o .sent) (sets .sent),
-        links-ones (o .«leg_sent») (sets .leg),
+        links-ones (o .«leg_sent») (sets .leg-sent),
       )

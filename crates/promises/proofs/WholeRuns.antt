@@ -12,7 +12,8 @@ use Rattle.trace.specs.Replay.{replayOf, Replays, Replay, replaying, replayedOf
 use Rattle.promises.specs.History.{Tag, State, begun, turned, tagNow, after}
 use native.Mathlib.Omega.{arith}
 use lib.Seq.{take-at}
-use Rattle.mesh.specs.Steps.{Tables, same}
+use Rattle.mesh.specs.Lending.{Tables}
+use Rattle.mesh.specs.Steps.{same}
 use borrow.Author.Tests.{ne-eqb}
 use Rattle.buffer.specs.Opening.{openedWords, opening}
 use Rattle.mesh.specs.Asked.{Call, Answer, leftBy, answerOf}

@@ -12,7 +12,8 @@ use Rattle.links.specs.Link.{Flight, idle, isReady}
 use Rattle.mesh.specs.Mesh.{Mesh, fresh, opened}
 use Rattle.buffer.specs.Layout.{meshOf}
 use Rattle.buffer.specs.Holding.{holdsMesh}
-use Rattle.mesh.specs.Steps.{Tables, same}
+use Rattle.mesh.specs.Lending.{Tables}
+use Rattle.mesh.specs.Steps.{same}
 use Rattle.mesh.specs.Weights.{onMesh}
 use Rattle.buffer.specs.Leaving.{Leaves}
 use Rattle.lists.specs.Lists.{All}

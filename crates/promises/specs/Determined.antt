@@ -26,8 +26,9 @@ use Rattle.buffer.specs.Layout.{meshOf, wordsFor, wordsOf}
 use Rattle.buffer.specs.Opening.{sizeOf, openRefusals, opening}
 use Rattle.buffer.specs.Holding.{holdsMesh}
 use Rattle.mesh.specs.Sound.{SoundLink}
-use Rattle.mesh.specs.Steps.{Tables}
-use Rattle.mesh.specs.Calls.{Left, many, chipOf, linkOf, registersRead, countRead, meshRead, linkRead, flightRead}
+use Rattle.mesh.specs.Lending.{Tables}
+use Rattle.mesh.specs.Calls.{Left, many, chipOf, linkOf, registersRead}
+use Rattle.mesh.specs.Looks.{countRead, meshRead, linkRead, flightRead}
 use Rattle.buffer.specs.Leaving.{Leaves, Moves, linkLeft, roundRoom}
 use Rattle.flood.specs.Codes.{floodRefusal, flooded}
 use Rattle.fewer.specs.declared.Fewer.{Fewer}

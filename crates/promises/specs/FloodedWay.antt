@@ -10,7 +10,7 @@ use Rattle.packet.specs.Bytes.{packetAt}
 use Rattle.steps.specs.Links.{has}
 use Rattle.lists.specs.Lists.{All}
 use Rattle.mesh.specs.Mesh.{Mesh}
-use Rattle.mesh.specs.Steps.{Tables}
+use Rattle.mesh.specs.Lending.{Tables}
 use Rattle.mesh.specs.Asked.{Call, inject, round, setLink, readRegisters, change, look, leftBy}
 use Rattle.flood.specs.Ways.{Way, isUp, fewest}
 use Rattle.flood.specs.Codes.{codeOf, codesOf}

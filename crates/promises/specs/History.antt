@@ -14,7 +14,8 @@ use Rattle.steps.specs.declared.Setting.{Setting}
 use Rattle.tables.specs.Sizes.{sizeFine}
 use Rattle.tables.specs.Tables.{ChipTables}
 use Rattle.mesh.specs.Mesh.{Chip, Mesh, fresh, opened, roundsFine}
-use Rattle.mesh.specs.Steps.{Tables, Arrival, Going, settingAt, outcomeAt, setAside, arrivals, passAt, setOut, tablesAt}
+use Rattle.mesh.specs.Lending.{Tables, tablesAt}
+use Rattle.mesh.specs.Steps.{Arrival, Going, settingAt, outcomeAt, setAside, arrivals, passAt, setOut}
 use Rattle.mesh.specs.Calls as calls
 use Rattle.mesh.specs.Asked.{Call, inject, round, setLink, readRegisters, change, look, leftBy, isInjection, isRound, handedIn}
 

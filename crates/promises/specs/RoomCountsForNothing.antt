@@ -9,7 +9,7 @@ use Rattle.tables.specs.Tables.{ChipTables}
 use Rattle.steps.specs.declared.Setting.{Setting}
 use Rattle.router.specs.Call.{passRefusals, passOf}
 use Rattle.mesh.specs.Mesh.{Mesh}
-use Rattle.mesh.specs.Steps.{Tables, tablesOf}
+use Rattle.mesh.specs.Lending.{Tables, tablesOf}
 use Rattle.mesh.specs.Asked.{Call, change, look, inject, round, setLink, readRegisters, leftBy, answerOf}
 use Rattle.records.specs.Traces.{Trace}
 use Rattle.trace.specs.Replay.{replaying}

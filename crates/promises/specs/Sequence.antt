@@ -10,7 +10,8 @@ use Rattle.packet.specs.Refusal.{firstOf}
 use Rattle.mesh.specs.Mesh.{Mesh}
 use Rattle.buffer.specs.Layout.{meshOf}
 use Rattle.buffer.specs.Holding.{holdsMesh}
-use Rattle.mesh.specs.Steps.{Tables, same}
+use Rattle.mesh.specs.Lending.{Tables}
+use Rattle.mesh.specs.Steps.{same}
 use Rattle.buffer.specs.Leaving.{Gives}
 use Rattle.buffer.specs.Opening.{openRefusals, opening}
 use Rattle.flood.specs.Codes.{floodRefusal, flooded}

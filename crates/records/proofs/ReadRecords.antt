@@ -8,6 +8,7 @@ use lib.ListN.{length, getD}
 use borrow.Author.Tests.{eq-eqb, ne-eqb, ltb-false, eqb-true, not-false}
 use Rattle.packet.specs.Refusal.{firstOf}
 use Rattle.packet.proofs.First.{not-refused}
+use Rattle.lists.proofs.Bools.{neither}
 use Rattle.records.specs.declared.Call.{Call}
 use Rattle.records.specs.declared.Record.{Record}
 use Rattle.records.specs.Records.{bodyLength, bodyFine, Readable, readRefusals, chipAt, fiveAt, nineAt, callOf, callAt, recordRead}
@@ -17,17 +18,13 @@ pub record Reads (s : List ℕ) : Type 0 where
   pub version : getD s 2 0 ≡ 1
   pub fine : bodyFine s ≡ true
 
-or-false : (a b : Bool) → (a || b) ≡ false → (a ≡ false) × (b ≡ false)
-or-false false b e = (refl, e)
-or-false true b e = absurd (mathlib.Core.Bool.false≢true (sym e))
-
 pub reads : (s : List ℕ) → firstOf (readRefusals s) ≡ 0 → Reads s
 reads s e =
     let well = not-refused (readRefusals s) refl e in
-    let long = or-false (ltb (length s) 2) (ltb (length s) (2 + bodyLength s)) (well 12) in
+    let long = neither (ltb (length s) 2) (ltb (length s) (2 + bodyLength s)) (well 12) in
     record {
       there = record { two = ltb-false _ _ (long .0); whole = ltb-false _ _ (long .1) };
-      version = eqb-true _ _ (not-false _ (or-false (eqb (bodyLength s) 0) _ (well 13) .1));
+      version = eqb-true _ _ (not-false _ (neither (eqb (bodyLength s) 0) _ (well 13) .1));
       fine = not-false _ (well 14);
     }
 

@@ -101,9 +101,9 @@ pub record Passed (bytes : List ℕ) (source : ℕ) (tables : ChipTables) (t : S
   pub tests : Fine source tables t
   pub packet : checkedOf bytes source tables t room ≡ record { refusal = 0; packet = packetAt bytes }
 
-pub passed : (bytes : List ℕ) (source : ℕ) (tables : ChipTables) (t : Setting) (room : ℕ) → checkedOf bytes source tables t room .refusal ≡ 0 → Passed bytes source tables t room
+pub none-refused : (bytes : List ℕ) (source : ℕ) (tables : ChipTables) (t : Setting) (room : ℕ) → checkedOf bytes source tables t room .refusal ≡ 0 → Passed bytes source tables t room
 unfolding checkedOf
-passed bytes source tables t room e = go (firstOf (settingRefusals source tables t room)) refl (firstOf (passRefusals bytes source tables t room)) refl
+none-refused bytes source tables t room e = go (firstOf (settingRefusals source tables t room)) refl (firstOf (passRefusals bytes source tables t room)) refl
   where
     go : (n : ℕ) → firstOf (settingRefusals source tables t room) ≡ n → (m : ℕ) → firstOf (passRefusals bytes source tables t room) ≡ m → Passed bytes source tables t room
     go zero f zero g = record { tests = fine source tables t room f; packet = simp (eq-eqb _ _ g) }

@@ -47,7 +47,7 @@ module _ (taken : Taken) (source : ℕ) (tables : ChipTables) (t : Setting) wher
     where
       go : (b : Bool) → Sets (cond b (outcomeOf (taken .packet) source tables t) noOutcome)
       go true = outcome-sets (taken .packet) source tables t
-      go false = record { sent = lit< tt; carried = lit< tt; dropped = lit< tt; leg = lit< tt; lost = lit< tt }
+      go false = record { sent = lit< tt; carried = lit< tt; dropped = lit< tt; leg-sent = lit< tt; leg-dropped = lit< tt }
 
 -- a packet kept number by number
 abbrev onlyOf : Bool → Packet → Packet

@@ -35,8 +35,8 @@ pub record Sets (o : Outcome) : Type 0 where
   pub sent : o .sent < 64
   pub carried : o .carried < 64
   pub dropped : o .dropped < 64
-  pub leg : o .«leg_sent» < 64
-  pub lost : o .«leg_dropped» < 64
+  pub leg-sent : o .«leg_sent» < 64
+  pub leg-dropped : o .«leg_dropped» < 64
 
 pub decided-sets : (errors : ℕ) (p : Packet) (source phase : ℕ) (w : Wanted) (ready : ℕ) → Sets (decided errors p source phase w ready)
 unfolding decided
@@ -47,8 +47,8 @@ decided-sets errors p source phase w ready =
       sent = either-small (isMarked (p .control)) (sends l ready) (λ i. has l i && has ready i);
       carried = maybe-small (isMarked (p .control)) (carries l ready);
       dropped = either-small (isMarked (p .control)) (drops l ready) (λ i. has l i && not (has ready i));
-      leg = set-small (λ i. has g i && has ready i);
-      lost = set-small (λ i. has g i && not (has ready i));
+      leg-sent = set-small (λ i. has g i && has ready i);
+      leg-dropped = set-small (λ i. has g i && not (has ready i));
     }
 
 pub outcome-sets : (p : Packet) (source : ℕ) (tables : ChipTables) (t : Setting) → Sets (outcomeOf p source tables t)

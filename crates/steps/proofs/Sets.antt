@@ -1,10 +1,11 @@
--- A set made of six tests has just the links that pass them; the empty set has none.
+-- A set made of six tests has just the links that pass them; the empty set has none; two sets joined have those of both.
 use mathlib.Core.Path.{_≡_, refl, ap, _∙_}
-use mathlib.Core.Bool.{Bool, true, false, cond}
+use mathlib.Core.Bool.{Bool, true, false, cond, _||_}
 use Prim.Native.Nat.{ℕ, zero, suc, _+_, _*_, _/_, _%_, _^_, _≤_, _<_}
-use native.Mathlib.Nat.{zero-div, zero-mod}
+use native.Mathlib.Nat.{zero-div, zero-mod, mod-lt}
 use native.Mathlib.Omega.{arith}
-use lib.Dec.{eqb}
+use lib.Bits.{bitOr, or-shr, or-mod}
+use lib.Dec.{eqb, lit<}
 use Rattle.steps.specs.Links.{has, setOf}
 
 bit : Bool → ℕ
@@ -29,7 +30,24 @@ shown false = refl
 pub has-none : (i : ℕ) → has 0 i ≡ false
 has-none i = ap (λ (n : ℕ). eqb n 1) (ap (λ (n : ℕ). n % 2) (zero-div (2 ^ i)) ∙ zero-mod 2)
 
--- six bits, and one of them taken out
+-- ---- what is in one of two sets or in both
+
+one-of : (x y : ℕ) → x < 2 → y < 2 → eqb (bitOr x y) 1 ≡ (eqb x 1 || eqb y 1)
+one-of zero zero hx hy = refl
+one-of zero (suc zero) hx hy = refl
+one-of (suc zero) zero hx hy = refl
+one-of (suc zero) (suc zero) hx hy = refl
+one-of zero (suc (suc y)) hx hy = absurd (omega arith)
+one-of (suc zero) (suc (suc y)) hx hy = absurd (omega arith)
+one-of (suc (suc x)) y hx hy = absurd (omega arith)
+
+pub has-or : (a b j : ℕ) → has (bitOr a b) j ≡ (has a j || has b j)
+has-or a b j =
+    ap (λ (x : ℕ). eqb (x % 2) 1) (or-shr a b j) ∙ ap (λ (x : ℕ). eqb x 1) (or-mod (a / 2 ^ j) (b / 2 ^ j) 1)
+    ∙ one-of (a / 2 ^ j % 2) (b / 2 ^ j % 2) (mod-lt (a / 2 ^ j) (lit< tt)) (mod-lt (b / 2 ^ j) (lit< tt))
+
+-- ---- six bits, and one of them taken out
+
 digits : (a b c d e f : ℕ) → ℕ
 digits a b c d e f = a + 2 * b + 4 * c + 8 * d + 16 * e + 32 * f
 

@@ -16,7 +16,7 @@ use Rattle.steps.specs.Errors.{errorsOf, stampedOf}
 use Rattle.steps.specs.Deciding.{decided, outcomeOf, Source, Checked}
 use Rattle.steps.proofs.Flags.{without-error}
 
-pub record Stamped (p q : Packet) : Type 0 where
+pub record StampedFrom (p q : Packet) : Type 0 where
   pub kind : kindOf (q .control) ≡ kindOf (p .control)
   pub mark : markOf (q .control) ≡ markOf (p .control)
   pub carries : carriesOf (q .control) ≡ carriesOf (p .control)
@@ -25,17 +25,17 @@ pub record Stamped (p q : Packet) : Type 0 where
   pub word : q .word ≡ p .word
   pub payload : q .payload ≡ p .payload
 
-pub stamped : (p : Packet) (s e phase : ℕ) → p .control < 256 → phase ≤ 3 → Stamped p (stampedOf p s e phase)
+pub stamped : (p : Packet) (s e phase : ℕ) → p .control < 256 → phase ≤ 3 → StampedFrom p (stampedOf p s e phase)
 stamped p s e phase hc hp = go (eqb e 0 && eqb s 7 && isStamped (p .control))
   where
-    go : (b : Bool) → Stamped p (cond b (withStamp p phase) p)
+    go : (b : Bool) → StampedFrom p (cond b (withStamp p phase) p)
     go true =
         let f : FieldSet stampOf markOf p (withStamp p phase) phase = stamp-set p phase hc (omega arith) in
         record { kind = f .kind; mark = f .beside; carries = f .carries; byte = f .byte; nine = f .nine; word = f .word; payload = f .payload }
     go false = record { kind = refl; mark = refl; carries = refl; byte = hc; nine = refl; word = refl; payload = refl }
 
 module _ (p : Packet) (s : ℕ) (tables : ChipTables) (t : Setting) (h : Checked p s tables t) (from : Source s) where
-  pub outcome-stamped : Stamped p (outcomeOf p s tables t .packet)
+  pub outcome-stamped : StampedFrom p (outcomeOf p s tables t .packet)
   unfolding outcomeOf decided
   outcome-stamped = stamped p s (errorsOf p s (t .phase)) (t .phase) (h .control) (h .phase)
 

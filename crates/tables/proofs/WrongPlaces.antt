@@ -1,6 +1,6 @@
 -- The place that is told with each of 15 to 18 is exact. A test that walks a list is one of each number in it, or of each and the next, so that it fails exactly where one of them does.
 use mathlib.Core.Path.{_≡_, refl, sym, ap, _∙_}
-use mathlib.Core.Bool.{Bool, true, false, cond, _&&_, _||_, not, and-eq-true-iff, and-false}
+use mathlib.Core.Bool.{Bool, true, false, cond, _&&_, _||_, not, and-eq-true-iff, and-false, false≢true}
 use mathlib.Core.List.{List, [], _∷_}
 use Prim.Native.Nat.{ℕ, zero, suc, _+_, _-_, _*_, _/_, _%_, _≤_, _<_}
 use native.Mathlib.Omega.{arith}
@@ -9,6 +9,7 @@ use lib.Dec.{eqb, ltb, leb}
 use lib.ListN.{length, getD}
 use borrow.Author.Tests.{leb-true, le-leb, ltb-true, lt-ltb, le-ltb, ltb-false, eqb-true, eq-eqb, ne-eqb, not-false, not-true}
 use Rattle.lists.specs.Firsts.{Exact}
+use Rattle.lists.proofs.Bools.{neither}
 use Rattle.lists.proofs.Firsts.{exact, exact-fine, exact-not, lt-or-ge}
 use mathlib.Core.Logic.{⊎-elim}
 use Rattle.tables.specs.Rows.{Entry, rowsOf, routeAt, blankEntry}
@@ -108,7 +109,7 @@ fixed-exact fixed chips some = go (eqb (length fixed) chips) refl
         exact _ chips (allFixed fixed)
         (λ f j h. ap not (every-each routeFine 0 fixed (sym (fixed-every fixed) ∙ f) j (omega (arith, eqb-true (length fixed) chips e))))
         (λ f. fixed-every fixed ∙ each-every routeFine 0 fixed (λ j h. off _ (f j (omega (arith, eqb-true (length fixed) chips e)))))
-    go false e = exact _ chips false (λ f. absurd (let z : _≡_ {A = ℕ} 0 1 = cc in omega arith)) (λ f. sym (f 0 (omega arith)))
+    go false e = exact _ chips false (λ f. absurd (false≢true f)) (λ f. sym (f 0 (omega arith)))
 
 -- ---- 17
 
@@ -133,14 +134,10 @@ route-exact s = go (eqb (length s % 3) 0) refl
         (lt-or-ge j (length s / 3)))
         (λ f. routes-every (rowsOf s) ∙ each-every rowFine blankEntry (rowsOf s) (λ j h. off _ (sym (on-row true j (omega (arith, count))) ∙ f j (omega (arith, count)))))
     go false e =
-        exact (wrong false) (length s / 3 + 1) false (λ f. absurd (let z : _≡_ {A = ℕ} 0 1 = cc in omega arith))
+        exact (wrong false) (length s / 3 + 1) false (λ f. absurd (false≢true f))
         (λ f. sym (sym (simp (eq-eqb (length s / 3) (length s / 3) refl)) ∙ f (length s / 3) (omega arith)))
 
 -- ---- 15
-
-or-off : (a b : Bool) → (a || b) ≡ false → (a ≡ false) × (b ≡ false)
-or-off true b e = absurd (let z : _≡_ {A = ℕ} 0 1 = cc in omega arith)
-or-off false b e = (refl, e)
 
 module _ (starts : List ℕ) (chips rows : ℕ) (some : 1 ≤ chips) where
   abbrev long : Bool
@@ -168,9 +165,9 @@ module _ (starts : List ℕ) (chips rows : ℕ) (some : 1 ≤ chips) where
       let begin : (long && first) ≡ true = off (long && first) (none 0 (omega arith)) in
       let many : length starts ≡ chips + 1 = eqb-true _ _ (and-eq-true-iff long first .0 begin .0) in
       let end : last ≡ true =
-      off last (or-off (ltb (getD starts chips 0) (getD starts (chips - 1) 0)) (not last) (simp (ne-eqb chips 0 (λ z. omega arith), eq-eqb chips chips refl) at (none chips (omega arith))) .1) in
+      off last (neither (ltb (getD starts chips 0) (getD starts (chips - 1) 0)) (not last) (simp (ne-eqb chips 0 (λ z. omega arith), eq-eqb chips chips refl) at (none chips (omega arith))) .1) in
       let up : neverFalling starts ≡ true =
-      falling-pairwise starts ∙ each-pairwise leb starts (λ i h. le-leb (getD starts i 0) (getD starts (suc i) 0) (ltb-false (getD starts (suc i) 0) (getD starts i 0) (or-off (ltb (getD starts (suc i) 0) (getD starts i 0)) (eqb (suc i) chips && not last) (simp (not-first i, one-less i) at (none (suc i) (omega arith))) .0))) in
+      falling-pairwise starts ∙ each-pairwise leb starts (λ i h. le-leb (getD starts i 0) (getD starts (suc i) 0) (ltb-false (getD starts (suc i) 0) (getD starts i 0) (neither (ltb (getD starts (suc i) 0) (getD starts i 0)) (eqb (suc i) chips && not last) (simp (not-first i, one-less i) at (none (suc i) (omega arith))) .0))) in
       and-eq-true-iff (long && first && last) (neverFalling starts) .1 (and-eq-true-iff (long && first) last .1 (begin, end), up)
 
   pub starts-exact : Exact (startWrong starts chips rows) (chips + 1) (startsRight starts chips rows)

@@ -7,7 +7,7 @@ use lib.ListN.{length}
 use borrow.Author.Tests.{eq-eqb, ne-eqb}
 use Rattle.mesh.specs.declared.Added.{Added}
 use Rattle.buffer.specs.Layout.{meshOf}
-use Rattle.mesh.specs.Steps.{Tables}
+use Rattle.mesh.specs.Lending.{Tables}
 use Rattle.mesh.specs.Calls.{Left, loggedOn}
 use Rattle.buffer.specs.Leaving.{Leaves, Moves}
 use Rattle.records.specs.declared.Record.{Record}

@@ -12,8 +12,10 @@ use Rattle.packet.specs.Refusal.{firstOf}
 use Rattle.mesh.specs.Mesh.{Mesh}
 use Rattle.buffer.specs.Layout.{meshOf}
 use Rattle.buffer.specs.Holding.{holdsMesh}
-use Rattle.mesh.specs.Steps.{Tables, Going, setOut}
-use Rattle.mesh.specs.Calls.{Left, many, unless, chipRefusals, linkRefusals, withLink, withEmpty, addedOf, loggedOn, registersRead}
+use Rattle.mesh.specs.Lending.{Tables}
+use Rattle.mesh.specs.Steps.{Going, setOut}
+use Rattle.mesh.specs.Refusals.{chipRefusals, linkRefusals}
+use Rattle.mesh.specs.Calls.{Left, many, unless, withLink, withEmpty, addedOf, loggedOn, registersRead}
 use Rattle.buffer.specs.Leaving.{Leaves, Moves, injectLeft, roundLeft, linkLeft, registersLeft}
 use Rattle.records.specs.declared.Call.{Call}
 use Rattle.records.specs.Records.{packetOf}

@@ -10,7 +10,7 @@ use lib.Seq.{take-all, drop-drop, length-take-le, take-at, drop-at}
 use Rattle.mesh.specs.Mesh.{Mesh}
 use Rattle.buffer.specs.Layout.{meshOf, wordsFor}
 use Rattle.buffer.specs.Holding.{holdsMesh}
-use Rattle.mesh.specs.Steps.{Tables}
+use Rattle.mesh.specs.Lending.{Tables}
 use Rattle.mesh.specs.Calls.{Left, loggedOn}
 use Rattle.records.specs.Records.{recordRead}
 use Rattle.records.specs.Traces.{Trace, traceOf}

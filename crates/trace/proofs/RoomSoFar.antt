@@ -4,7 +4,7 @@ use mathlib.Core.List.{List}
 use Prim.Native.Nat.{ℕ, _+_, _-_, _*_, _≤_, _<_}
 use native.Mathlib.Omega.{arith}
 use lib.ListN.{length, take, drop, length-drop}
-use Rattle.mesh.specs.Steps.{Tables}
+use Rattle.mesh.specs.Lending.{Tables}
 use Rattle.buffer.specs.Layout.{meshOf}
 use Rattle.buffer.specs.Holding.{holdsMesh}
 use Rattle.records.proofs.Traces.{trace-over}

@@ -10,10 +10,12 @@ use borrow.Author.Tests.{eq-eqb, ne-eqb, eqb-true, eqb-false}
 use Rattle.packet.specs.Refusal.{firstOf}
 use Rattle.buffer.specs.Layout.{meshOf}
 use Rattle.buffer.specs.Holding.{holdsMesh}
-use Rattle.mesh.specs.Steps.{Tables, same, rounded}
+use Rattle.mesh.specs.Lending.{Tables}
+use Rattle.mesh.specs.Steps.{same, rounded}
 use Rattle.mesh.specs.Weights.{inFlight}
 use Rattle.mesh.specs.Room.{roomAfterRound}
-use Rattle.mesh.specs.Calls.{Left, many, placeIn, roundRefusals}
+use Rattle.mesh.specs.Refusals.{placeIn, roundRefusals}
+use Rattle.mesh.specs.Calls.{Left, many}
 use Rattle.buffer.specs.Leaving.{injectLeft, roundLeft, roundRoom, linkLeft, registersLeft}
 use Rattle.records.specs.declared.Call.{Call}
 use Rattle.records.specs.declared.Record.{Record}

@@ -11,8 +11,10 @@ use borrow.Author.Tests.{eq-eqb, ne-eqb, eqb-true}
 use Rattle.packet.specs.Refusal.{firstOf}
 use Rattle.buffer.specs.Layout.{meshOf, wordsFor}
 use Rattle.buffer.specs.Holding.{holdsMesh}
-use Rattle.mesh.specs.Steps.{Tables, same}
-use Rattle.mesh.specs.Calls.{Left, tablesRefusals, placeIn}
+use Rattle.mesh.specs.Lending.{Tables}
+use Rattle.mesh.specs.Steps.{same}
+use Rattle.mesh.specs.Refusals.{tablesRefusals, placeIn}
+use Rattle.mesh.specs.Calls.{Left}
 use Rattle.buffer.specs.Testing.{testedOf}
 use Rattle.records.specs.Records.{recordRead}
 use Rattle.records.specs.Traces.{traceOf}

@@ -8,7 +8,7 @@ use Rattle.mesh.specs.declared.Added.{Added}
 use Rattle.mesh.specs.declared.RegistersRead.{RegistersRead}
 use Rattle.buffer.specs.Layout.{meshOf, wordsOf}
 use Rattle.buffer.specs.Holding.{holdsMesh}
-use Rattle.mesh.specs.Steps.{Tables}
+use Rattle.mesh.specs.Lending.{Tables}
 use Rattle.mesh.specs.Calls.{registersRead}
 use Rattle.buffer.specs.Leaving.{Leaves, Moves, injectLeft, roundLeft, linkLeft, registersLeft}
 use Rattle.records.specs.declared.Call.{Call}
@@ -27,7 +27,7 @@ pub data Made (t : Tables) (before log : List ℕ) (c : Call) : Added → List �
   changed : {number : ℕ} {after : List ℕ} → c .kind ≡ 3 → number ≡ linkLeft before (c .chip) (c .link) (eqb (c .up) 1) .refusal
       → Leaves before after (linkLeft before (c .chip) (c .link) (eqb (c .up) 1))
       → Made t before log c (record { refusal = number; added = 0; place = 0 }) after log
-  emptied : {read : RegistersRead} {after : List ℕ} → c .kind ≡ 4 → read ≡ registersRead (holdsMesh before) (meshOf before) (c .chip)
+  handedOver : {read : RegistersRead} {after : List ℕ} → c .kind ≡ 4 → read ≡ registersRead (holdsMesh before) (meshOf before) (c .chip)
       → Leaves before after (registersLeft before (c .chip))
       → Made t before log c (record { refusal = read .refusal; added = 0; place = 0 }) after log
 

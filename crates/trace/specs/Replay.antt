@@ -8,7 +8,8 @@ use lib.ListN.{length, drop}
 use Rattle.mesh.specs.Mesh.{Mesh}
 use Rattle.buffer.specs.Layout.{meshOf, wordsOf}
 use Rattle.buffer.specs.Holding.{holdsMesh}
-use Rattle.mesh.specs.Steps.{Tables, same}
+use Rattle.mesh.specs.Lending.{Tables}
+use Rattle.mesh.specs.Steps.{same}
 use Rattle.mesh.specs.Room.{roomAfterRound}
 use Rattle.mesh.specs.Calls.{Left, injecting, rounding, linking, emptying, loggedOn}
 use Rattle.buffer.specs.Leaving.{Leaves}

@@ -6,7 +6,8 @@ use mathlib.Core.List.{List}
 use lib.Dec.{eqb}
 use lib.ListN.{length, drop}
 use Rattle.mesh.specs.Mesh.{Mesh}
-use Rattle.mesh.specs.Steps.{Tables, same}
+use Rattle.mesh.specs.Lending.{Tables}
+use Rattle.mesh.specs.Steps.{same}
 use Rattle.records.specs.Records.{recordRead}
 use Rattle.records.specs.Traces.{traceOf}
 use Rattle.trace.specs.Replay.{making, Replay, replaying, replayOf, replayRoom}

@@ -9,7 +9,7 @@ use records::Call;
 ghost use mathlib.Core.Path.{_≡_};
 ghost use lib.ListN.{length};
 ghost use Prim.Native.Nat.{_≤_};
-ghost use Rattle.mesh.specs.Steps.{tablesOf};
+ghost use Rattle.mesh.specs.Lending.{tablesOf};
 ghost use Rattle.buffer.specs.Leaving.{Moves};
 ghost use Rattle.buffer.specs.Testing.{testedOf};
 ghost use Rattle.trace.specs.Replay.{madeLeft, madeRoom};

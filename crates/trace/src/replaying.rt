@@ -6,7 +6,7 @@ use buffer::testing::test;
 use records::reading::read_record;
 ghost use mathlib.Core.Path.{_≡_};
 ghost use lib.ListN.{length};
-ghost use Rattle.mesh.specs.Steps.{tablesOf};
+ghost use Rattle.mesh.specs.Lending.{tablesOf};
 ghost use Rattle.buffer.specs.Testing.{testedOf};
 ghost use Rattle.trace.specs.Replay.{replayOf, Replays, replayRoom, OneDone, oneRoom};
 

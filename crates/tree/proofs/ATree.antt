@@ -14,6 +14,7 @@ use Rattle.lists.specs.Lists.{All}
 use Rattle.steps.specs.Links.{has}
 use Rattle.tables.specs.Sizes.{sizeFine}
 use Rattle.tables.proofs.Sizes as sizes
+use Rattle.links.proofs.Crossing.{across-there}
 use Rattle.links.specs.Across.{across, opposite}
 use Rattle.tree.specs.Way.{linksOf, wayBetween}
 use Rattle.tree.specs.Growing.{Target, targetsOf, Grown, sourceAlone, oneMore, added, newPart, withPart, withProcessors, withTarget, grownBy}
@@ -25,7 +26,7 @@ use Rattle.tree.proofs.RouteBits.{links-kept, processors-more}
 use Rattle.tree.proofs.LowRoutes.{LinkLow, links-low}
 use Rattle.tree.proofs.FreshWay.{Out, Short, never-back, short-after, out-still, out-first, whole-new}
 use Rattle.tree.proofs.FewestLinks.{fewest-links}
-use Rattle.tree.proofs.AcrossBack.{across-there, across-back}
+use Rattle.tree.proofs.AcrossBack.{across-back}
 use Rattle.tree.proofs.NamedOnce.{not-named, each-named}
 use Rattle.tree.proofs.StaysATree.{Good, one-good, next-within, still-within}
 use Rattle.tree.proofs.SourceAlone.{alone, at-source}
@@ -106,7 +107,7 @@ module _ (w h source : ℕ) (fine : sizeFine (suc w) (suc h) ≡ true) where
   all-added (i ∷ is) t named chip g there begun low out short =
       let first = out-first (suc w) (suc h) (t .entered) chip i is out in
       let next = across (suc w) (suc h) chip i in
-      let more = all-added is (oneMore (suc w) (suc h) t chip i) named next (one-good w h source small t named g chip i there (low .0) begun (first .0)) (across-there w h chip i)
+      let more = all-added is (oneMore (suc w) (suc h) t chip i) named next (one-good w h source small t named g chip i there (low .0) begun (first .0)) (across-there (suc w) (suc h) chip i (omega arith) (omega arith))
       (next-within w h source small t named g chip i there (low .0) begun (first .0))
       (low .1)
       (out-still (suc w) (suc h) (t .entered) next i next is (never-back (suc w) (suc h) chip i is low short) (first .1))
@@ -127,7 +128,7 @@ module _ (w h source : ℕ) (fine : sizeFine (suc w) (suc h) ≡ true) where
         let shortest = fewest-links (suc w) (suc h) source (target .chip) fine there l in
         let part = newPart (suc w) (suc h) t source way in
         let short : Short (suc w) (suc h) source way = λ links low e. shortest .none-shorter links low (e ∙ shortest .arrives) in
-        let new = whole-new (suc w) (suc h) (across-there w h) (t .entered) (target .chip) source way there begun (links-low _) short (shortest .arrives) in
+        let new = whole-new (suc w) (suc h) (λ c i. across-there (suc w) (suc h) c i (omega arith) (omega arith)) (t .entered) (target .chip) source way there begun (links-low _) short (shortest .arrives) in
         let grown = all-added (part .links) t named (part .chip) g (new .there) (new .begun) (new .low) (new .out) (new .short) in
         let ended : Within (withPart (suc w) (suc h) t part) (target .chip) = subst (Within (withPart (suc w) (suc h) t part)) (new .ends) (grown .ended) in
         record { good = with-good (withPart (suc w) (suc h) t part) named (grown .good) (target .chip) (target .processors) l ended; ended = ended; still = grown .still }

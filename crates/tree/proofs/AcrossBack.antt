@@ -4,15 +4,11 @@ use mathlib.Core.Path.{_≡_, refl, sym, ap, _∙_}
 use mathlib.Core.List.{List, [], _∷_}
 use native.Mathlib.Omega.{arith}
 use native.Mathlib.Nat.{mod-lt, div-lt-iff-lt-mul, div-add-mod'}
-use lib.Arith.{digits-lt}
 use lib.IntN.{ℤ, pos}
 use Rattle.links.specs.Across.{across, opposite}
 use Rattle.tree.specs.Way.{turned}
 use Rattle.tree.specs.Promises.{chipAfter}
 use Rattle.tree.proofs.Displaced.{stepsBy, moveEast, moveNorth, ends-east, ends-north}
-
-pub across-there : (w h chip i : ℕ) → across (suc w) (suc h) chip i < suc h * suc w
-across-there w h chip i = digits-lt (mod-lt _ (omega arith)) (mod-lt _ (omega arith))
 
 there-and-back : (i : ℕ) → i < 6 → (moveEast i (moveEast (opposite i) (pos 0)) ≡ pos 0) × (moveNorth i (moveNorth (opposite i) (pos 0)) ≡ pos 0)
 there-and-back zero h = (refl, refl)

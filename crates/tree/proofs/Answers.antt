@@ -1,5 +1,4 @@
 -- What the call answers and writes, refused and accepted; and what an accepted call may rely on.
-use native.Mathlib.Nat.{le-of-eq, not-suc-le-zero}
 use Prim.Native.Nat.{ℕ, _+_, _*_, _≤_, _<_}
 use mathlib.Core.Path.{_≡_, refl, sym, ap, _∙_}
 use mathlib.Core.Bool.{Bool, true, false, not, _||_, and-eq-true-iff}
@@ -7,16 +6,13 @@ use mathlib.Core.List.{List, [], _++_}
 use borrow.Author.Tests.{eq-eqb, ne-eqb, eqb-true, ltb-true, ltb-false, not-false}
 use lib.Dec.{eqb, ltb}
 use lib.ListN.{length, drop}
+use Rattle.lists.proofs.Bools.{neither}
 use Rattle.packet.proofs.First.{not-refused}
 use Rattle.tables.specs.Sizes.{sizeFine}
 use Rattle.tree.specs.declared.Tree.{Tree}
 use Rattle.tree.specs.Growing.{Grown, targetsOf}
 use Rattle.tree.specs.Rows.{startOf, rowsBelow, startsBelow}
 use Rattle.tree.specs.Call.{allThere, namedAgain, setsFine, treeRefusals, grownTree, refusalOf, treeOf, rowsAfter, startsAfter}
-
-neither : (a b : Bool) → (a || b) ≡ false → (a ≡ false) × (b ≡ false)
-neither true b e = absurd (let z : _≡_ {A = ℕ} 0 1 = cc in not-suc-le-zero (le-of-eq (sym z)))
-neither false b e = (refl, e)
 
 module _ (width height source key mask : ℕ) (words rows starts : List ℕ) where
   abbrev refusal : ℕ

@@ -10,6 +10,7 @@ use lib.IntN.{ℤ, pos, negsuc}
 use Rattle.packet.proofs.Small.{every, at}
 use Rattle.tables.specs.Sizes.{sizeFine}
 use Rattle.tables.proofs.Sizes as sizes
+use Rattle.lists.proofs.Bools.{both}
 use Rattle.tree.specs.declared.Way.{Way}
 use Rattle.tree.specs.Way.{linksIn, eqZ, better, leads, counts, countsTo, wayTo}
 use Rattle.tree.specs.Walking.{bestOfFour}
@@ -41,7 +42,7 @@ computed = refl
 
 -- ---- what was computed, taken apart
 
-pub record Right (width height east north : ℕ) : Type 0 where
+pub record RightWay (width height east north : ℕ) : Type 0 where
   pub four : bestOfFour width height east north ≡ wayTo width height east north
   pub there : leads width height east north (wayTo width height east north) ≡ true
   pub short : linksIn (wayTo width height east north) ≤ 11
@@ -53,9 +54,6 @@ eqZ-true (negsuc a) (negsuc b) e = ap negsuc (eqb-true a b e)
 eqZ-true (pos a) (negsuc b) e = absurd (subst T (sym e) tt)
 eqZ-true (negsuc a) (pos b) e = absurd (subst T (sym e) tt)
 
-pub both : (a b : Bool) → (a && b) ≡ true → (a ≡ true) × (b ≡ true)
-both a b e = and-eq-true-iff a b .0 e
-
 same-way : (v w : Way) → sameWay v w ≡ true → v ≡ w
 unfolding sameWay
 same-way v w e =
@@ -64,7 +62,7 @@ same-way v w e =
 
 -- at every size and place
 
-taken-apart : (width height east north : ℕ) → right width height east north (bestOfFour width height east north) (wayTo width height east north) ≡ true → Right width height east north
+taken-apart : (width height east north : ℕ) → right width height east north (bestOfFour width height east north) (wayTo width height east north) ≡ true → RightWay width height east north
 unfolding right
 taken-apart width height east north e =
     let four = bestOfFour width height east north in
@@ -88,12 +86,12 @@ at-sizes w h x y hw hh hx hy =
     y
     hy
 
-at-any : (width height east north : ℕ) → 1 ≤ width → width ≤ 12 → 1 ≤ height → height ≤ 12 → east < width → north < height → Right width height east north
+at-any : (width height east north : ℕ) → 1 ≤ width → width ≤ 12 → 1 ≤ height → height ≤ 12 → east < width → north < height → RightWay width height east north
 at-any zero height east north a b c d x y = absurd (omega arith)
 at-any (suc w) zero east north a b c d x y = absurd (omega arith)
 at-any (suc w) (suc h) east north a b c d x y = taken-apart (suc w) (suc h) east north (at-sizes w h east north (omega arith) (omega arith) x y)
 
-pub right-way : (width height east north : ℕ) → sizeFine width height ≡ true → east < width → north < height → Right width height east north
+pub right-way : (width height east north : ℕ) → sizeFine width height ≡ true → east < width → north < height → RightWay width height east north
 right-way width height east north fine x y =
     let s = sizes.size width height fine in
     at-any width height east north (s .width-low) (s .width-high) (s .height-low) (s .height-high) x y

@@ -12,6 +12,7 @@ use lib.ListN.{length, replicate}
 use Rattle.lists.specs.Lists.{All}
 use Rattle.tables.specs.Sizes.{sizeFine}
 use Rattle.tables.proofs.Sizes as sizes
+use Rattle.lists.proofs.Bools.{neither}
 use Rattle.tree.specs.declared.Way.{Way}
 use Rattle.tree.specs.Way.{linksIn, linksOf, turned, offset, wayBetween}
 use Rattle.tree.specs.Promises.{chipAfter, FewestLinks}
@@ -127,10 +128,6 @@ north-of w = go (w .east) (w .north)
 
 -- ---- from a chip to another
 
-or-left : (a b : Bool) → (a || b) ≡ false → a ≡ false
-or-left true b e = absurd (let z : _≡_ {A = ℕ} 0 1 = cc in omega arith)
-or-left false b e = refl
-
 module _ (w h from to : ℕ) (fine : sizeFine (suc w) (suc h) ≡ true) (f : from < suc h * suc w) (t : to < suc h * suc w) where
   abbrev x : ℕ
   x = from % suc w
@@ -169,7 +166,7 @@ module _ (w h from to : ℕ) (fine : sizeFine (suc w) (suc h) ≡ true) (f : fro
       let east = rings.offset-of w x (to % suc w) (turned (suc w) (v .east)) (below from f .0) (rings.turned-low w (v .east)) (sym (ends-east w h from links) ∙ ap (λ (k : ℕ). k % suc w) e) in
       let north = rings.offset-of h y (to / suc w) (turned (suc h) (v .north)) (below from f .1) (rings.turned-low h (v .north)) (sym (ends-north w h from links (below from f .1)) ∙ ap (λ (k : ℕ). k / suc w) e) in
       let leads-there = and-eq-true-iff (eqb (turned (suc w) (v .east)) (offset (suc w) x (to % suc w))) (eqb (turned (suc h) (v .north)) (offset (suc h) y (to / suc w))) .1 (eq-eqb _ _ east, eq-eqb _ _ north) in
-      let not-better = or-left (ltb (linksIn v) (linksIn way)) _ (least (suc w) (suc h) from to fine f t .none-better v leads-there) in
+      let not-better = neither (ltb (linksIn v) (linksIn way)) _ (least (suc w) (suc h) from to fine f t .none-better v leads-there) .0 in
       omega (arith, links-long way, ltb-false (linksIn v) (linksIn way) not-better, at-least links low)
 
 pub fewest-links : FewestLinks

@@ -15,10 +15,11 @@ use Rattle.lists.proofs.Firsts.{lt-or-ge}
 use Rattle.packet.proofs.Small.{every, at}
 use Rattle.tables.specs.Sizes.{sizeFine}
 use Rattle.tables.proofs.Sizes as sizes
+use Rattle.lists.proofs.Bools.{neither, both}
 use Rattle.tree.specs.declared.Way.{Way}
 use Rattle.tree.specs.Way.{sharedBy, linksIn, eqZ, better, turned, offset, leads, counts, countsTo, wayTo, wayBetween}
 use Rattle.tree.specs.Promises.{LeastOfAll}
-use Rattle.tree.proofs.ComputedWays.{noneNorth, noneBetter, eqZ-true, both, right-way}
+use Rattle.tree.proofs.ComputedWays.{noneNorth, noneBetter, eqZ-true, right-way}
 
 -- ---- all signed numbers
 
@@ -101,10 +102,6 @@ same-eqZ a b e = ap (eqZ a) (sym e) ∙ self a
     self : (z : ℤ) → eqZ z z ≡ true
     self (pos n) = eq-eqb n n refl
     self (negsuc n) = eq-eqb n n refl
-
-neither : (a b : Bool) → (a || b) ≡ false → (a ≡ false) × (b ≡ false)
-neither true b e = absurd (subst T e tt)
-neither false b e = (refl, e)
 
 -- a test that fails with another that holds
 fails : (a b : Bool) → a ≡ true → (a && b) ≡ false → b ≡ false

@@ -1,34 +1,28 @@
 -- The processors that a list of targets names on a chip: those of the one target that names it, where no chip is named twice.
 use Prim.Native.Nat.{ℕ}
 use mathlib.Core.Path.{_≡_, refl, sym, ap, subst, _∙_}
-use mathlib.Core.Bool.{Bool, true, false, cond, _||_}
+use mathlib.Core.Bool.{Bool, true, false, cond, _||_, true≢false}
 use mathlib.Core.List.{List, [], _∷_}
 use borrow.Author.Tests.{eq-eqb, ne-eqb}
 use lib.Bits.{bitOr, or-zero-l}
 use lib.Dec.{T, eqb}
+use Rattle.lists.proofs.Bools.{neither}
 use Rattle.lists.specs.Lists.{All}
 use Rattle.tree.specs.Rooted.{processorsOn}
 use Rattle.tree.specs.Growing.{Target}
 use Rattle.tree.specs.Call.{isIn, namedAgain}
 
-passed : (chip others : ℕ) (t : Target) (ts : List Target) → (t .chip ≡ chip → ⊥) → processorsOn chip others (t ∷ ts) ≡ processorsOn chip others ts
+named-elsewhere : (chip others : ℕ) (t : Target) (ts : List Target) → (t .chip ≡ chip → ⊥) → processorsOn chip others (t ∷ ts) ≡ processorsOn chip others ts
 unfolding processorsOn
-passed chip others t ts n =
+named-elsewhere chip others t ts n =
     ap (λ (b : Bool). processorsOn chip (cond b (bitOr others (t .processors)) others) ts) (ne-eqb chip (t .chip) (λ e. n (sym e)))
 
 pub not-named : (chip others : ℕ) (ts : List Target) → All (λ target. target .chip ≡ chip → ⊥) ts → processorsOn chip others ts ≡ others
 unfolding processorsOn All
 not-named chip others [] a = refl
-not-named chip others (t ∷ ts) a = passed chip others t ts (a .0) ∙ not-named chip others ts (a .1)
+not-named chip others (t ∷ ts) a = named-elsewhere chip others t ts (a .0) ∙ not-named chip others ts (a .1)
 
 -- ---- where no chip is named twice
-
-apart : {X : Type 0} → true ≡ false → X
-apart e = absurd (subst T e tt)
-
-neither : (a b : Bool) → (a || b) ≡ false → (a ≡ false) × (b ≡ false)
-neither true b e = apart e
-neither false b e = (refl, e)
 
 -- a chip that was named before is not named
 before : (chip : ℕ) (seen : List ℕ) (ts : List Target) → isIn chip seen ≡ true → namedAgain seen ts ≡ false → All (λ target. target .chip ≡ chip → ⊥) ts
@@ -36,7 +30,7 @@ unfolding namedAgain isIn All
 before chip seen [] i e = tt
 before chip seen (t ∷ ts) i e =
     let h = neither (isIn (t .chip) seen) _ e in
-    (λ same. apart (sym (ap (λ (c : ℕ). isIn c seen) same ∙ i) ∙ h .0), before chip (t .chip ∷ seen) ts (later (eqb chip (t .chip)) i) (h .1))
+    (λ same. true≢false (sym (ap (λ (c : ℕ). isIn c seen) same ∙ i) ∙ h .0), before chip (t .chip ∷ seen) ts (later (eqb chip (t .chip)) i) (h .1))
   where
     later : (b : Bool) → isIn chip seen ≡ true → (b || isIn chip seen) ≡ true
     later true i = refl
@@ -61,4 +55,4 @@ each-named seen (t ∷ ts) e =
     later : (us : List Target) → All (λ target. target .chip ≡ t .chip → ⊥) us → All (λ target. processorsOn (target .chip) 0 ts ≡ target .processors) us
         → All (λ target. processorsOn (target .chip) 0 (t ∷ ts) ≡ target .processors) us
     later [] n a = tt
-    later (u ∷ us) n a = (passed (u .chip) 0 t ts (λ e. n .0 (sym e)) ∙ a .0, later us (n .1) (a .1))
+    later (u ∷ us) n a = (named-elsewhere (u .chip) 0 t ts (λ e. n .0 (sym e)) ∙ a .0, later us (n .1) (a .1))

@@ -2,7 +2,7 @@
 use Prim.Native.Nat.{ℕ, zero, suc, _*_, _/_, _%_, _^_, _<_}
 use mathlib.Core.Path.{_≡_, refl, sym, ap, subst, _∙_}
 use mathlib.Core.Logic.{_⊎_, inl, inr}
-use mathlib.Core.Bool.{Bool, true, false, _||_}
+use mathlib.Core.Bool.{Bool, true, false, _||_, or-true, or-false}
 use native.Mathlib.Omega.{arith}
 use native.Mathlib.Nat.{mod-lt, div-eq-of-lt}
 use borrow.Author.Tests.{eqb-true, eq-eqb}
@@ -11,20 +11,7 @@ use lib.Dec.{eqb, lit<, T}
 use lib.Pow.{pow-lt}
 use Rattle.packet.proofs.Small.{every₂, every, at₂}
 use Rattle.steps.specs.Links.{has}
-
-one-of : (x y : ℕ) → x < 2 → y < 2 → eqb (bitOr x y) 1 ≡ (eqb x 1 || eqb y 1)
-one-of zero zero hx hy = refl
-one-of zero (suc zero) hx hy = refl
-one-of (suc zero) zero hx hy = refl
-one-of (suc zero) (suc zero) hx hy = refl
-one-of zero (suc (suc y)) hx hy = absurd (omega arith)
-one-of (suc zero) (suc (suc y)) hx hy = absurd (omega arith)
-one-of (suc (suc x)) y hx hy = absurd (omega arith)
-
-has-or : (a b j : ℕ) → has (bitOr a b) j ≡ (has a j || has b j)
-has-or a b j =
-    ap (λ (x : ℕ). eqb (x % 2) 1) (or-shr a b j) ∙ ap (λ (x : ℕ). eqb x 1) (or-mod (a / 2 ^ j) (b / 2 ^ j) 1)
-    ∙ one-of (a / 2 ^ j % 2) (b / 2 ^ j % 2) (mod-lt (a / 2 ^ j) (lit< tt)) (mod-lt (b / 2 ^ j) (lit< tt))
+use Rattle.steps.proofs.Sets.{has-or}
 
 -- ---- a link
 
@@ -51,10 +38,6 @@ bit-kept a b j e = has-or a b j ∙ ap (λ (x : Bool). x || has b j) e
 
 pub bit-set : (a i : ℕ) → i < 6 → has (bitOr a (2 ^ i)) i ≡ true
 bit-set a i h = has-or a (2 ^ i) i ∙ ap (λ (x : Bool). has a i || x) (has-one i i h h ∙ eq-eqb i i refl) ∙ or-true (has a i)
-  where
-    or-true : (b : Bool) → (b || true) ≡ true
-    or-true true = refl
-    or-true false = refl
 
 pub bit-of : (a i j : ℕ) → i < 6 → j < 6 → has (bitOr a (2 ^ i)) j ≡ true → (has a j ≡ true) ⊎ (j ≡ i)
 bit-of a i j hi hj e = go (has a j) refl (sym (has-or a (2 ^ i) j ∙ ap (λ (x : Bool). has a j || x) (has-one i j hi hj)) ∙ e)
@@ -86,10 +69,6 @@ no-link p (suc (suc (suc (suc (suc (suc j)))))) h = absurd (omega arith)
 
 pub links-kept : (a p j : ℕ) → j < 6 → has (bitOr a (p * 64)) j ≡ has a j
 links-kept a p j h = has-or a (p * 64) j ∙ ap (λ (x : Bool). has a j || x) (no-link p j h) ∙ or-false (has a j)
-  where
-    or-false : (b : Bool) → (b || false) ≡ b
-    or-false true = refl
-    or-false false = refl
 
 pub processors-kept : (a i : ℕ) → i < 6 → bitOr a (2 ^ i) / 64 ≡ a / 64
 processors-kept a i h =

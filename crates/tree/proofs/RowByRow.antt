@@ -1,7 +1,7 @@
 -- Rows written behind those before, and starts, chip by chip.
 use Prim.Native.Nat.{ℕ, zero, suc, _+_, _*_, _≤_, _<_}
 use mathlib.Core.Path.{_≡_, refl, sym, ap, _∙_}
-use mathlib.Core.Bool.{Bool, true, false, cond}
+use mathlib.Core.Bool.{Bool, true, false, cond, true≢false, false≢true}
 use mathlib.Core.List.{List, [], _∷_, _++_, append-assoc, append-nil}
 use native.Mathlib.Omega.{arith}
 use native.Mathlib.Numerals.{add-one}
@@ -17,7 +17,7 @@ module _ (key mask entered route count : ℕ) (rows : List ℕ) where
   no-row e = (simp e (omega arith), go (needsRow entered route) e)
     where
       go : (b : Bool) → b ≡ false → rows ≡ take (count * 3) rows ++ (cond b (key ∷ mask ∷ route ∷ []) [] ++ drop (count * 3 + length (cond b (key ∷ mask ∷ route ∷ []) [])) rows)
-      go true f = absurd (let z : _≡_ {A = ℕ} 0 1 = cc in omega arith)
+      go true f = absurd (true≢false f)
       go false f =
           let none : count * 3 + 0 ≡ count * 3 = omega arith in
           sym (ap (λ (n : ℕ). take (count * 3) rows ++ drop n rows) none ∙ take-append-drop (count * 3) rows)
@@ -40,7 +40,7 @@ module _ (key mask entered route count : ℕ) (rows : List ℕ) where
           → take (count * 3) rows ++ ((key ∷ mask ∷ route ∷ []) ++ drop (count * 3 + 3) rows)
           ≡ take (count * 3) rows ++ (cond b (key ∷ mask ∷ route ∷ []) [] ++ drop (count * 3 + length (cond b (key ∷ mask ∷ route ∷ []) [])) rows)
       go true f = refl
-      go false f = absurd (let z : _≡_ {A = ℕ} 0 1 = cc in omega arith)
+      go false f = absurd (false≢true f)
 
 -- ---- all chips below a number
 

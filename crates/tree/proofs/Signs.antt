@@ -1,7 +1,7 @@
 -- Small signed numbers as 32 bits hold them: what is read back is the number, its negation fits, and its sign picks a way's links.
 use Prim.Native.Nat.{ℕ, zero, suc, _+_, _-_, _≤_, min}
 use mathlib.Core.Path.{_≡_, refl, sym, ap, subst, _∙_}
-use mathlib.Core.Bool.{true, false, not}
+use mathlib.Core.Bool.{true, false, not, true≢false}
 use native.Mathlib.Omega.{arith}
 use borrow.Author.Tests.{le-ltb}
 use lib.Dec.{T}
@@ -67,16 +67,13 @@ pub below-zero : (z : ℤ) → ltZ z (pos 0) ≡ not (nonNeg z)
 below-zero (pos n) = le-ltb n 0 (omega arith)
 below-zero (negsuc n) = refl
 
-apart : {X : Type 0} → true ≡ false → X
-apart e = absurd (subst T e tt)
-
 pub negated-up : (z : ℤ) → not (nonNeg z) ≡ true → T (nonNeg (negℤ z))
-negated-up (pos n) e = apart (sym e)
+negated-up (pos n) e = absurd (true≢false (sym e))
 negated-up (negsuc n) e = tt
 
 pub not-below : (z : ℤ) → not (nonNeg z) ≡ false → T (nonNeg z)
 not-below (pos n) e = tt
-not-below (negsuc n) e = apart e
+not-below (negsuc n) e = absurd (true≢false e)
 
 pub size-fits : (z : ℤ) → natAbs z ≤ 11 → Fits w64 (natAbs z)
 size-fits z h = record { fits = omega arith }
@@ -85,24 +82,24 @@ size-fits z h = record { fits = omega arith }
 
 pub both-back : (e n : ℤ) (a b m : ℕ) → a ≡ natAbs e → b ≡ natAbs n → m ≡ min a b → not (nonNeg e) ≡ true → not (nonNeg n) ≡ true
     → _≡_ {A = Legs} (record { shared = m; turn = a; end = a + b - m; diagonal = 4; sideways = 3; upright = 5 }) (legsOf (record { east = e; north = n }))
-both-back (pos x) n a b m pa pb pm se sn = apart (sym se)
-both-back (negsuc x) (pos y) a b m pa pb pm se sn = apart (sym sn)
+both-back (pos x) n a b m pa pb pm se sn = absurd (true≢false (sym se))
+both-back (negsuc x) (pos y) a b m pa pb pm se sn = absurd (true≢false (sym sn))
 both-back (negsuc x) (negsuc y) a b m pa pb pm se sn = cc
 
 pub both-on : (e n : ℤ) (a b m : ℕ) → a ≡ natAbs e → b ≡ natAbs n → m ≡ min a b → not (nonNeg e) ≡ false → not (nonNeg n) ≡ false
     → _≡_ {A = Legs} (record { shared = m; turn = a; end = a + b - m; diagonal = 1; sideways = 0; upright = 2 }) (legsOf (record { east = e; north = n }))
-both-on (negsuc x) n a b m pa pb pm se sn = apart se
-both-on (pos x) (negsuc y) a b m pa pb pm se sn = apart sn
+both-on (negsuc x) n a b m pa pb pm se sn = absurd (true≢false se)
+both-on (pos x) (negsuc y) a b m pa pb pm se sn = absurd (true≢false sn)
 both-on (pos x) (pos y) a b m pa pb pm se sn = cc
 
 pub back-on : (e n : ℤ) (a b : ℕ) → a ≡ natAbs e → b ≡ natAbs n → not (nonNeg e) ≡ true → not (nonNeg n) ≡ false
     → _≡_ {A = Legs} (record { shared = 0; turn = a; end = a + b; diagonal = 4; sideways = 3; upright = 2 }) (legsOf (record { east = e; north = n }))
-back-on (pos x) n a b pa pb se sn = apart (sym se)
-back-on (negsuc x) (negsuc y) a b pa pb se sn = apart sn
+back-on (pos x) n a b pa pb se sn = absurd (true≢false (sym se))
+back-on (negsuc x) (negsuc y) a b pa pb se sn = absurd (true≢false sn)
 back-on (negsuc x) (pos y) a b pa pb se sn = let whole : a + b ≡ suc x + y - 0 = omega arith in cc
 
 pub on-back : (e n : ℤ) (a b : ℕ) → a ≡ natAbs e → b ≡ natAbs n → not (nonNeg e) ≡ false → not (nonNeg n) ≡ true
     → _≡_ {A = Legs} (record { shared = 0; turn = a; end = a + b; diagonal = 1; sideways = 0; upright = 5 }) (legsOf (record { east = e; north = n }))
-on-back (negsuc x) n a b pa pb se sn = apart se
-on-back (pos x) (pos y) a b pa pb se sn = apart (sym sn)
+on-back (negsuc x) n a b pa pb se sn = absurd (true≢false se)
+on-back (pos x) (pos y) a b pa pb se sn = absurd (true≢false (sym sn))
 on-back (pos x) (negsuc y) a b pa pb se sn = let whole : a + b ≡ x + suc y - 0 = omega arith in cc

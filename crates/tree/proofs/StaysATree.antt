@@ -11,13 +11,14 @@ use lib.Dec.{eqb}
 use lib.ListN.{length-set}
 use lib.Seq.{getD-set-same, getD-set-other}
 use Rattle.steps.specs.Links.{has}
+use Rattle.links.proofs.Crossing.{across-there}
 use Rattle.links.specs.Across.{across, opposite}
 use Rattle.tree.specs.Growing.{Grown, oneMore}
 use Rattle.tree.specs.Rows.{enteredAt, routeAt}
 use Rattle.tree.specs.Rooted.{isLink, Rooted}
 use Rattle.tree.specs.Walking.{Marks}
 use Rattle.tree.proofs.RouteBits.{bit-kept, bit-set, bit-of, none-in, processors-kept}
-use Rattle.tree.proofs.AcrossBack.{across-there, across-back}
+use Rattle.tree.proofs.AcrossBack.{across-back}
 
 module _ (w h source : ℕ) (small : suc h * suc w ≤ 144) where
   abbrev all : ℕ
@@ -42,7 +43,7 @@ module _ (w h source : ℕ) (small : suc h * suc w ≤ 144) where
     r = g .rooted
 
     entered-next : enteredAt new next ≡ i
-    entered-next = getD-set-same (t .entered) next i 0 (omega (arith, across-there w h chip i, g .marks .entered-long))
+    entered-next = getD-set-same (t .entered) next i 0 (omega (arith, across-there (suc w) (suc h) chip i (omega arith) (omega arith), g .marks .entered-long))
 
     entered-other : (d : ℕ) → (d ≡ next → ⊥) → enteredAt new d ≡ enteredAt t d
     entered-other d n = getD-set-other (t .entered) next d i 0 n
@@ -63,7 +64,7 @@ module _ (w h source : ℕ) (small : suc h * suc w ≤ 144) where
 
     link-within : (d j : ℕ) → d < all → j < 6 → isLink (suc w) (suc h) source t d j ≡ true → d ≡ next → ⊥
     link-within d j hd hj l e =
-        none-in j hj (ap (λ (k : ℕ). has k j) (sym (ap (routeAt t) e ∙ r .outside next (across-there w h chip i) out)) ∙ l)
+        none-in j hj (ap (λ (k : ℕ). has k j) (sym (ap (routeAt t) e ∙ r .outside next (across-there (suc w) (suc h) chip i (omega arith) (omega arith)) out)) ∙ l)
 
     -- a link of the new tree is one that there was, or the one that is added
     link-of : (d j : ℕ) → j < 6 → isLink (suc w) (suc h) source new d j ≡ true → (isLink (suc w) (suc h) source t d j ≡ true) ⊎ ((d ≡ chip) × (j ≡ i))

@@ -1,10 +1,10 @@
 use borrow.Author.Needs.{needs}
 use mathlib.Core.Path.{refl, _∙_, sym, ap}
 use lib.ListN.{length}
-use Rattle.mesh.specs.Steps.{tablesOf}
+use Rattle.mesh.specs.Lending.{tablesOf}
 use Rattle.buffer.specs.declared.testing.Tested.{Tested}
 use Rattle.buffer.proofs.Refusals.{inject-number, inject-place}
-use Rattle.buffer.proofs.Goings.{lent-room}
+use Rattle.buffer.proofs.LoggedPasses.{lent-room}
 use Rattle.buffer.proofs.InjectCall.{inject-refused, inject-lent, taken-packet, inject-due, inject-leaves}
 use Rattle.buffer.proofs.moving.inject_tested.Statement.{statement}
 use Rattle.buffer.proofs.moving.inject_tested.Tie as tie

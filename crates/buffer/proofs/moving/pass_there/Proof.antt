@@ -3,12 +3,12 @@ use mathlib.Core.Path.{refl}
 use mathlib.Core.List.{[], _∷_}
 use native.Mathlib.Omega.{arith}
 use Rattle.lists.specs.Lists.{All}
-use Rattle.mesh.specs.Steps.{tablesOf}
+use Rattle.mesh.specs.Lending.{tablesOf}
 use Rattle.buffer.specs.Layout.{chipsOf}
 use Rattle.buffer.specs.PassesInTurn.{arrival}
 use Rattle.buffer.proofs.FineSteps.{head-size}
 use Rattle.buffer.proofs.Headers.{head-range}
-use Rattle.buffer.proofs.Goings as goings
+use Rattle.buffer.proofs.LoggedPasses as goings
 use borrow.Author.Needs.{needs}
 use Rattle.buffer.proofs.moving.pass_there.Statement.{statement}
 use Rattle.buffer.proofs.moving.pass_there.Tie as tie

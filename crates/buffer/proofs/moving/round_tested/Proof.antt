@@ -2,12 +2,12 @@ use borrow.Author.Needs.{needs}
 use mathlib.Core.Path.{_∙_, sym, ap}
 use native.Mathlib.Omega.{arith}
 use lib.ListN.{length}
-use Rattle.mesh.specs.Steps.{tablesOf}
+use Rattle.mesh.specs.Lending.{tablesOf}
 use Rattle.buffer.specs.declared.testing.Tested.{Tested}
 use Rattle.buffer.proofs.Refusals.{round-number, round-place}
 use Rattle.buffer.proofs.HoldsMesh.{holds-size, words-enough, few-held}
 use Rattle.buffer.proofs.Headers.{chips-kept}
-use Rattle.buffer.proofs.Goings.{lent-room}
+use Rattle.buffer.proofs.LoggedPasses.{lent-room}
 use Rattle.buffer.proofs.RoundCall.{round-room-refused, round-fits, round-room, round-holds, round-lent, round-refused, round-due, over-requires, count-small, round-leaves}
 use Rattle.buffer.proofs.moving.round_tested.Statement.{statement}
 use Rattle.buffer.proofs.moving.round_tested.Tie as tie

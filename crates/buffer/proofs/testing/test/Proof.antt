@@ -4,8 +4,8 @@ use Prim.Native.Nat.{ℕ}
 use native.Mathlib.Omega.{arith}
 use Rattle.tables.proofs.Sizes.{chips-small, chips-some}
 use Rattle.packet.specs.Refusal.{firstOf}
-use Rattle.mesh.specs.Steps.{tablesOf}
-use Rattle.mesh.specs.Calls.{tablesRefusals, placeIn}
+use Rattle.mesh.specs.Lending.{tablesOf}
+use Rattle.mesh.specs.Refusals.{tablesRefusals, placeIn}
 use Rattle.buffer.proofs.Refusals.{tables-sized}
 use Rattle.buffer.proofs.HoldsMesh.{holds-size, words-enough}
 use borrow.Author.Needs.{needs}

@@ -1,5 +1,5 @@
 -- `searching::grouped_row` meets its contract. The loop's invariant: what is left of the group finds what the whole table finds. The measure is how much is left.
-use Prim.Native.Nat.{ℕ, _+_, _*_, _<_, _≤_, _-_, _/_}
+use Prim.Native.Nat.{ℕ, suc, _+_, _*_, _<_, _≤_, _-_, _/_}
 use mathlib.Core.Path.{_≡_, sym, ap, _∙_}
 use mathlib.Core.List.{List}
 use native.Mathlib.Omega.{arith}
@@ -30,15 +30,19 @@ block words key g e i = e i * sym (rows-many words) i
 top-of-requires : tie.Need-top-of-requires Inv-loop μ-loop
 top-of-requires c κs = tt
 
-mul-end : tie.Need-mul-end Inv-loop μ-loop
-mul-end c =
+-- the block ends within the room that 1,024 rows ask for
+ends : (c : tie.After-top-of Inv-loop μ-loop)
+    → let n = length (c .before .before .before .args .rows .now) / 3 in
+    c .top-of .result * n + n ≤ 262144
+ends c =
     let s = c .before .before .before in
     omega (arith, s .pre .0, block-end (length (s .args .rows .now) / 3) (c .top-of .result) 256 (c .top-of .ensures .1))
 
+mul-end : tie.Need-mul-end Inv-loop μ-loop
+mul-end c = omega (arith, ends c)
+
 add-end : tie.Need-add-end Inv-loop μ-loop
-add-end c =
-    let s = c .before .before .before in
-    omega (arith, s .pre .0, block-end (length (s .args .rows .now) / 3) (c .top-of .result) 256 (c .top-of .ensures .1))
+add-end c = omega (arith, ends c)
 
 mul-wide : tie.Need-mul-wide Inv-loop μ-loop
 mul-wide c = omega (arith, c .top-of .ensures)
@@ -51,38 +55,34 @@ shared-slice-read-wide c =
 wide-requires : tie.Need-wide-requires Inv-loop μ-loop
 wide-requires c κs = tt
 
+-- the number in front is one more than the group has rows
+many : (c : tie.After-wide Inv-loop μ-loop)
+    → let a = c .before .before .before .before .before .args in
+    c .wide .result ≡ suc (length (groupOf (rowsOf (a .rows .now)) (topOf (a .key))))
+many c =
+    let s = c .before .before .before .before .before in
+    let top = c .before .before .top-of in
+    c .wide .ensures ∙ ap (λ (g : ℕ). getD (s .args .room .now) g 0) (top .ensures .0) ∙ s .pre .1 (omega (arith, top .ensures)) .many
+
 add-end-2 : tie.Need-add-end-2 Inv-loop μ-loop
 add-end-2 c =
-    let s = c .before .before .before .before .before in
-    let words = s .args .rows .now in
-    let room = s .args .room .now in
-    let key = s .args .key in
-    let top = c .before .before .top-of in
-    let many = c .wide .ensures ∙ ap (λ (g : ℕ). getD room g 0) (top .ensures .0) ∙ s .pre .1 (omega (arith, top .ensures)) .many in
-    omega (arith, s .pre .0, many, rows-many words, from-most (topOf key) 0 (rowsOf words), block-end (length words / 3) (top .result) 256 (top .ensures .1))
+    let a = c .before .before .before .before .before .args in
+    omega (arith, many c, rows-many (a .rows .now), from-most (topOf (a .key)) 0 (rowsOf (a .rows .now)), ends (c .before .before))
 
 mul-k : tie.Need-mul-k Inv-loop μ-loop
-mul-k c =
-    let s = c .before .before .before .before .before in
-    let top = c .before .before .top-of in
-    omega (arith, s .pre .0, block-end (length (s .args .rows .now) / 3) (top .result) 256 (top .ensures .1))
+mul-k c = omega (arith, ends (c .before .before))
 
 add-k : tie.Need-add-k Inv-loop μ-loop
-add-k c =
-    let s = c .before .before .before .before .before in
-    let top = c .before .before .top-of in
-    omega (arith, s .pre .0, block-end (length (s .args .rows .now) / 3) (top .result) 256 (top .ensures .1))
+add-k c = omega (arith, ends (c .before .before))
 
 loop-holds : tie.Need-loop-holds Inv-loop μ-loop
 loop-holds c =
     let s = c .before .before .before .before .before in
     let words = s .args .rows .now in
-    let room = s .args .room .now in
     let key = s .args .key in
     let top = c .before .before .top-of in
-    let many = c .wide .ensures ∙ ap (λ (g : ℕ). getD room g 0) (top .ensures .0) ∙ s .pre .1 (omega (arith, top .ensures)) .many in
     let at = block words key (top .result) (top .ensures .0) in (
-      omega (arith, many, at),
+      omega (arith, many c, at),
       (omega (arith, at), search-begins (rowsOf words) key (257 + top .result * (length words / 3)) (omega (arith, s .fits .key)) (omega (arith, at))),
     )
 
@@ -112,6 +112,15 @@ wide-requires-2 c κs = tt
 matches-at-requires : tie.Need-matches-at-requires Inv-loop μ-loop
 matches-at-requires c κs = omega (arith, turn (c .before .before) .1, c .wide2 .ensures)
 
+-- the row under test is the one whose number stands there
+tested : (c : tie.After-matches-at Inv-loop μ-loop)
+    → let s = c .before .before .before .before .before .before .before .before .before .before in
+    let m = getD (s .args .room .now) (c .before .before .before .before .loop .k) 0 in
+    matches (s .args .key) (getD (s .args .rows .now) (m * 3) 0) (getD (s .args .rows .now) (m * 3 + 1) 0) ≡ c .matches-at .result
+tested c =
+    let s = c .before .before .before .before .before .before .before .before .before .before in
+    ap (λ (m : ℕ). matches (s .args .key) (getD (s .args .rows .now) (m * 3) 0) (getD (s .args .rows .now) (m * 3 + 1) 0)) (sym (c .before .wide2 .ensures)) ∙ sym (c .matches-at .ensures)
+
 returns : tie.Need-returns Inv-loop μ-loop
 returns c =
     let n = c .before .before .wide2 in
@@ -123,8 +132,7 @@ returns c =
     let key = s .args .key in
     let top = at .before .before .before .top-of in
     let small : topOf key < 256 = omega (arith, top .ensures) in
-    let matched = ap (λ (m : ℕ). matches key (getD words (m * 3) 0) (getD words (m * 3 + 1) 0)) (sym (n .ensures)) ∙ sym (c .before .matches-at .ensures) ∙ c .if1 .taken in
-    let here = found-here words room key (s .pre .1 small) small (at .loop .k) (at .loop .inv .1 .0) (omega (arith, at .loop .inv .0, t .loop-test .taken)) matched in
+    let here = found-here words room key (s .pre .1 small) small (at .loop .k) (at .loop .inv .1 .0) (omega (arith, at .loop .inv .0, t .loop-test .taken)) (tested (c .before) ∙ c .if1 .taken) in
     let found : firstMatch key (rowsOf words) ≡ At (n .result) = sym (at .loop .inv .1 .1) ∙ here ∙ ap At (sym (n .ensures)) in
     let below : n .result < length words / 3 = omega (arith, turn t .1, n .ensures) in
     (simp (lt-ltb (n .result) (length words / 3) below) (sym found), omega arith)
@@ -139,7 +147,6 @@ loop-less c = omega (arith, c .before .before .before .before .loop-test .taken)
 
 loop-again : tie.Need-loop-again Inv-loop μ-loop
 loop-again c =
-    let n = c .before .before .wide2 in
     let t = c .before .before .before .before in
     let at = t .before in
     let s = at .before .before .before .before .before .before in
@@ -148,8 +155,7 @@ loop-again c =
     let key = s .args .key in
     let top = at .before .before .before .top-of in
     let small : topOf key < 256 = omega (arith, top .ensures) in
-    let missed = ap (λ (m : ℕ). matches key (getD words (m * 3) 0) (getD words (m * 3 + 1) 0)) (sym (n .ensures)) ∙ sym (c .before .matches-at .ensures) ∙ c .if1 .left in
-    let on = search-on words room key (s .pre .1 small) small (at .loop .k) (at .loop .inv .1 .0) (omega (arith, at .loop .inv .0, t .loop-test .taken)) missed in
+    let on = search-on words room key (s .pre .1 small) small (at .loop .k) (at .loop .inv .1 .0) (omega (arith, at .loop .inv .0, t .loop-test .taken)) (tested (c .before) ∙ c .if1 .left) in
     (at .loop .inv .0, (omega (arith, at .loop .inv .1 .0), sym on ∙ at .loop .inv .1 .1))
 
 returns-2 : tie.Need-returns-2 Inv-loop μ-loop

@@ -3,7 +3,7 @@ use mathlib.Core.Path.{sym, ap, ap₂, _∙_}
 use Prim.Native.Nat.{_<_}
 use native.Mathlib.Nat.{mod-lt}
 use lib.Dec.{lit<}
-use Rattle.router.proofs.Inputs.{checked, passed, few-at-17}
+use Rattle.router.proofs.Inputs.{checked, none-refused, few-at-17}
 use Rattle.router.proofs.Shown.{answer-shown, unless-none, unless-sets}
 use Rattle.router.specs.Showing.{passShown}
 use Rattle.router.specs.Call.{passOf, answer}
@@ -19,7 +19,7 @@ outcome-unless-requires : tie.Need-outcome-unless-requires
 outcome-unless-requires c κs =
     let a = c .before .before .before .before .before .args in
     λ none.
-    let t = passed (c .before .before .before .before .before .args .bytes .now) (c .before .before .before .before .before .args .source) (chipTables (a .rows .now) (a .codes .now) (a .fixed)) (c .before .before .before .before .before .args .t) (a .room) (sym (ap (λ (x : Taken). x .refusal) (c .before .checked .ensures)) ∙ none) in
+    let t = none-refused (c .before .before .before .before .before .args .bytes .now) (c .before .before .before .before .before .args .source) (chipTables (a .rows .now) (a .codes .now) (a .fixed)) (c .before .before .before .before .before .args .t) (a .room) (sym (ap (λ (x : Taken). x .refusal) (c .before .checked .ensures)) ∙ none) in
     let control : c .before .checked .result .packet .control < 256 =
     rw (c .before .checked .ensures ∙ t .packet) (mod-lt _ (lit< tt)) in
     checked _ _ (chipTables (a .rows .now) (a .codes .now) (a .fixed)) _ control (t .tests)
@@ -33,7 +33,7 @@ shown-requires : tie.Need-shown-requires
 shown-requires c κs =
     let a = c .before .before .before .before .before .before .before .args in
     let s = unless-sets (c .before .before .before .checked .result) (a .source) (chipTables (a .rows .now) (a .codes .now) (a .fixed)) (a .t) in
-    rw (c .before .outcome-unless .ensures) (unless-none (c .before .before .before .checked .result) (a .source) (chipTables (a .rows .now) (a .codes .now) (a .fixed)) (a .t), (s .sent, (s .dropped, s .lost)))
+    rw (c .before .outcome-unless .ensures) (unless-none (c .before .before .before .checked .result) (a .source) (chipTables (a .rows .now) (a .codes .now) (a .fixed)) (a .t), (s .sent, (s .dropped, s .leg-dropped)))
 
 returns : tie.Need-returns
 unfolding passOf

@@ -3,7 +3,7 @@ use mathlib.Core.Path.{sym, ap}
 use lib.Seq.{length-take-le}
 use Rattle.buffer.specs.declared.testing.Tested.{Tested}
 use lib.ListN.{length}
-use Rattle.mesh.specs.Steps.{tablesOf}
+use Rattle.mesh.specs.Lending.{tablesOf}
 use Rattle.records.specs.Records.{nineOf}
 use Rattle.trace.proofs.MadeCalls.{made-injection, made-round, made-change, made-read}
 use Rattle.trace.proofs.Rooms.{room-injection, room-round, room-change, room-read}

@@ -2,7 +2,7 @@ use mathlib.Core.Path.{_≡_, _∙_}
 use Prim.Native.Nat.{_-_}
 use native.Mathlib.Omega.{arith}
 use lib.ListN.{length}
-use Rattle.mesh.specs.Steps.{tablesOf}
+use Rattle.mesh.specs.Lending.{tablesOf}
 use Rattle.buffer.specs.Testing.{testedOf}
 use Rattle.trace.proofs.SoFar.{SoFar, begun, tested-still}
 use Rattle.trace.proofs.Replays.{log-kept, at-the-end, stopped-here, some-bytes, bytes-within, added-within, one-more}

@@ -1,7 +1,7 @@
 use borrow.Author.Needs.{needs}
 use mathlib.Core.Path.{_∙_}
 use lib.ListN.{length}
-use Rattle.mesh.specs.Steps.{tablesOf}
+use Rattle.mesh.specs.Lending.{tablesOf}
 use Rattle.records.proofs.ReadRecords.{read-packet}
 use Rattle.trace.proofs.DoneRecords.{record-refused, record-made}
 use Rattle.trace.proofs.Rooms.{room-refused, room-made}

@@ -1,8 +1,8 @@
 // All passes of a round, one after the other: what was set aside, chips by number, arrival links 0 to 5, oldest first.
-use super::going::pass_found;
-use super::going::pass_one;
-use super::going::row_place;
 use super::grouping::group_chip;
+use super::logged_pass::pass_found;
+use super::logged_pass::pass_one;
+use super::logged_pass::row_place;
 use links::across::aside_place;
 use links::link::packet_at;
 use links::offsets::HEIGHT;
@@ -18,8 +18,9 @@ ghost use Rattle.links.specs.Offsets.{widthAt, heightAt};
 ghost use Rattle.links.specs.Words.{asidePlace};
 ghost use Rattle.groups.specs.Room.{longest};
 ghost use Rattle.tables.specs.Tables.{chipTables};
-ghost use Rattle.mesh.specs.Calls.{Lent};
-ghost use Rattle.mesh.specs.Steps.{tablesOf, passAt, same};
+ghost use Rattle.mesh.specs.Refusals.{Lent};
+ghost use Rattle.mesh.specs.Lending.{tablesOf};
+ghost use Rattle.mesh.specs.Steps.{passAt, same};
 ghost use Rattle.mesh.specs.Room.{keysOf, roomAt, roomUpto};
 ghost use Rattle.buffer.specs.Grouping.{GroupsFor, RoomFits};
 ghost use Rattle.buffer.specs.PassesInTurn.{arrival, passBy, asideBy, asideFrom, Due, DueAside, Passed};

@@ -27,12 +27,13 @@ use Rattle.links.specs.Offsets.{widthAt, heightAt, monitorAt, phaseAt, chipLong
 use Rattle.links.specs.LinkWords.{still}
 use Rattle.links.specs.Link.{readyLinks}
 use Rattle.buffer.specs.Layout.{chipIn, meshOf, wordsFor, chipsOf, wordsOf}
-use Rattle.mesh.specs.Steps.{Tables, Arrival, Going, tablesOf, codesAt, logOf, settingAt, chipAfter, withChip, passAt, same, tablesAt}
+use Rattle.mesh.specs.Lending.{Tables, tablesOf, codesAt, tablesAt}
+use Rattle.mesh.specs.Steps.{Arrival, Going, logOf, settingAt, chipAfter, withChip, passAt, same}
 use Rattle.buffer.specs.Passing.{chipWords, settingIn, CheckedAt, MeshStep}
 use Rattle.buffer.specs.Holding.{headFine}
 use Rattle.buffer.specs.Logs.{Logged}
 use Rattle.buffer.specs.PassesInTurn.{goingIn, passBy, Due, Passed}
-use Rattle.mesh.specs.Calls.{Lent}
+use Rattle.mesh.specs.Refusals.{Lent}
 use Rattle.lists.proofs.Alls.{all-right}
 use Rattle.buffer.proofs.Headers.{Head, head-range, head-same, head-fine-same}
 use Rattle.buffer.proofs.MeshParts.{mesh-chip}

@@ -1,20 +1,20 @@
--- `arriving::pass_chip` meets its contract.
+-- `round_passes::pass_chip` meets its contract.
 use mathlib.Core.Path.{sym, _∙_}
 use native.Mathlib.Omega.{arith}
 use lib.ListN.{length}
 use lib.Seq.{length-take-le}
-use Rattle.mesh.specs.Steps.{tablesOf}
+use Rattle.mesh.specs.Lending.{tablesOf}
 use Rattle.mesh.specs.Room.{keysOf}
 use Rattle.buffer.specs.Layout.{chipsOf}
 use Rattle.buffer.specs.PassesInTurn.{asideFrom}
 use Rattle.buffer.proofs.FineSteps.{head-size}
 use Rattle.buffer.proofs.Headers.{head-range}
-use Rattle.buffer.proofs.Goings as goings
+use Rattle.buffer.proofs.LoggedPasses as goings
 use Rattle.buffer.proofs.Arrivals.{at-the-chip}
 use Rattle.buffer.proofs.GroupsBuilt.{chip-there, fits-cut, room-cut}
 use borrow.Author.Needs.{needs}
-use Rattle.buffer.proofs.arriving.pass_chip.Statement.{statement}
-use Rattle.buffer.proofs.arriving.pass_chip.Tie as tie
+use Rattle.buffer.proofs.round_passes.pass_chip.Statement.{statement}
+use Rattle.buffer.proofs.round_passes.pass_chip.Tie as tie
 
 -- the chip's tables, cut out of all that is lent
 cut-here : (s : tie.Start) → goings.Cuts (tablesOf (s .args .rows .now) (s .args .starts .now) (s .args .codes .now) (s .args .fixed .now) 0) (chipsOf (s .args .mesh .now)) (s .args .chip)

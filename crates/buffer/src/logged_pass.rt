@@ -1,6 +1,6 @@
 // One pass at a chip with its own tables, and its record in the log.
 use super::logging::write_record;
-use super::passing::pass_at;
+use super::one_pass::pass_at;
 use groups::searching::grouped_row;
 use packet::Packet;
 ghost use mathlib.Core.Path.{_≡_};

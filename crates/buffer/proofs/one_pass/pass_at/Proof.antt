@@ -9,8 +9,8 @@ use Rattle.buffer.proofs.Takes.{takes}
 use Rattle.buffer.specs.Passing.{chipWords, settingIn}
 use Rattle.buffer.specs.Layout.{chipIn}
 use Rattle.steps.specs.Deciding.{Checked, outcomeOf}
-use Rattle.buffer.proofs.passing.pass_at.Statement.{statement}
-use Rattle.buffer.proofs.passing.pass_at.Tie as tie
+use Rattle.buffer.proofs.one_pass.pass_at.Statement.{statement}
+use Rattle.buffer.proofs.one_pass.pass_at.Tie as tie
 use Rattle.links.specs.Offsets.{widthAt, heightAt, monitorAt, phaseAt, headerLong, chipLong}
 use Rattle.links.specs.Link.{readyLinks}
 use Rattle.tables.specs.Tables.{chipTables}

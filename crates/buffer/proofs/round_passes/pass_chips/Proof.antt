@@ -1,20 +1,21 @@
--- `arriving::pass_chips` meets its contract. The loop's invariant: the chips before `chip` have passed what was set aside for them, and the room is as they leave it.
+-- `round_passes::pass_chips` meets its contract. The loop's invariant: the chips before `chip` have passed what was set aside for them, and the room is as they leave it.
 use mathlib.Core.Path.{_≡_, refl, sym, ap, _∙_, subst}
 use native.Mathlib.Omega.{arith}
 use native.Mathlib.Numerals.{add-one}
 use Prim.Native.Nat.{ℕ, _+_, _-_, _≤_, _<_}
 use native.Mathlib.Nat.{lt-of-lt-of-le}
 use lib.ListN.{length, getD}
-use Rattle.mesh.specs.Calls.{Lent}
-use Rattle.mesh.specs.Steps.{tablesOf, passAt, same}
+use Rattle.mesh.specs.Refusals.{Lent}
+use Rattle.mesh.specs.Lending.{tablesOf}
+use Rattle.mesh.specs.Steps.{passAt, same}
 use Rattle.mesh.specs.Room.{keysOf, roomUpto}
 use Rattle.lists.specs.Lists.{upTo}
 use Rattle.buffer.specs.PassesInTurn.{asideFrom, Passed}
 use Rattle.buffer.specs.Grouping.{RoomFits}
 use Rattle.buffer.proofs.GroupsBuilt.{fits-each, room-none, room-next}
 use Rattle.buffer.proofs.Arrivals as arrivals
-use Rattle.buffer.proofs.arriving.pass_chips.Statement.{statement}
-use Rattle.buffer.proofs.arriving.pass_chips.Tie as tie
+use Rattle.buffer.proofs.round_passes.pass_chips.Statement.{statement}
+use Rattle.buffer.proofs.round_passes.pass_chips.Tie as tie
 
 abbrev Inv-loop : tie.InvT-loop
 Inv-loop mesh₀ log₀ count rows starts codes fixed room₀ n₀ chip₀ mesh log room n chip =

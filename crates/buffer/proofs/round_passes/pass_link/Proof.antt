@@ -7,8 +7,8 @@ use Rattle.tables.specs.Tables.{chipTables}
 use Rattle.lists.specs.Lists.{upTo}
 use Rattle.buffer.specs.PassesInTurn.{passBy, Passed}
 use Rattle.buffer.proofs.Arrivals as arrivals
-use Rattle.buffer.proofs.arriving.pass_link.Statement.{statement}
-use Rattle.buffer.proofs.arriving.pass_link.Tie as tie
+use Rattle.buffer.proofs.round_passes.pass_link.Statement.{statement}
+use Rattle.buffer.proofs.round_passes.pass_link.Tie as tie
 
 abbrev Inv-loop : tie.InvT-loop
 Inv-loop mesh₀ log₀ n chip source at rows codes fixed room count done₀ i₀ mesh log done i =

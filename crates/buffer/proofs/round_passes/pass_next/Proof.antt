@@ -1,7 +1,7 @@
 use Rattle.lists.specs.Lists.{All}
 use borrow.Author.Needs.{needs}
-use Rattle.buffer.proofs.arriving.pass_next.Statement.{statement}
-use Rattle.buffer.proofs.arriving.pass_next.Tie as tie
+use Rattle.buffer.proofs.round_passes.pass_next.Statement.{statement}
+use Rattle.buffer.proofs.round_passes.pass_next.Tie as tie
 
 pass-one-requires : tie.Need-pass-one-requires
 pass-one-requires c κs = search needs

@@ -1,10 +1,10 @@
 use native.Mathlib.Omega.{arith}
 use native.Mathlib.Nat.{add-sub-cancel-left}
 use Prim.Native.Nat.{_*_}
-use Rattle.buffer.proofs.Goings as goings
+use Rattle.buffer.proofs.LoggedPasses as goings
 use borrow.Author.Needs.{needs}
-use Rattle.buffer.proofs.going.pass_found.Statement.{statement}
-use Rattle.buffer.proofs.going.pass_found.Tie as tie
+use Rattle.buffer.proofs.logged_pass.pass_found.Statement.{statement}
+use Rattle.buffer.proofs.logged_pass.pass_found.Tie as tie
 
 grouped-row-requires : tie.Need-grouped-row-requires
 grouped-row-requires c κs = search needs

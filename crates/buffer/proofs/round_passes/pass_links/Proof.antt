@@ -10,8 +10,8 @@ use Rattle.buffer.specs.PassesInTurn.{asideBy, passBy, Passed}
 use Rattle.buffer.proofs.FineSteps.{head-size}
 use Rattle.buffer.proofs.Headers.{head-range}
 use Rattle.buffer.proofs.Arrivals as arrivals
-use Rattle.buffer.proofs.arriving.pass_links.Statement.{statement}
-use Rattle.buffer.proofs.arriving.pass_links.Tie as tie
+use Rattle.buffer.proofs.round_passes.pass_links.Statement.{statement}
+use Rattle.buffer.proofs.round_passes.pass_links.Tie as tie
 
 abbrev Inv-loop : tie.InvT-loop
 Inv-loop mesh₀ log₀ n chip rows codes fixed room width height x y done₀ source₀ mesh log done source =

@@ -1,8 +1,8 @@
 use borrow.Author.Needs.{needs}
 use native.Mathlib.Omega.{arith}
-use Rattle.buffer.proofs.Goings as goings
-use Rattle.buffer.proofs.going.pass_one.Statement.{statement}
-use Rattle.buffer.proofs.going.pass_one.Tie as tie
+use Rattle.buffer.proofs.LoggedPasses as goings
+use Rattle.buffer.proofs.logged_pass.pass_one.Statement.{statement}
+use Rattle.buffer.proofs.logged_pass.pass_one.Tie as tie
 
 pass-at-requires : tie.Need-pass-at-requires
 pass-at-requires c κs = goings.checked-one _ _ _ _ (c .before .before .before .before .before .pre .0) _ (c .before .before .before .before .before .pre .1)
