@@ -136,10 +136,10 @@ fn send_unchanged(words: &mut [u32], packet: &Packet, wanted: u32, call: &PassCa
 
 fn send(words: &mut [u32], link: u32, packet: &Packet) {
     count(words, SENT, 1);
-    let line = &mut words[LINKS_AT + link as usize * LINK..][..LINK];
-    let place = PLACES_AT + line[HELD] as usize * PLACE;
-    line[place..place + PLACE].copy_from_slice(&[packet.control, packet.word, packet.payload]);
-    line[HELD] += 1;
+    let held = &mut words[LINKS_AT + link as usize * LINK..][..LINK];
+    let place = PLACES_AT + held[HELD] as usize * PLACE;
+    held[place..place + PLACE].copy_from_slice(&[packet.control, packet.word, packet.payload]);
+    held[HELD] += 1;
 }
 
 fn drop_for(words: &mut [u32], packet: &Packet, links: u32, call: &PassCall) {
@@ -167,8 +167,8 @@ fn count(words: &mut [u32], counter: usize, more: u32) {
 
 fn ready_set(words: &[u32]) -> u32 {
     let mut ready = 0;
-    for (link, line) in words[LINKS_AT..].chunks_exact(LINK).enumerate() {
-        ready |= u32::from(line[DOWN] == 0 && line[HELD] <= 6) << link;
+    for (link, held) in words[LINKS_AT..].chunks_exact(LINK).enumerate() {
+        ready |= u32::from(held[DOWN] == 0 && held[HELD] <= 6) << link;
     }
     ready
 }

@@ -1,6 +1,5 @@
 // The calls of a kept trace, made again: up to the first that is refused.
 use super::calls;
-use buffer::opening::open;
 use records::Call;
 use records::reading::read_record;
 use report::course::Course;

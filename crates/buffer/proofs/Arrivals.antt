@@ -15,7 +15,7 @@ use Rattle.links.specs.LinkWords.{still}
 use Rattle.buffer.specs.Layout.{chipsOf, wordsOf}
 use Rattle.mesh.specs.Steps.{Arrival, Going}
 use Rattle.buffer.specs.ChipWords.{linkWords}
-use Rattle.buffer.specs.Passing.{chipWords}
+use Rattle.buffer.specs.OnePass.{chipWords}
 use Rattle.mesh.specs.Sound.{Arrives}
 use Rattle.buffer.specs.PassesInTurn.{arrival, asideFor, asideBy, asideFrom, AsideFew, Due, DueAside, Passed}
 use Rattle.lists.specs.Lists.{All, upTo}
@@ -24,7 +24,7 @@ use Rattle.links.proofs.Places.{length-places}
 use Rattle.links.proofs.Crossing.{across-there, opposite-there}
 use Rattle.buffer.proofs.LinkWords.{word-at, packet-there, places-at}
 use Rattle.lists.proofs.UpTo.{upto-same, one-by-one, rest, upto-split}
-use Rattle.buffer.proofs.Headers.{Head, head-range, head-same}
+use Rattle.buffer.proofs.Headers.{Head, head-range, head-same, SameHeader}
 use Rattle.buffer.proofs.LoggedPasses.{passed-none, passed-append, due-next}
 
 -- ---- passes leave it alone
@@ -36,7 +36,7 @@ aside-still w w′ e =
     read w′ ∙ (λ i. placesIn (getD (same i) 0 0) (drop 1 (same i))) ∙ sym (read w)
 
 module _ (step : Going (Unit {0}) → Arrival (Unit {0}) → Going (Unit {0})) (xs : List (Arrival (Unit {0}))) (l log : List ℕ) (n : ℕ) (l₁ log₁ : List ℕ) (n₁ : ℕ) (p : Passed step xs l log n l₁ log₁ n₁) where
-  number : (i : ℕ) → i < 6 → getD l₁ i 0 ≡ getD l i 0
+  number : SameHeader l l₁
   number = head-same l l₁ (p .head)
 
   pub aside-same : (chip source : ℕ) → asideBy l₁ chip source ≡ asideBy l chip source

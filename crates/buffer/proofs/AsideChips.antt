@@ -12,7 +12,7 @@ use Rattle.links.specs.Words.{linkIn, asideIn}
 use Rattle.buffer.specs.Layout.{registersIn}
 use Rattle.lists.specs.Lists.{putBack}
 use Rattle.buffer.specs.ChipWords.{linkWords, ChangedBut, from}
-use Rattle.buffer.specs.Passing.{chipWords}
+use Rattle.buffer.specs.OnePass.{chipWords}
 use Rattle.buffer.specs.Aside.{asideOn, ChipAside, AsideUpto}
 use Rattle.buffer.specs.Held.{Few}
 use Rattle.lists.proofs.Parts.{length-back, part-same, part-before, part-behind, take-before, drop-behind}

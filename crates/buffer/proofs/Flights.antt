@@ -12,10 +12,10 @@ use Rattle.links.specs.Offsets.{heldAt, placesAt, linkLong, linkPlace}
 use Rattle.links.specs.Words.{linkIn}
 use Rattle.buffer.specs.Layout.{chipsIn, meshOf, chipsOf}
 use Rattle.buffer.specs.ChipWords.{linkWords}
-use Rattle.buffer.specs.Passing.{chipWords}
+use Rattle.buffer.specs.OnePass.{chipWords}
 use Rattle.buffer.specs.Holding.{holdsMesh}
 use Rattle.lists.specs.Lists.{total}
-use Rattle.mesh.specs.Weights.{onLink, onChip, inFlight}
+use Rattle.mesh.specs.Weights.{weightOn, onChip, inFlight}
 use Rattle.buffer.specs.Held.{chipFlight, Few}
 use Rattle.buffer.proofs.HoldsMesh.{few-held}
 use Rattle.links.proofs.Places.{length-places}
@@ -26,13 +26,13 @@ use Rattle.lists.proofs.Totals.{total-ones}
 word-at : (j : ℕ) (l : List ℕ) → getD (linkWords j l) heldAt 0 ≡ getD l (linkPlace j + 1) 0
 word-at j l = getD-take linkLong (drop (linkPlace j) l) 1 0 (lit< tt) ∙ getD-drop (linkPlace j) l 1 0
 
-link-count : (l : List ℕ) → onLink (λ f. 1) (linkIn l) ≡ getD l heldAt 0
+link-count : (l : List ℕ) → weightOn (λ f. 1) (linkIn l) ≡ getD l heldAt 0
 link-count l = total-ones (linkIn l .held) ∙ length-places (getD l heldAt 0) (drop placesAt l)
 
 pub chip-count : (l : List ℕ) → chipFlight l ≡ getD l (linkPlace 0 + heldAt) 0 + getD l (linkPlace 1 + heldAt) 0 + getD l (linkPlace 2 + heldAt) 0 + getD l (linkPlace 3 + heldAt) 0 + getD l (linkPlace 4 + heldAt) 0 + getD l (linkPlace 5 + heldAt) 0
 unfolding total
 chip-count l =
-    let e : (j : ℕ) → onLink (λ f. 1) (linkIn (linkWords j l)) ≡ getD l (linkPlace j + 1) 0 = λ j. link-count (linkWords j l) ∙ word-at j l in
+    let e : (j : ℕ) → weightOn (λ f. 1) (linkIn (linkWords j l)) ≡ getD l (linkPlace j + 1) 0 = λ j. link-count (linkWords j l) ∙ word-at j l in
     omega (arith, e 0, e 1, e 2, e 3, e 4, e 5)
 
 -- each of the six words is at most 8, and all together at most 48

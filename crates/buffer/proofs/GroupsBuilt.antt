@@ -1,7 +1,8 @@
 -- The room for groups in a round: enough for the rows that are cut out for a chip, and left as the definition says, chip by chip.
+use Rattle.lists.proofs.Bools.{both}
 use mathlib.Core.Path.{_≡_, refl, sym, ap, _∙_, subst}
-use mathlib.Core.Bool.{Bool, true, false, cond, _&&_}
-use mathlib.Core.List.{List, [], _∷_, _++_, map, append-assoc, append-nil}
+use mathlib.Core.Bool.{true, false, cond, _&&_}
+use mathlib.Core.List.{List, [], _∷_, _++_, map, append-assoc, append-nil, map-append}
 use Prim.Native.Nat.{ℕ, zero, suc, _+_, _-_, _*_, _/_, _≤_, _<_}
 use native.Mathlib.Omega.{arith}
 use borrow.Author.Tests.{ne-eqb}
@@ -25,7 +26,7 @@ use Rattle.links.specs.Words.{asidePlace, packetIn}
 use Rattle.buffer.proofs.Headers.{Head, head-range}
 use Rattle.buffer.proofs.LoggedPasses.{Cuts}
 use Rattle.buffer.proofs.Arrivals.{one, aside-read, count-at, count-few, places-there}
-use Rattle.mesh.specs.Lending.{Tables, tablesOf, rowsAt}
+use Rattle.mesh.specs.Lending.{Tables, tablesOf}
 use Rattle.mesh.specs.Steps.{Arrival}
 use Rattle.mesh.specs.Room.{keysOf, roomAt, roomUpto}
 use Rattle.buffer.specs.PassesInTurn.{arrival, asideBy, DueAside}
@@ -65,10 +66,6 @@ unfolding roomUpto
 room-next rows starts codes fixed a f chip keys room₀ room e g = λ i. roomAt (tablesOf rows starts codes fixed a) (e i) chip (g i)
 
 -- ---- the words of what was set aside
-
-map-append : {X : Type 0} (f : X → ℕ) (xs ys : List X) → map f (xs ++ ys) ≡ map f xs ++ map f ys
-map-append f [] ys = refl
-map-append f (x ∷ xs) ys = ap (λ (l : List ℕ). f x ∷ l) (map-append f xs ys)
 
 map-upto : {X : Type 0} (f : X → ℕ) (g : ℕ → List X) (n : ℕ) → map f (upTo g n) ≡ upTo (λ k. map f (g k)) n
 unfolding upTo
@@ -139,7 +136,7 @@ pub groups-there : (words room keys : List ℕ) (xs : List (Arrival (Unit {0})))
     → (worth (length keys) (length (rowsOf words)) && pays (length keys) (marksOf keys) (rowsOf words)) ≡ true → (room′ : List ℕ) → room′ ≡ groupsLeft keys (rowsOf words) room
     → (length words / 3 ≤ 1024) × All (λ a. topOf (a .flight .packet .word) < 256 → GroupedFor (rowsOf words) room′ (a .flight .packet .word)) xs
 groups-there words room keys xs e fits paid room′ left = (
-  subst (λ (n : ℕ). n ≤ 1024) (rows-many words) (worth-few (length keys) (length (rowsOf words)) (and-left (worth (length keys) (length (rowsOf words))) (pays (length keys) (marksOf keys) (rowsOf words)) paid)),
+  subst (λ (n : ℕ). n ≤ 1024) (rows-many words) (worth-few (length keys) (length (rowsOf words)) (both (worth (length keys) (length (rowsOf words))) (pays (length keys) (marksOf keys) (rowsOf words)) paid .0)),
   all-each (λ a. topOf (a .flight .packet .word) < 256 → GroupedFor (rowsOf words) room′ (a .flight .packet .word)) nowhere xs
       (λ k h small.
       let here : getD keys k 0 ≡ getD xs k nowhere .flight .packet .word = ap (λ (l : List ℕ). getD l k 0) e ∙ List·getD-map (λ (a : Arrival (Unit {0})). a .flight .packet .word) xs k nowhere in
@@ -149,7 +146,3 @@ groups-there words room keys xs e fits paid room′ left = (
   where
     nowhere : Arrival (Unit {0})
     nowhere = arrival 0 0 (packetIn [])
-
-    and-left : (a b : Bool) → (a && b) ≡ true → a ≡ true
-    and-left true b z = refl
-    and-left false b z = z

@@ -39,12 +39,15 @@ head-range l e =
       few = sizes.chips-small (getD l widthAt 0) (getD l heightAt 0) (head-size l e);
     }
 
--- what six words that are the same say alike
-pub head-same : (l l′ : List ℕ) → take headerLong l′ ≡ take headerLong l → (i : ℕ) → i < 6 → getD l′ i 0 ≡ getD l i 0
+-- each number of the header is the same
+abbrev pub SameHeader : List ℕ → List ℕ → Type 0
+SameHeader l l′ = (i : ℕ) → i < headerLong → getD l′ i 0 ≡ getD l i 0
+
+pub head-same : (l l′ : List ℕ) → take headerLong l′ ≡ take headerLong l → SameHeader l l′
 head-same l l′ e i h = sym (getD-take headerLong l′ i 0 h) ∙ ap (λ (w : List ℕ). getD w i 0) e ∙ getD-take headerLong l i 0 h
 
 pub chips-kept : (l l′ : List ℕ) → take headerLong l′ ≡ take headerLong l → chipsOf l ≤ chipsOf l′
-chips-kept l l′ e = le-of-eq (λ i. sym (head-same l l′ e 1 (lit< tt)) i * sym (head-same l l′ e 0 (lit< tt)) i)
+chips-kept l l′ e = le-of-eq (λ i. sym (head-same l l′ e heightAt (lit< tt)) i * sym (head-same l l′ e widthAt (lit< tt)) i)
 
 pub head-fine-same : (l l′ : List ℕ) → take headerLong l′ ≡ take headerLong l → headFine l′ ≡ headFine l
 head-fine-same l l′ e =

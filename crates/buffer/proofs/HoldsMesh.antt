@@ -14,7 +14,7 @@ use Rattle.tables.proofs.Sizes.{chips-small}
 use Rattle.lists.specs.Lists.{part}
 use Rattle.buffer.specs.Layout.{registersIn, chipsOf, wordsOf}
 use Rattle.buffer.specs.ChipWords.{linkWords}
-use Rattle.buffer.specs.Passing.{chipWords}
+use Rattle.buffer.specs.OnePass.{chipWords}
 use Rattle.mesh.specs.Sound.{registersFine}
 use Rattle.buffer.specs.Holding.{placesFine, linkFine, chipFine, chipsFine, headFine, holdsMesh}
 use Rattle.buffer.specs.Held.{Few}

@@ -10,7 +10,7 @@ use lib.ListN.{length, getD}
 use Rattle.packet.specs.declared.Taken.{Taken}
 use Rattle.packet.specs.Bytes.{packetAt, takenOf}
 use Rattle.packet.specs.Refusal.{firstOf}
-use Rattle.buffer.specs.Layout.{meshOf, wordsFor, chipsOf, wordsOf}
+use Rattle.buffer.specs.Layout.{meshOf, wordsFor, chipsOf}
 use Rattle.mesh.specs.Lending.{Tables}
 use Rattle.mesh.specs.Steps.{Going, injected, passAt, same}
 use Rattle.buffer.specs.Holding.{holdsMesh, StatesFine}
@@ -22,8 +22,8 @@ use Rattle.mesh.specs.declared.Added.{Added}
 use Rattle.buffer.specs.Leaving.{Moves, injectLeft}
 use Rattle.buffer.proofs.HoldsMesh.{holds-head, words-enough}
 use Rattle.mesh.proofs.SoundSteps.{sound-injected}
-use Rattle.buffer.proofs.SoundWords.{holds-sound, holds-states, sound-holds}
-use Rattle.buffer.proofs.Headers.{head-same}
+use Rattle.buffer.proofs.SoundWords.{holds-sound, holds-states, still-holds}
+use Rattle.buffer.proofs.Headers.{head-same, SameHeader}
 use Rattle.buffer.proofs.Leaving.{refused-leaves, accepted-leaves, accepted-log}
 use Rattle.mesh.proofs.Accepts.{InjectGoes, inject-goes}
 use Rattle.links.specs.Offsets.{widthAt, heightAt, stateAt}
@@ -63,7 +63,7 @@ module _ (t : Tables) (l log : List ℕ) (chip : ℕ) (bytes : List ℕ) (none :
     abbrev after : Going (Unit {0})
     after = injected t same (meshOf l) chip (record { packet = packetAt bytes; tag = tt })
 
-    number : (i : ℕ) → i < 6 → getD l₁ i 0 ≡ getD l i 0
+    number : SameHeader l l₁
     number = head-same l l₁ (p .head)
 
     states-left : StatesFine l₁
@@ -74,10 +74,9 @@ module _ (t : Tables) (l log : List ℕ) (chip : ℕ) (bytes : List ℕ) (none :
     holds-left : holdsMesh l₁ ≡ true
     unfolding meshOf
     holds-left =
-        sound-holds l₁
+        still-holds l l₁ (go .holds) (p .long) (λ i. wordsFor (number widthAt (lit< tt) i) (number heightAt (lit< tt) i))
         (subst SoundMesh (sym (ap (λ (g : Going (Unit {0})). g .mesh) (p .going))) (sound-injected t same (meshOf l) chip (record { packet = packetAt bytes; tag = tt }) (holds-sound l (go .holds)) (go .there) (go .passable) (go .lent .codes)))
         states-left
-        (subst (λ (k : ℕ). wordsOf l₁ ≤ k) (sym (p .long)) (subst (λ (k : ℕ). k ≤ length l) (λ i. wordsFor (sym (number widthAt (lit< tt)) i) (sym (number heightAt (lit< tt)) i)) (words-enough l (go .holds))))
 
     pub inject-leaves : Moves l log (injectLeft l t (length log) chip bytes) (record { refusal = 0; added = n; place = 0 }) l₁ log₁
     unfolding meshOf

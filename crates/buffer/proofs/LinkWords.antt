@@ -10,7 +10,7 @@ use Rattle.links.specs.Offsets.{placeLong, linkLong, chipLong, chipPlace, linkP
 use Rattle.links.specs.Link.{Flight}
 use Rattle.links.specs.Words.{packetIn, placesIn}
 use Rattle.buffer.specs.ChipWords.{linkWords}
-use Rattle.buffer.specs.Passing.{chipWords}
+use Rattle.buffer.specs.OnePass.{chipWords}
 use Rattle.links.proofs.Places.{packet-at}
 
 -- a word of a link of a chip

@@ -1,6 +1,6 @@
 -- Passes one after the other: one is as the mesh's definition says, and some followed by others are all of them.
 use mathlib.Core.Path.{_≡_, refl, sym, ap, _∙_, subst}
-use mathlib.Core.List.{List, [], _∷_, _++_, foldl}
+use mathlib.Core.List.{List, [], _∷_, _++_, foldl, foldl-append}
 use Prim.Native.Nat.{ℕ, zero, suc, _+_, _-_, _*_, _/_, _≤_, _<_}
 use native.Mathlib.Nat.{mul-le-mul, suc-mul, le-refl, le-trans, le-of-eq, add-sub-cancel-left}
 use native.Mathlib.Omega.{arith}
@@ -29,13 +29,13 @@ use Rattle.links.specs.Link.{readyLinks}
 use Rattle.buffer.specs.Layout.{chipIn, meshOf, wordsFor, chipsOf, wordsOf}
 use Rattle.mesh.specs.Lending.{Tables, tablesOf, codesAt, tablesAt}
 use Rattle.mesh.specs.Steps.{Arrival, Going, logOf, settingAt, chipAfter, withChip, passAt, same}
-use Rattle.buffer.specs.Passing.{chipWords, settingIn, CheckedAt, MeshStep}
+use Rattle.buffer.specs.OnePass.{chipWords, settingIn, CheckedAt, MeshStep}
 use Rattle.buffer.specs.Holding.{headFine}
 use Rattle.buffer.specs.Logs.{Logged}
 use Rattle.buffer.specs.PassesInTurn.{goingIn, passBy, Due, Passed}
 use Rattle.mesh.specs.Refusals.{Lent}
 use Rattle.lists.proofs.Alls.{all-right}
-use Rattle.buffer.proofs.Headers.{Head, head-range, head-same, head-fine-same}
+use Rattle.buffer.proofs.Headers.{Head, head-range, head-same, head-fine-same, SameHeader}
 use Rattle.buffer.proofs.MeshParts.{mesh-chip}
 use Rattle.lists.specs.Lists.{All}
 use Rattle.mesh.specs.Sound.{Arrives}
@@ -265,12 +265,8 @@ pub passed-none : (step : Going (Unit {0}) → Arrival (Unit {0}) → Going (Uni
 passed-none step l log n =
     record { long = refl; head = refl; going = refl; still = λ c j h. refl; past = refl; room = refl; behind = refl; more = omega arith; few = omega arith }
 
-foldl-append : {A B : Type 0} (f : B → A → B) (b : B) (xs ys : List A) → foldl f b (xs ++ ys) ≡ foldl f (foldl f b xs) ys
-foldl-append f b [] ys = refl
-foldl-append f b (x ∷ xs) ys = foldl-append f (f b x) xs ys
-
 module _ (step : Going (Unit {0}) → Arrival (Unit {0}) → Going (Unit {0})) (xs ys : List (Arrival (Unit {0}))) (l log : List ℕ) (n : ℕ) (l₁ log₁ : List ℕ) (n₁ : ℕ) (p : Passed step xs l log n l₁ log₁ n₁) where
-  number : (i : ℕ) → i < 6 → getD l₁ i 0 ≡ getD l i 0
+  number : SameHeader l l₁
   number = head-same l l₁ (p .head)
 
   words : wordsOf l₁ ≡ wordsOf l

@@ -15,13 +15,12 @@ use Rattle.links.specs.Offsets.{widthAt, heightAt, roundsAt, monitorAt, phaseAt
 use Rattle.links.specs.Link.{idle}
 use Rattle.lists.specs.Lists.{part}
 use Rattle.links.specs.Words.{linkIn}
-use Rattle.mesh.specs.Mesh.{Chip, fresh}
+use Rattle.mesh.specs.Mesh.{Chip, fresh, linkOf}
 use Rattle.buffer.specs.Layout.{meshOf, chipsOf}
 use Rattle.buffer.specs.Holding.{holdsMesh}
 use Rattle.buffer.specs.ChipWords.{linkWords}
-use Rattle.buffer.specs.Passing.{chipWords}
+use Rattle.buffer.specs.OnePass.{chipWords}
 use Rattle.mesh.specs.Refusals.{numberRefusals, chipRefusals}
-use Rattle.mesh.specs.Calls.{linkOf}
 use Rattle.mesh.specs.Looks.{countRead, meshRead, linkShown, linkRead}
 use Rattle.lists.proofs.Parts.{take-drop}
 use Rattle.buffer.proofs.ChipParts.{link-at}

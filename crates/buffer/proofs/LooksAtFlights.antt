@@ -17,7 +17,7 @@ use Rattle.links.proofs.Places.{length-places}
 use Rattle.buffer.specs.Layout.{meshOf, chipsOf}
 use Rattle.buffer.specs.Holding.{holdsMesh}
 use Rattle.mesh.specs.Refusals.{numberRefusals}
-use Rattle.mesh.specs.Calls.{linkOf}
+use Rattle.mesh.specs.Mesh.{linkOf}
 use Rattle.mesh.specs.Looks.{noFlight, placeRead, flightRead}
 use Rattle.buffer.proofs.HoldsMesh.{held-few}
 use Rattle.buffer.proofs.LinkWords.{places-at}

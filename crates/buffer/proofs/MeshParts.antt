@@ -11,7 +11,7 @@ use Rattle.mesh.specs.Mesh.{fresh}
 use Rattle.mesh.specs.Steps.{withChip}
 use Rattle.buffer.specs.Layout.{chipIn, chipsIn, meshOf, chipsOf}
 use Rattle.lists.specs.Lists.{putBack}
-use Rattle.buffer.specs.Passing.{chipWords}
+use Rattle.buffer.specs.OnePass.{chipWords}
 use Rattle.lists.proofs.Parts.{part-same, part-before, part-behind, getD-before}
 use Rattle.buffer.proofs.ChipParts.{order}
 use Rattle.links.specs.Offsets.{chipLong, chipPlace}

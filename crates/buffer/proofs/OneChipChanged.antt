@@ -10,28 +10,28 @@ use lib.ListN.{length, getD, set, length-set}
 use lib.Seq.{getD-set-same, getD-set-other, drop-set-lt}
 use Rattle.packet.specs.Refusal.{firstOf}
 use Rattle.mesh.specs.declared.Added.{Added}
-use Rattle.links.specs.Offsets.{widthAt, heightAt, stateAt, heldAt, linkLong, chipLong, chipPlace, linkPlace}
+use Rattle.links.specs.Offsets.{widthAt, heightAt, stateAt, heldAt, linkLong, chipLong, chipPlace, linkPlace, headerLong}
 use Rattle.links.specs.Words.{placesIn, linkIn}
 use Rattle.links.specs.LinkWords.{stateOf}
 use Rattle.buffer.specs.Layout.{meshOf, wordsFor, chipsOf, wordsOf}
-use Rattle.mesh.specs.Steps.{Going, withChip}
+use Rattle.mesh.specs.Steps.{Going, withChip, setOut}
 use Rattle.buffer.specs.Holding.{holdsMesh, StatesFine}
 use Rattle.lists.specs.Lists.{putBack}
 use Rattle.buffer.specs.ChipWords.{changedOn, linkWords}
-use Rattle.buffer.specs.Passing.{chipWords}
+use Rattle.buffer.specs.OnePass.{chipWords}
 use Rattle.mesh.specs.Sound.{SoundMesh}
 use Rattle.mesh.specs.Refusals.{numberRefusals}
-use Rattle.mesh.specs.Calls.{unless, linkOf, withUp, withLink}
+use Rattle.mesh.specs.Mesh.{linkOf}
+use Rattle.mesh.specs.Calls.{unless, withUp, withLink}
 use Rattle.buffer.specs.Leaving.{Leaves, linkLeft, stateOn}
 use Rattle.lists.proofs.Parts.{length-back, part-same, part-before, part-behind, take-before, drop-behind}
 use Rattle.buffer.proofs.ChipParts.{order, words-other, words-same, chip-link}
 use Rattle.buffer.proofs.MeshParts.{mesh-chip, mesh-put}
 use Rattle.buffer.proofs.StepAt.{chip-long}
 use Rattle.buffer.proofs.LinksChanged.{link-long}
-use Rattle.buffer.proofs.Headers.{head-same}
+use Rattle.buffer.proofs.Headers.{head-same, SameHeader}
 use Rattle.mesh.proofs.SoundChanges.{sound-linked}
-use Rattle.buffer.proofs.HoldsMesh.{words-enough}
-use Rattle.buffer.proofs.SoundWords.{holds-sound, holds-states, sound-holds}
+use Rattle.buffer.proofs.SoundWords.{holds-sound, holds-states, still-holds}
 use Rattle.buffer.proofs.Leaving.{refused-leaves, accepted-leaves, accepted-refusal}
 use Rattle.buffer.proofs.Looks.{There, number-there, link-of}
 
@@ -42,8 +42,8 @@ module _ (l : List ℕ) (chip : ℕ) (h : There l chip) (ys : List ℕ) (sized :
   abbrev changed : List ℕ
   changed = putBack (chipPlace chip) chipLong ys l
 
-  number : (i : ℕ) → i < 6 → getD changed i 0 ≡ getD l i 0
-  number = head-same l changed (take-before (chipPlace chip) chipLong ys l (h .fits) sized 6 (omega arith))
+  number : SameHeader l changed
+  number = head-same l changed (take-before (chipPlace chip) chipLong ys l (h .fits) sized headerLong (omega arith))
 
   states-changed : StatesFine (putBack (chipPlace chip) chipLong ys l)
   states-changed c j hc hj = go (order chip c)
@@ -67,9 +67,8 @@ module _ (l : List ℕ) (chip : ℕ) (h : There l chip) (ys : List ℕ) (sized :
   pub chip-leaves : (r : ℕ) → r ≡ 0 → (g : Going (Unit {0})) → meshOf (putBack (chipPlace chip) chipLong ys l) ≡ g .mesh → SoundMesh (g .mesh) → Leaves l (putBack (chipPlace chip) chipLong ys l) (unless r 0 (meshOf l) g)
   chip-leaves r none g mesh sound =
       let long = length-back (chipPlace chip) chipLong ys l (h .fits) sized in
-      let words : wordsOf changed ≤ length changed =
-      subst (λ (k : ℕ). wordsOf changed ≤ k) (sym long) (subst (λ (k : ℕ). k ≤ length l) (λ i. wordsFor (sym (number widthAt (lit< tt)) i) (sym (number heightAt (lit< tt)) i)) (words-enough l (h .holds))) in
-      accepted-leaves r 0 (meshOf l) g none l changed mesh (sound-holds changed (subst SoundMesh (sym mesh) sound) states-changed words) long
+      let words : wordsOf changed ≡ wordsOf l = λ i. wordsFor (number widthAt (lit< tt) i) (number heightAt (lit< tt) i) in
+      accepted-leaves r 0 (meshOf l) g none l changed mesh (still-holds l changed (h .holds) long words (subst SoundMesh (sym mesh) sound) states-changed) long
       (drop-behind (chipPlace chip) chipLong ys l (h .fits) sized (wordsOf l) (omega (arith, h .near)))
 
 -- ---- a link taken up or down
@@ -94,7 +93,7 @@ module _ (l : List ℕ) (chip link : ℕ) (up : Bool) where
   pub link-refused : (r : ℕ) → r ≡ firstOf (numberRefusals (holdsMesh l) (chipsOf l) chip link 6) → (r ≡ 0 → ⊥) → (r ≡ linkLeft l chip link up .refusal) × Leaves l l (linkLeft l chip link up)
   unfolding meshOf
   link-refused r e some =
-      let f = refused-leaves (firstOf (numberRefusals (holdsMesh l) (chipsOf l) chip link 6)) 0 (meshOf l) (record { mesh = withLink (meshOf l) chip link up; log = [] }) (λ z. some (e ∙ z)) l [] in
+      let f = refused-leaves (firstOf (numberRefusals (holdsMesh l) (chipsOf l) chip link 6)) 0 (meshOf l) (setOut (withLink (meshOf l) chip link up)) (λ z. some (e ∙ z)) l [] in
       (e ∙ ap (λ (a : Added). a .refusal) (f .answered), f .buffer)
 
   pub link-leaves : firstOf (numberRefusals (holdsMesh l) (chipsOf l) chip link 6) ≡ 0
@@ -117,8 +116,8 @@ module _ (l : List ℕ) (chip link : ℕ) (up : Bool) where
         counters = sym (mesh-chip l chip (h .0 .near)) i .counters;
         links = set (sym (mesh-chip l chip (h .0 .near)) i .links) link (up-set i);
       })) in (
-        accepted-refusal (firstOf (numberRefusals (holdsMesh l) (chipsOf l) chip link 6)) 0 (meshOf l) (record { mesh = withLink (meshOf l) chip link up; log = [] }) none,
-        chip-leaves l chip (h .0) ys sized states (firstOf (numberRefusals (holdsMesh l) (chipsOf l) chip link 6)) none (record { mesh = withLink (meshOf l) chip link up; log = [] }) mesh (sound-linked (holds-sound l (h .0 .holds)) chip link up (h .0 .near) (h .1)),
+        accepted-refusal (firstOf (numberRefusals (holdsMesh l) (chipsOf l) chip link 6)) 0 (meshOf l) (setOut (withLink (meshOf l) chip link up)) none,
+        chip-leaves l chip (h .0) ys sized states (firstOf (numberRefusals (holdsMesh l) (chipsOf l) chip link 6)) none (setOut (withLink (meshOf l) chip link up)) mesh (sound-linked (holds-sound l (h .0 .holds)) chip link up (h .0 .near) (h .1)),
       )
     where
       go : (j : ℕ) → j < 6 → getD (linkWords j (chipWords chip l)) stateAt 0 ≤ 1 → (link < j) ⊎ ((link ≡ j) ⊎ (j < link)) → There l chip × (link < 6) → length (chipWords chip l) ≡ chipLong

@@ -16,7 +16,7 @@ use Rattle.buffer.specs.Layout.{chipIn, chipsIn, meshOf, wordsFor}
 use Rattle.buffer.specs.Opening.{openRefusals, openedWords}
 use Rattle.buffer.specs.Holding.{holdsMesh, StatesFine}
 use Rattle.buffer.specs.ChipWords.{linkWords}
-use Rattle.buffer.specs.Passing.{chipWords}
+use Rattle.buffer.specs.OnePass.{chipWords}
 use Rattle.mesh.specs.Sound.{SoundMesh}
 use Rattle.mesh.proofs.SoundSteps.{sound-opened}
 use Rattle.buffer.proofs.SoundWords.{sound-holds}

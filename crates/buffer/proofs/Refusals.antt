@@ -1,6 +1,6 @@
 -- The first refusal that applies to a call on a mesh, test by test.
 use mathlib.Core.Path.{_≡_, refl, sym, ap, _∙_}
-use mathlib.Core.Bool.{Bool, true, false, cond, _&&_, not}
+use mathlib.Core.Bool.{Bool, true, false, cond, _&&_, not, true≢false, false≢true}
 use mathlib.Core.List.{List, [], _∷_}
 use Prim.Native.Nat.{ℕ, _*_, _/_, _≤_, _<_}
 use native.Mathlib.Omega.{arith}
@@ -111,7 +111,7 @@ module _ (l : List ℕ) (t : Tables) (x : Tested) (tested : x ≡ testedOf l t) 
 -- where one of four tests fails, the first that does
 pub lent-number : (right few routes fixed : Bool) (rest : ℕ) → ((right && few) && routes && fixed) ≡ false
     → cond (not right) 15 (cond (not few) 16 (cond (not routes) 17 18)) ≡ cond (not right) 15 (cond (not few) 16 (cond (not routes) 17 (cond (not fixed) 18 rest)))
-lent-number true true true true rest e = absurd (let z : _≡_ {A = ℕ} 0 1 = cc in omega arith)
+lent-number true true true true rest e = absurd (true≢false e)
 lent-number true true true false rest e = refl
 lent-number true true false fixed rest e = refl
 lent-number true false routes fixed rest e = refl
@@ -119,15 +119,15 @@ lent-number false few routes fixed rest e = refl
 
 pub lent-none : (right few routes fixed : Bool) (rest : ℕ) → ((right && few) && routes && fixed) ≡ true → rest ≡ cond (not right) 15 (cond (not few) 16 (cond (not routes) 17 (cond (not fixed) 18 rest)))
 lent-none true true true true rest e = refl
-lent-none true true true false rest e = absurd (let z : _≡_ {A = ℕ} 0 1 = cc in omega arith)
-lent-none true true false fixed rest e = absurd (let z : _≡_ {A = ℕ} 0 1 = cc in omega arith)
-lent-none true false routes fixed rest e = absurd (let z : _≡_ {A = ℕ} 0 1 = cc in omega arith)
-lent-none false few routes fixed rest e = absurd (let z : _≡_ {A = ℕ} 0 1 = cc in omega arith)
+lent-none true true true false rest e = absurd (false≢true e)
+lent-none true true false fixed rest e = absurd (false≢true e)
+lent-none true false routes fixed rest e = absurd (false≢true e)
+lent-none false few routes fixed rest e = absurd (false≢true e)
 
 pub lent-starts : (right few routes fixed : Bool) → ((right && few) && routes && fixed) ≡ true → (right && few) ≡ true
 lent-starts true true routes fixed e = refl
-lent-starts true false routes fixed e = absurd (let z : _≡_ {A = ℕ} 0 1 = cc in omega arith)
-lent-starts false few routes fixed e = absurd (let z : _≡_ {A = ℕ} 0 1 = cc in omega arith)
+lent-starts true false routes fixed e = absurd (false≢true e)
+lent-starts false few routes fixed e = absurd (false≢true e)
 
 -- 16 comes after 15, and 17 and 18 after both
 pub tables-sized : (t : Tables) (chips n : ℕ) → n ≡ firstOf (tablesRefusals t chips) → Sized (t .starts) chips (length (t .rows) / 3) n

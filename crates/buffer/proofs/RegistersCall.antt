@@ -10,17 +10,17 @@ use borrow.Author.Tests.{eq-eqb, ne-eqb}
 use Rattle.packet.specs.Refusal.{firstOf}
 use Rattle.kept.specs.declared.Registers.{Registers}
 use Rattle.kept.specs.Keeping.{empty}
-use Rattle.mesh.specs.Mesh.{Chip}
+use Rattle.mesh.specs.Mesh.{Chip, chipOf}
 use Rattle.lists.specs.Lists.{part, putBack}
 use Rattle.links.specs.Offsets.{stateAt, linkLong, registersLong, countersLong, countersAt, chipLong, chipPlace, linkPlace}
 use Rattle.links.specs.Words.{linkIn}
 use Rattle.buffer.specs.Layout.{registersIn, registerWords, chipIn, meshOf, chipsOf}
-use Rattle.mesh.specs.Steps.{withChip}
+use Rattle.mesh.specs.Steps.{withChip, setOut}
 use Rattle.buffer.specs.Holding.{holdsMesh}
 use Rattle.buffer.specs.ChipWords.{linkWords}
-use Rattle.buffer.specs.Passing.{chipWords}
+use Rattle.buffer.specs.OnePass.{chipWords}
 use Rattle.mesh.specs.Refusals.{chipRefusals}
-use Rattle.mesh.specs.Calls.{chipOf, withEmpty, registersRead}
+use Rattle.mesh.specs.Calls.{withEmpty, registersRead}
 use Rattle.buffer.specs.Leaving.{Leaves, registersLeft}
 use Rattle.lists.proofs.Parts.{length-back, part-same, part-behind}
 use Rattle.buffer.proofs.ChipParts.{registers-back}
@@ -57,7 +57,7 @@ module _ (l : List ℕ) (chip r : ℕ) (e : r ≡ firstOf (chipRefusals (holdsMe
   pub registers-refused : (r ≡ 0 → ⊥) → (none : Registers) → none ≡ empty → (record { refusal = r; registers = none } ≡ registersRead (holdsMesh l) (meshOf l) chip) × Leaves l l (registersLeft l chip)
   unfolding meshOf
   registers-refused some none z =
-      let f = refused-leaves (firstOf (chipRefusals (holdsMesh l) (chipsOf l) chip)) 0 (meshOf l) (record { mesh = withEmpty (meshOf l) chip; log = [] }) (λ k. some (e ∙ k)) l [] in (
+      let f = refused-leaves (firstOf (chipRefusals (holdsMesh l) (chipsOf l) chip)) 0 (meshOf l) (setOut (withEmpty (meshOf l) chip)) (λ k. some (e ∙ k)) l [] in (
         (λ i. record { refusal = e i; registers = (z ∙ sym (ap (λ (b : Bool). cond b (chipOf (meshOf l) chip .registers) empty) (ne-eqb _ 0 (λ k. some (e ∙ k))))) i }),
         f .buffer,
       )
@@ -79,5 +79,5 @@ module _ (l : List ℕ) (chip r : ℕ) (e : r ≡ firstOf (chipRefusals (holdsMe
       f ∙ ap registersIn (sym (take-take registersLong chipLong (drop (chipPlace chip) l) (omega arith))) ∙ ap (λ (c : Chip (Unit {0})). c .registers) (sym (mesh-chip l chip (h .near))) in (
         (λ i. record { refusal = sym off i; registers = (registers ∙ sym (ap (λ (b : Bool). cond b (chipOf (meshOf l) chip .registers) empty) (eq-eqb _ 0 off))) i }),
         chip-leaves l chip h ys (emptied-long w whole) (λ j hj old. subst (λ (v : List ℕ). getD v stateAt 0 ≤ 1) (sym (link-kept w whole j)) old) (firstOf (chipRefusals (holdsMesh l) (chipsOf l) chip)) off
-            (record { mesh = withEmpty (meshOf l) chip; log = [] }) mesh (sound-emptied (holds-sound l (h .holds)) chip (h .near)),
+            (setOut (withEmpty (meshOf l) chip)) mesh (sound-emptied (holds-sound l (h .holds)) chip (h .near)),
       )

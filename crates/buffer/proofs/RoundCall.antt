@@ -1,7 +1,7 @@
 -- A round that is accepted: what is due, and what the three steps of the code leave together.
 use mathlib.Core.Path.{_≡_, sym, ap, _∙_, subst}
 use mathlib.Core.Bool.{Bool, true, cond, and-eq-true-iff}
-use mathlib.Core.List.{List, [], foldl}
+use mathlib.Core.List.{List, foldl}
 use Prim.Native.Nat.{ℕ, _*_, _≤_, _<_}
 use native.Mathlib.Omega.{arith}
 use lib.Dec.{lit<}
@@ -12,13 +12,13 @@ use lib.ListN.{length, getD, take, drop}
 use Rattle.mesh.specs.Mesh.{Chip, Mesh, fresh}
 use Rattle.buffer.specs.Layout.{meshOf, wordsFor, chipsOf, wordsOf}
 use Rattle.mesh.specs.Lending.{Tables}
-use Rattle.mesh.specs.Steps.{Going, setAside, arrivals, passAt, roundOver, rounded, same}
+use Rattle.mesh.specs.Steps.{Going, setAside, arrivals, passAt, roundOver, rounded, same, setOut}
 use Rattle.buffer.specs.Holding.{holdsMesh, StatesFine}
 use Rattle.buffer.specs.ChipWords.{linkWords}
-use Rattle.buffer.specs.Passing.{chipWords}
+use Rattle.buffer.specs.OnePass.{chipWords}
 use Rattle.lists.specs.Lists.{All, upTo}
 use Rattle.mesh.specs.Sound.{Arrives, SoundLink, SoundChip, SoundMesh}
-use Rattle.mesh.specs.Weights.{onLink, onChip, inFlight}
+use Rattle.mesh.specs.Weights.{weightOn, onChip, inFlight}
 use Rattle.buffer.specs.Aside.{AsideUpto}
 use Rattle.buffer.specs.PassesInTurn.{asideFrom, goingIn, DueAside, Passed}
 use Rattle.mesh.specs.Refusals.{Lent, roundRefusals, placeIn}
@@ -34,8 +34,8 @@ use Rattle.buffer.proofs.HoldsMesh.{holds-head, held-few, words-enough}
 use Rattle.mesh.proofs.Torus.{arrivals-count}
 use Rattle.mesh.proofs.SoundArrivals.{sound-arrivals}
 use Rattle.mesh.proofs.SoundSteps.{sound-rounded}
-use Rattle.buffer.proofs.SoundWords.{holds-sound, holds-states, sound-holds}
-use Rattle.buffer.proofs.Headers.{Head, head-range, head-same, head-fine-same}
+use Rattle.buffer.proofs.SoundWords.{holds-sound, holds-states, still-holds}
+use Rattle.buffer.proofs.Headers.{Head, head-range, head-same, head-fine-same, SameHeader}
 use Rattle.buffer.proofs.RoundWords.{mesh-aside, at-aside, aside-arrivals, few-aside, mesh-over, length-over, over-behind}
 use Rattle.buffer.proofs.Leaving.{refused-leaves, accepted-leaves, accepted-log}
 use Rattle.mesh.proofs.Accepts.{RoundGoes, round-goes}
@@ -62,7 +62,7 @@ module _ (l : List ℕ) (holds : holdsMesh l ≡ true) where
   held-most =
       let chip : (c : Chip (Unit {0})) → SoundChip c → onChip (λ f. 1) c ≤ 48 =
       λ c s. subst (λ (n : ℕ). onChip (λ f. 1) c ≤ n * 8) (s .six)
-      (total-most (onLink (λ f. 1)) 8 (c .links) (all-weaken SoundLink (λ x. onLink (λ f. 1) x ≤ 8) (λ x h. subst (λ (n : ℕ). n ≤ 8) (sym (total-ones (x .held))) (h .few)) (c .links) (s .links))) in
+      (total-most (weightOn (λ f. 1)) 8 (c .links) (all-weaken SoundLink (λ x. weightOn (λ f. 1) x ≤ 8) (λ x h. subst (λ (n : ℕ). n ≤ 8) (sym (total-ones (x .held))) (h .few)) (c .links) (s .links))) in
       let all = total-most (onChip (λ f. 1)) 48 (meshOf l .chips) (all-weaken SoundChip (λ c. onChip (λ f. 1) c ≤ 48) chip (meshOf l .chips) (held-sound .chips)) in
       let few : length (meshOf l .chips) ≤ 144 = subst (λ (n : ℕ). n ≤ 144) (sym (held-sound .many)) (sizes.chips-small (meshOf l .width) (meshOf l .height) (held-sound .size)) in
       omega (arith, all, few)
@@ -92,7 +92,7 @@ module _ (t : Tables) (l log : List ℕ) (none : firstOf (roundRefusals (holdsMe
   go : RoundGoes (holdsMesh l) (chipsOf l) (inFlight (meshOf l)) t (length log)
   go = round-goes (holdsMesh l) (chipsOf l) (inFlight (meshOf l)) t (length log) none
 
-  number : (i : ℕ) → i < 6 → getD l₁ i 0 ≡ getD l i 0
+  number : SameHeader l l₁
   number = head-same l l₁ (u .head)
 
   chips-same : chipsOf l₁ ≡ chipsOf l
@@ -134,8 +134,8 @@ module _ (t : Tables) (l log : List ℕ) (none : firstOf (roundRefusals (holdsMe
   -- ---- what is left
 
   module _ (l₂ log₂ : List ℕ) (n : ℕ) (p : Passed (passAt t same) (upTo (asideFrom l₁) (chipsOf l)) l₁ log 0 l₂ log₂ n) where
-    going : goingIn l₂ log₂ n ≡ foldl (passAt t same) (record { mesh = setAside (meshOf l); log = [] }) (arrivals (meshOf l))
-    going = p .going ∙ (λ i. foldl (passAt t same) (record { mesh = mesh-aside l l₁ u i; log = [] }) (all-aside i))
+    going : goingIn l₂ log₂ n ≡ foldl (passAt t same) (setOut (setAside (meshOf l))) (arrivals (meshOf l))
+    going = p .going ∙ (λ i. foldl (passAt t same) (setOut (mesh-aside l l₁ u i)) (all-aside i))
 
     long-enough : headerLong ≤ length l₂
     long-enough = omega (arith, p .long, u .long, words-enough l (go .holds))
@@ -179,8 +179,7 @@ module _ (t : Tables) (l log : List ℕ) (none : firstOf (roundRefusals (holdsMe
     holds-left : holdsMesh (overWords l₂) ≡ true
     unfolding meshOf
     holds-left =
-        sound-holds (overWords l₂) (subst SoundMesh (sym mesh-left) (sound-rounded t same (held-sound l (go .holds)) (go .lent .codes))) states-left
-        (subst (λ (k : ℕ). wordsOf (overWords l₂) ≤ k) (sym long-left) (subst (λ (k : ℕ). k ≤ length l) (sym words-left) (words-enough l (go .holds))))
+        still-holds l (overWords l₂) (go .holds) long-left words-left (subst SoundMesh (sym mesh-left) (sound-rounded t same (held-sound l (go .holds)) (go .lent .codes))) states-left
 
     past-left : drop (wordsOf l) (overWords l₂) ≡ drop (wordsOf l) l
     past-left =

@@ -17,7 +17,7 @@ use Rattle.mesh.specs.Mesh.{Chip}
 use Rattle.buffer.specs.Layout.{chipIn, chipsIn, meshOf, chipsOf}
 use Rattle.mesh.specs.Steps.{emptiedChip, setAside, arrivingBy, arrivingAt, arrivingFrom, arrivals, roundOver}
 use Rattle.buffer.specs.ChipWords.{linkWords}
-use Rattle.buffer.specs.Passing.{chipWords}
+use Rattle.buffer.specs.OnePass.{chipWords}
 use Rattle.buffer.specs.Aside.{AsideUpto}
 use Rattle.buffer.specs.PassesInTurn.{asideBy, asideFrom, AsideFew}
 use Rattle.lists.specs.Lists.{upTo}
@@ -26,13 +26,13 @@ use Rattle.buffer.proofs.ChipParts.{link-at}
 use Rattle.buffer.proofs.MeshParts.{mesh-chip}
 use Rattle.links.proofs.Places.{length-places}
 use Rattle.links.proofs.Crossing.{across-there, opposite-there}
-use Rattle.buffer.proofs.Headers.{Head, head-same}
+use Rattle.buffer.proofs.Headers.{Head, head-same, SameHeader}
 use Rattle.lists.proofs.UpTo.{upto-same}
 
 -- ---- all set aside
 
 module _ (l l₁ : List ℕ) (u : AsideUpto (chipsOf l) (chipsOf l) l l₁) where
-  number : (i : ℕ) → i < 6 → getD l₁ i 0 ≡ getD l i 0
+  number : SameHeader l l₁
   number = head-same l l₁ (u .head)
 
   chips-aside : (n c : ℕ) → c + n ≤ chipsOf l → chipsIn c n l₁ ≡ map emptiedChip (chipsIn c n l)

@@ -7,6 +7,7 @@ use native.Mathlib.Omega.{arith}
 use lib.Dec.{leb, ltb, lit<}
 use lib.ListN.{length, getD, drop}
 use borrow.Author.Tests.{ltb-true, leb-true, le-leb, lt-ltb}
+use Rattle.lists.proofs.Bools.{together}
 use Rattle.tables.specs.Sizes.{sizeFine}
 use Rattle.links.specs.Offsets.{widthAt, heightAt, roundsAt, monitorAt, phaseAt, elapsedAt, headerLong, stateAt, heldAt, placesAt, placeLong, registersLong}
 use Rattle.links.specs.Link.{Flight, idle}
@@ -14,18 +15,14 @@ use Rattle.lists.specs.Lists.{part, All}
 use Rattle.links.specs.Words.{packetIn, placesIn, linkIn}
 use Rattle.buffer.specs.Layout.{registersIn, chipIn, chipsIn, meshOf, chipsOf, wordsOf}
 use Rattle.buffer.specs.ChipWords.{linkWords}
-use Rattle.buffer.specs.Passing.{chipWords}
+use Rattle.buffer.specs.OnePass.{chipWords}
 use Rattle.mesh.specs.Sound.{packetFine, registersFine, SoundPacket, SoundLink, SoundChip, SoundMesh}
 use Rattle.buffer.specs.Holding.{placesFine, linkFine, chipFine, chipsFine, headFine, holdsMesh, StatesFine}
 use Rattle.mesh.specs.Mesh.{roundsFine}
 use Rattle.links.proofs.Places.{length-places}
 use Rattle.buffer.proofs.ChipParts.{link-at}
 use Rattle.lists.proofs.Alls.{all-getD}
-use Rattle.buffer.proofs.HoldsMesh.{holds-head, holds-chips, chip-held, link-held, registers-held}
-
--- both tests hold
-and-true-true : {a b : Bool} → a ≡ true → b ≡ true → (a && b) ≡ true
-and-true-true {a} {b} h k = and-eq-true-iff a b .1 (h, k)
+use Rattle.buffer.proofs.HoldsMesh.{holds-head, words-enough, holds-chips, chip-held, link-held, registers-held}
 
 -- ---- the packets of a link
 
@@ -39,7 +36,7 @@ places-sound (suc n) l h =
 sound-places : (n : ℕ) (l : List ℕ) → All (λ (f : Flight (Unit {0})). SoundPacket (f .packet)) (placesIn n l) → placesFine n l ≡ true
 unfolding All placesFine placesIn
 sound-places zero l h = refl
-sound-places (suc n) l h = and-true-true (h .0 .fine) (sound-places n (drop placeLong l) (h .1))
+sound-places (suc n) l h = together (h .0 .fine) (sound-places n (drop placeLong l) (h .1))
 
 -- ---- a link
 
@@ -53,7 +50,7 @@ link-sound l h =
 
 sound-link : (l : List ℕ) → getD l stateAt 0 ≤ 1 → SoundLink (linkIn l) → linkFine l ≡ true
 sound-link l state h =
-    and-true-true (and-true-true (le-leb _ _ state) (le-leb _ _ (subst (λ (n : ℕ). n ≤ 8) (length-places (getD l heldAt 0) (drop placesAt l)) (h .few))))
+    together (together (le-leb _ _ state) (le-leb _ _ (subst (λ (n : ℕ). n ≤ 8) (length-places (getD l heldAt 0) (drop placesAt l)) (h .few))))
     (sound-places (getD l heldAt 0) (drop placesAt l) (h .fine))
 
 -- ---- a chip
@@ -92,7 +89,7 @@ sound-chips : (n c : ℕ) (l : List ℕ) → ((k j : ℕ) → k < c + n → j < 
 unfolding All chipsFine chipsIn
 sound-chips zero c l states h = refl
 sound-chips (suc n) c l states h =
-    and-true-true (sound-chip (chipWords c l) (λ j hj. states c j (omega arith) hj) (h .0)) (sound-chips n (suc c) l (λ k j hk hj. states k j (omega arith) hj) (h .1))
+    together (sound-chip (chipWords c l) (λ j hj. states c j (omega arith) hj) (h .0)) (sound-chips n (suc c) l (λ k j hk hj. states k j (omega arith) hj) (h .1))
 
 length-chips : (n c : ℕ) (l : List ℕ) → length (chipsIn c n l) ≡ n
 unfolding chipsIn
@@ -126,10 +123,14 @@ module _ (l : List ℕ) where
 
   pub sound-holds : SoundMesh (meshOf l) → StatesFine l → wordsOf l ≤ length l → holdsMesh l ≡ true
   unfolding meshOf
-  sound-holds sound states long = and-true-true (and-true-true (and-true-true (le-leb headerLong (length l) (omega arith)) head) (le-leb _ _ long)) chips
+  sound-holds sound states long = together (together (together (le-leb headerLong (length l) (omega arith)) head) (le-leb _ _ long)) chips
     where
       head : headFine l ≡ true
-      head = and-true-true (and-true-true (and-true-true (and-true-true (sound .size) (sound .rounds)) (le-leb _ _ (sound .monitor))) (le-leb _ _ (sound .phase))) (lt-ltb _ _ (sound .elapsed))
+      head = together (together (together (together (sound .size) (sound .rounds)) (le-leb _ _ (sound .monitor))) (le-leb _ _ (sound .phase))) (lt-ltb _ _ (sound .elapsed))
 
       chips : chipsFine 0 (chipsOf l) l ≡ true
       chips = sound-chips (chipsOf l) 0 l (λ c j hc hj. states c j (omega arith) hj) (sound .chips)
+
+-- a buffer that held a mesh and now has another, sound, in as many words, holds it
+pub still-holds : (l l′ : List ℕ) → holdsMesh l ≡ true → length l′ ≡ length l → wordsOf l′ ≡ wordsOf l → SoundMesh (meshOf l′) → StatesFine l′ → holdsMesh l′ ≡ true
+still-holds l l′ h long words sound states = sound-holds l′ sound states (omega (arith, long, words, words-enough l h))

@@ -17,7 +17,7 @@ use Rattle.buffer.specs.Layout.{chipIn, meshOf, chipsOf, wordsOf}
 use Rattle.mesh.specs.Steps.{withChip}
 use Rattle.lists.specs.Lists.{putBack}
 use Rattle.buffer.specs.ChipWords.{linkWords, ChipStep}
-use Rattle.buffer.specs.Passing.{chipWords, settingIn, CheckedAt, MeshStep}
+use Rattle.buffer.specs.OnePass.{chipWords, settingIn, CheckedAt, MeshStep}
 use Rattle.lists.proofs.Parts.{length-back, part-same, part-before, part-behind, take-before, drop-behind}
 use Rattle.buffer.proofs.ChipParts.{order}
 use Rattle.buffer.proofs.MeshParts.{mesh-put}

@@ -9,7 +9,7 @@ use Rattle.links.specs.Words.{linkIn, asideIn}
 use Rattle.mesh.specs.Steps.{emptiedChip}
 use Rattle.buffer.specs.Layout.{chipIn}
 use Rattle.buffer.specs.ChipWords.{linkWords}
-use Rattle.buffer.specs.Passing.{chipWords}
+use Rattle.buffer.specs.OnePass.{chipWords}
 
 -- A link's words after what it holds was set aside: the packets' words behind their number, and none held.
 abbrev pub asideWords : List ℕ → List ℕ

@@ -11,7 +11,7 @@ use Rattle.links.specs.Offsets.{widthAt, heightAt, roundsAt, monitorAt, phaseAt
 use Rattle.links.specs.Words.{packetIn}
 use Rattle.buffer.specs.Layout.{registersIn, chipsOf, wordsOf}
 use Rattle.buffer.specs.ChipWords.{linkWords}
-use Rattle.buffer.specs.Passing.{chipWords}
+use Rattle.buffer.specs.OnePass.{chipWords}
 use Rattle.mesh.specs.Mesh.{roundsFine}
 use Rattle.mesh.specs.Sound.{packetFine, registersFine}
 

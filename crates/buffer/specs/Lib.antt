@@ -6,7 +6,7 @@ pub mod Holding
 pub mod Layout
 pub mod Leaving
 pub mod Logs
+pub mod OnePass
 pub mod Opening
 pub mod PassesInTurn
-pub mod Passing
 pub mod Testing

@@ -16,7 +16,7 @@ use Rattle.tables.specs.Tables.{ChipTables}
 use Rattle.mesh.specs.Mesh.{fresh}
 use Rattle.mesh.specs.Steps.{Arrival, Going, settingAt, withChip, chipAfter, logOf, same}
 use Rattle.buffer.specs.ChipWords.{linkWords}
-use Rattle.buffer.specs.Passing.{chipWords}
+use Rattle.buffer.specs.OnePass.{chipWords}
 use Rattle.buffer.specs.Holding.{headFine}
 use Rattle.lists.specs.Lists.{All, upTo}
 use Rattle.mesh.specs.Sound.{Arrives}

@@ -12,7 +12,7 @@ ghost use mathlib.Core.Path.{_≡_};
 ghost use lib.ListN.{length, getD, drop};
 ghost use lib.Seq.{paste};
 ghost use Prim.Native.Nat.{_+_, _*_, _≤_, _<_};
-ghost use Rattle.buffer.specs.Passing.{chipWords};
+ghost use Rattle.buffer.specs.OnePass.{chipWords};
 ghost use Rattle.buffer.specs.Held.{Few};
 ghost use Rattle.buffer.specs.Aside.{asideWords, ChipAside, AsideUpto};
 ghost use Rattle.links.specs.Offsets.{headerLong, heldAt, placesAt, placeLong, depth, asidePlacesAt, linkLong, chipLong};
@@ -53,13 +53,13 @@ fn link_aside(words: &mut [u32])
 }
 
 // Copies the words of the packets that a link holds.
-fn copy_aside(link_words: &mut [u32], words: usize)
-    requires { ⌜ (length (now «link_words») ≡ linkLong) × (words ≤ depth * placeLong) ⌝ }
-    ensures { λ _. ⌜ now («link_words» .exit) ≡ paste (now («link_words» .entry)) asidePlacesAt (drop placesAt (now («link_words» .entry))) words ⌝ }
+fn copy_aside(words: &mut [u32], count: usize)
+    requires { ⌜ (length (now words) ≡ linkLong) × (count ≤ depth * placeLong) ⌝ }
+    ensures { λ _. ⌜ now (words .exit) ≡ paste (now (words .entry)) asidePlacesAt (drop placesAt (now (words .entry))) count ⌝ }
 {
     let mut i = 0;
-    while i < words {
-        link_words[ASIDE_PLACES_AT + i] = link_words[PLACES_AT + i];
+    while i < count {
+        words[ASIDE_PLACES_AT + i] = words[PLACES_AT + i];
         i += 1;
     }
 }

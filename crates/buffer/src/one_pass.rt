@@ -13,7 +13,7 @@ use steps::Setting;
 use steps::deciding::outcome_of;
 ghost use mathlib.Core.Path.{_≡_};
 ghost use Rattle.steps.specs.Deciding.{outcomeOf};
-ghost use Rattle.buffer.specs.Passing.{settingIn, CheckedAt, MeshStep};
+ghost use Rattle.buffer.specs.OnePass.{settingIn, CheckedAt, MeshStep};
 ghost use Rattle.tables.specs.Tables.{chipTables};
 
 pub fn pass_at(

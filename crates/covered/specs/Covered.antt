@@ -1,23 +1,20 @@
 -- What a covered row comes to, for every key: whatever it matches the earlier row matches too, and so no search ends at it.
 use Prim.Native.Nat.{ℕ, zero, suc, _<_}
 use mathlib.Core.Path.{_≡_, refl, sym, ap, _∙_}
-use mathlib.Core.Bool.{Bool, true, false, cond, _&&_, true≢false, false≢true}
+use mathlib.Core.Bool.{Bool, true, false, cond, _&&_, true≢false}
 use mathlib.Core.List.{List, [], _∷_}
 use native.Mathlib.Omega.{arith}
 use lib.Bits.{bitAnd}
 use lib.Dec.{eqb}
 use lib.ListN.{getD}
 use borrow.Author.Tests.{eqb-true, eq-eqb}
+use Rattle.lists.proofs.Bools.{both}
 use Rattle.tables.specs.declared.Found.{Found}
 use Rattle.tables.specs.declared.Found.the-variants.{At, Nothing}
 use Rattle.tables.specs.Shown.{Shown, foundShown}
 use Rattle.tables.specs.Rows.{Entry, matches, used, next, firstMatch, blankEntry}
 use Rattle.tables.proofs.Masked.{through}
 use Rattle.covered.specs.Covering.{covers}
-
-both : (a b : Bool) → (a && b) ≡ true → (a ≡ true) × (b ≡ true)
-both true b e = (refl, e)
-both false b e = absurd (false≢true e)
 
 pub covered-matches : (key earlier mask later laterMask : ℕ) → covers earlier mask later laterMask ≡ true
     → matches key later laterMask ≡ true → matches key earlier mask ≡ true

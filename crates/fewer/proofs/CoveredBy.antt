@@ -1,5 +1,5 @@
 -- What searches of neighbouring rows tell is put together: a row is covered by one of both parts where it is by one of either.
-use Prim.Native.Nat.{ℕ, _+_, _<_, _≤_}
+use Prim.Native.Nat.{ℕ, _+_, _≤_}
 use mathlib.Core.Path.{_≡_, sym, ap, _∙_}
 use mathlib.Core.Bool.{Bool, true, false, not, _||_}
 use mathlib.Core.List.{List}
@@ -8,7 +8,7 @@ use Rattle.lists.proofs.Firsts.{lt-or-ge}
 use native.Mathlib.Omega.{arith}
 use lib.ListN.{getD}
 use Rattle.tables.specs.Rows.{Entry}
-use Rattle.fewer.specs.Process.{Numbered, blank, matchesSome, covers, rowAt}
+use Rattle.fewer.specs.Process.{Numbered, blank, matchesSome, covers}
 use Rattle.fewer.specs.Hand.{Covered, Tested}
 
 module _ (rows : List Numbered) (r : Entry) where

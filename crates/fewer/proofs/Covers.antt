@@ -1,17 +1,14 @@
 -- Rows that cover others: what a covered row matches its coverer matches, and covering goes on from row to row.
 use Prim.Native.Nat.{ℕ}
-use mathlib.Core.Path.{_≡_, refl, sym, ap, _∙_}
-use mathlib.Core.Bool.{Bool, true, false, _&&_}
+use mathlib.Core.Path.{_≡_, sym, ap, _∙_}
+use mathlib.Core.Bool.{true}
 use lib.Bits.{bitAnd}
 use lib.Dec.{eqb}
 use borrow.Author.Tests.{eqb-true, eq-eqb}
-use Rattle.lists.proofs.Bools.{both}
+use Rattle.lists.proofs.Bools.{both, together}
 use Rattle.tables.specs.Rows.{Entry, matches}
 use Rattle.tables.proofs.Masked.{and-assoc, through}
 use Rattle.fewer.specs.Process.{covers}
-
-and-both : {a b : Bool} → a ≡ true → b ≡ true → (a && b) ≡ true
-and-both {a} {b} e f = ap (λ (x : Bool). x && b) e ∙ f
 
 module _ (e r : Entry) where
   -- it looks at no bit that the row leaves open, and matches the row's key
@@ -21,7 +18,7 @@ module _ (e r : Entry) where
       (eqb-true _ _ (parts .0), eqb-true _ _ (parts .1))
 
   pub covers-by : bitAnd (e .mask) (r .mask) ≡ e .mask → bitAnd (r .key) (e .mask) ≡ e .key → covers e r ≡ true
-  covers-by m k = and-both (eq-eqb _ _ m) (eq-eqb _ _ k)
+  covers-by m k = together (eq-eqb _ _ m) (eq-eqb _ _ k)
 
 pub covered-matches : (e r : Entry) → covers e r ≡ true → (key : ℕ) → matches key (r .key) (r .mask) ≡ true → matches key (e .key) (e .mask) ≡ true
 covered-matches e r c key m =

@@ -1,7 +1,7 @@
 -- Which row goes, by what is known of it and of those above it.
 use Prim.Native.Nat.{ℕ, _<_, _≤_}
 use mathlib.Core.Path.{_≡_, refl, sym, ap, ap₂, _∙_}
-use mathlib.Core.Bool.{Bool, true, false, not, _||_, true≢false}
+use mathlib.Core.Bool.{Bool, true, false, not, _||_, true≢false, or-true}
 use mathlib.Core.List.{List}
 use mathlib.Core.Logic.{_⊎_, inl, inr, ⊎-elim}
 use native.Mathlib.Omega.{arith}
@@ -33,10 +33,6 @@ module _ (rows : List Numbered) (i : ℕ) where
   pub goes-covered : (j : ℕ) → j < i → covers (rowAt rows j) (rowAt rows i) ≡ true → goes rows i ≡ true
   goes-covered j h c = ap (λ (b : Bool). not (matchesSome (rowAt rows i)) || b) is ∙ or-true (not (matchesSome (rowAt rows i)))
     where
-      or-true : (b : Bool) → (b || true) ≡ true
-      or-true true = refl
-      or-true false = refl
-
       is : covered rows i ≡ true
       is =
           ⊎-elim (λ (l : firstBelow covering i < i). lt-ltb (firstBelow covering i) i l)

@@ -8,8 +8,7 @@ use lib.Dec.{eqb, ltb}
 use borrow.Author.Tests.{lt-ltb, eq-eqb}
 use Rattle.tables.specs.Accept.{allCodes, codesFine}
 use Rattle.lists.specs.Lists.{upTo}
-use Rattle.mesh.specs.Mesh.{Mesh}
-use Rattle.mesh.specs.Calls.{many}
+use Rattle.mesh.specs.Mesh.{Mesh, many}
 use Rattle.flood.specs.Ways.{fewest, firstLink}
 use Rattle.flood.specs.Codes.{codeOf}
 use Rattle.flood.specs.Shortest.{Acceptable}

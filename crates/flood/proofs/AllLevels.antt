@@ -8,8 +8,7 @@ use borrow.Author.Tests.{eq-eqb, not-true, ltb-true}
 use Rattle.tables.specs.Sizes.{sizeFine}
 use Rattle.lists.specs.Firsts.{firstBelow}
 use Rattle.lists.proofs.Firsts.{lt-or-ge, first-holds, before-first}
-use Rattle.mesh.specs.Mesh.{Mesh}
-use Rattle.mesh.specs.Calls.{many}
+use Rattle.mesh.specs.Mesh.{Mesh, many}
 use Rattle.flood.specs.Ways.{within, fewest}
 use Rattle.flood.proofs.Levels.{within-next, within-more, few-within, Still, still-on}
 use Rattle.flood.proofs.Counting.{countTo, count-all, count-more}

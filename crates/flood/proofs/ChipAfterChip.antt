@@ -10,8 +10,7 @@ use lib.Seq.{getD-append-add}
 use Rattle.lists.specs.Lists.{upTo}
 use Rattle.lists.proofs.UpTo.{upto-same, one-by-one}
 use Rattle.lists.proofs.Firsts.{lt-or-ge}
-use Rattle.mesh.specs.Mesh.{Mesh}
-use Rattle.mesh.specs.Calls.{many}
+use Rattle.mesh.specs.Mesh.{Mesh, many}
 use Rattle.flood.specs.Codes.{codeOf, codesOf}
 use Rattle.flood.specs.Marks.{Column}
 use Rattle.flood.proofs.Columns.{row-of, column-of}

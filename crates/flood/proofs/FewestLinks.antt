@@ -4,8 +4,7 @@ use mathlib.Core.Path.{_≡_, sym, subst}
 use mathlib.Core.List.{List, _∷_}
 use native.Mathlib.Omega.{arith}
 use lib.ListN.{length}
-use Rattle.mesh.specs.Mesh.{Mesh}
-use Rattle.mesh.specs.Calls.{many}
+use Rattle.mesh.specs.Mesh.{Mesh, many}
 use Rattle.flood.specs.Ways.{beyond, Way, leadsTo, within, fewest, firstLink}
 use Rattle.flood.specs.Shortest.{Begins, FewestLinks}
 use Rattle.flood.proofs.Levels.{first-least, within-more}

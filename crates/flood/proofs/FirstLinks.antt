@@ -6,8 +6,7 @@ use native.Mathlib.Omega.{arith}
 use lib.Dec.{eqb, ltb}
 use borrow.Author.Tests.{lt-ltb, ltb-true}
 use Rattle.lists.proofs.Firsts.{first-most, first-holds, before-first}
-use Rattle.mesh.specs.Mesh.{Mesh}
-use Rattle.mesh.specs.Calls.{many}
+use Rattle.mesh.specs.Mesh.{Mesh, many}
 use Rattle.flood.specs.Ways.{leadsTo, within, fewest, firstLink}
 use Rattle.flood.specs.Codes.{codeOf}
 use Rattle.flood.proofs.Levels.{firstTo}

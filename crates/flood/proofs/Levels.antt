@@ -10,8 +10,7 @@ use Rattle.tables.specs.Sizes.{sizeFine}
 use Rattle.tables.proofs.Sizes.{size}
 use Rattle.lists.specs.Firsts.{firstBelow}
 use Rattle.lists.proofs.Firsts.{lt-or-ge, first-holds, before-first, first-is, first-same}
-use Rattle.mesh.specs.Mesh.{Mesh}
-use Rattle.mesh.specs.Calls.{many}
+use Rattle.mesh.specs.Mesh.{Mesh, many}
 use Rattle.links.proofs.Crossing.{across-there}
 use Rattle.flood.specs.Ways.{isUp, beyond, leadsTo, within, fewest}
 

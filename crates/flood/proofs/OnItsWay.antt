@@ -28,10 +28,9 @@ use Rattle.steps.specs.Wants.{numberWanted, p2pWanted, wantedOf}
 use Rattle.steps.specs.Deciding.{legSet, markOn, packetOn, decided, outcomeOf}
 use Rattle.steps.proofs.Stamping.{StampedFrom, stamped}
 use Rattle.lists.proofs.Firsts.{first-holds}
-use Rattle.mesh.specs.Mesh.{Mesh, readyOf}
+use Rattle.mesh.specs.Mesh.{Mesh, readyOf, many}
 use Rattle.mesh.specs.Lending.{Tables, codesAt, tablesAt}
 use Rattle.mesh.specs.Steps.{settingAt, outcomeAt}
-use Rattle.mesh.specs.Calls.{many}
 use Rattle.mesh.specs.Sound.{SoundMesh}
 use Rattle.flood.specs.Ways.{beyond, onward, within, fewest, firstLink}
 use Rattle.flood.specs.Codes.{codeOf, codesOf}

@@ -4,7 +4,7 @@ use mathlib.Core.Bool.{Bool, true, false, cond}
 use native.Mathlib.Omega.{arith}
 use lib.Dec.{eqb, ltb}
 use borrow.Author.Tests.{eq-eqb, eqb-true}
-use Rattle.mesh.specs.Calls.{many}
+use Rattle.mesh.specs.Mesh.{many}
 use Rattle.flood.specs.Ways.{fewest, firstLink}
 use Rattle.flood.specs.Shortest.{OneselfSeven}
 use Rattle.flood.proofs.FirstLinks.{link-most, code-oneself}

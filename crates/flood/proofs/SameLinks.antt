@@ -10,8 +10,7 @@ use Rattle.lists.specs.Firsts.{firstBelow}
 use Rattle.lists.proofs.Firsts.{first-same}
 use Rattle.lists.proofs.UpTo.{upto-same}
 use Rattle.links.specs.Across.{across}
-use Rattle.mesh.specs.Mesh.{Mesh}
-use Rattle.mesh.specs.Calls.{many}
+use Rattle.mesh.specs.Mesh.{Mesh, many}
 use Rattle.flood.specs.Ways.{isUp, beyond, leadsTo, within, fewest, firstLink}
 use Rattle.flood.specs.Codes.{codeOf, codesOf}
 use Rattle.flood.proofs.Levels.{beyond-there}

@@ -8,8 +8,7 @@ use lib.Dec.{eqb, ltb}
 use lib.ListN.{length}
 use borrow.Author.Tests.{ltb-true}
 use Rattle.lists.proofs.Firsts.{first-holds}
-use Rattle.mesh.specs.Mesh.{Mesh}
-use Rattle.mesh.specs.Calls.{many}
+use Rattle.mesh.specs.Mesh.{Mesh, many}
 use Rattle.mesh.specs.Sound.{SoundMesh}
 use Rattle.flood.specs.Ways.{Way, within, fewest, firstLink}
 use Rattle.flood.specs.Codes.{codeOf}

@@ -12,8 +12,7 @@ use lib.Seq.{getD-set-same, getD-set-other}
 use borrow.Author.Tests.{lt-ltb, le-ltb, ltb-true, ltb-false, ne-eqb, eqb-true, eqb-false}
 use Rattle.lists.specs.Firsts.{firstBelow}
 use Rattle.lists.proofs.Firsts.{lt-or-ge, first-holds, before-first, first-is, first-same}
-use Rattle.mesh.specs.Mesh.{Mesh}
-use Rattle.mesh.specs.Calls.{many}
+use Rattle.mesh.specs.Mesh.{Mesh, many}
 use Rattle.flood.specs.Ways.{isUp, beyond, within, fewest, firstLink}
 use Rattle.flood.specs.Codes.{codeOf}
 use Rattle.flood.specs.Marks.{markAfter, Around, isBelow, firstOn, isNext, markedOn, codeOn, Spread}

@@ -1,7 +1,7 @@
 -- A chip is within k links exactly where a way of at most k links leads from it.
 use Prim.Native.Nat.{ℕ, zero, suc, _≤_, _<_}
 use mathlib.Core.Path.{_≡_, refl, ap, _∙_, subst}
-use mathlib.Core.Bool.{Bool, true, false, _||_, and-eq-true-iff}
+use mathlib.Core.Bool.{Bool, true, false, _||_, and-eq-true-iff, or-true}
 use mathlib.Core.List.{List, [], _∷_}
 use native.Mathlib.Omega.{arith}
 use lib.Dec.{ltb}
@@ -32,10 +32,6 @@ module _ {A : Type 0} (m : Mesh A) where
   way-within (onward from to i links h u w) =
       let near : firstTo m to (length links) from < 6 = omega (arith, first-least (leadsTo m (within m to (length links)) from) 6 i (leads to (length links) from i u (way-within w))) in
       ap (λ (b : Bool). within m to (length links) from || b) (lt-ltb _ 6 near) ∙ or-true (within m to (length links) from)
-    where
-      or-true : (b : Bool) → (b || true) ≡ true
-      or-true true = refl
-      or-true false = refl
 
   -- ---- what is counted is a way
 

@@ -18,10 +18,9 @@ use Rattle.steps.specs.Links.{has}
 use Rattle.steps.specs.Deciding.{decided, outcomeOf}
 use Rattle.steps.proofs.Flags.{without-error}
 use Rattle.lists.proofs.Firsts.{first-holds, first-is}
-use Rattle.mesh.specs.Mesh.{Mesh, readyOf}
+use Rattle.mesh.specs.Mesh.{Mesh, readyOf, many}
 use Rattle.mesh.specs.Lending.{Tables}
 use Rattle.mesh.specs.Steps.{outcomeAt}
-use Rattle.mesh.specs.Calls.{many}
 use Rattle.flood.specs.Ways.{Way, within, fewest}
 use Rattle.flood.specs.Codes.{codeOf}
 use Rattle.flood.specs.OnItsWay.{Follows, Nearer}

@@ -6,8 +6,7 @@ use lib.Dec.{eqb, ltb}
 use lib.ListN.{length}
 use Rattle.packet.specs.Refusal.{Refusal, refuse, firstOf}
 use Rattle.lists.specs.Lists.{upTo}
-use Rattle.mesh.specs.Mesh.{Mesh}
-use Rattle.mesh.specs.Calls.{many}
+use Rattle.mesh.specs.Mesh.{Mesh, many}
 use Rattle.flood.specs.Ways.{fewest, firstLink}
 
 module _ {A : Type 0} (m : Mesh A) where

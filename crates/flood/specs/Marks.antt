@@ -7,8 +7,7 @@ use lib.Dec.{eqb, ltb}
 use lib.ListN.{length, getD}
 use Rattle.tables.specs.Sizes.{sizeFine}
 use Rattle.lists.specs.Firsts.{firstBelow}
-use Rattle.mesh.specs.Mesh.{Mesh}
-use Rattle.mesh.specs.Calls.{many}
+use Rattle.mesh.specs.Mesh.{Mesh, many}
 use Rattle.flood.specs.Ways.{isUp, beyond, within, fewest}
 
 module _ {A : Type 0} (m : Mesh A) where

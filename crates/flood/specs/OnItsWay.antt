@@ -10,10 +10,9 @@ use Rattle.steps.specs.declared.Outcome.{Outcome}
 use Rattle.steps.specs.Links.{has, processorsOf}
 use Rattle.steps.specs.Errors.{errorsOf}
 use Rattle.steps.specs.Deciding.{packetOn}
-use Rattle.mesh.specs.Mesh.{Mesh, readyOf}
+use Rattle.mesh.specs.Mesh.{Mesh, readyOf, many}
 use Rattle.mesh.specs.Lending.{Tables}
 use Rattle.mesh.specs.Steps.{outcomeAt}
-use Rattle.mesh.specs.Calls.{many}
 use Rattle.mesh.specs.Sound.{SoundMesh}
 use Rattle.flood.specs.Ways.{Way, beyond, fewest}
 use Rattle.flood.specs.Codes.{codeOf, codesOf}

@@ -6,8 +6,7 @@ use mathlib.Core.List.{List, [], _∷_}
 use lib.Dec.{eqb, ltb}
 use Rattle.lists.specs.Firsts.{firstBelow}
 use Rattle.links.specs.Across.{across}
-use Rattle.mesh.specs.Mesh.{Mesh}
-use Rattle.mesh.specs.Calls.{many, linkOf}
+use Rattle.mesh.specs.Mesh.{Mesh, many, linkOf}
 
 module _ {A : Type 0} (m : Mesh A) where
   -- "Links count as up or down, whatever they hold."

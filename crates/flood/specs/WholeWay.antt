@@ -8,10 +8,9 @@ use Rattle.packet.specs.declared.Packet.{Packet}
 use Rattle.steps.specs.Links.{has}
 use Rattle.steps.specs.Deciding.{packetOn}
 use Rattle.links.specs.Across.{opposite}
-use Rattle.mesh.specs.Mesh.{Mesh, readyOf}
+use Rattle.mesh.specs.Mesh.{Mesh, readyOf, many}
 use Rattle.mesh.specs.Lending.{Tables}
 use Rattle.mesh.specs.Steps.{outcomeAt, roundOver}
-use Rattle.mesh.specs.Calls.{many}
 use Rattle.mesh.specs.Sound.{SoundMesh}
 use Rattle.flood.specs.Ways.{isUp, beyond, Way, fewest}
 use Rattle.flood.specs.Codes.{codeOf}

@@ -12,6 +12,13 @@ ghost use Prim.Native.Nat.{_<_};
 ghost use lib.Count.{ones};
 ghost use Rattle.kept.specs.Counting.{delivered, swallows, swallowed, sentCount, countsOf, onlySent, countedOf, zeros};
 
+// Bits 0, 8 and 16: what is multiplied by it stands three times side by side.
+const THREE_TIMES: u64 = 0x10101;
+
+// Bits 0, 3, 9, 12, 18 and 21: at each the repeated set has another of its six bits, and from each to the last of them it is as far as
+// from the first to another.
+const SIX_PLACES: u64 = 0x24_1209;
+
 // The counters after a pass.
 pub fn counted_of(c: Counters, o: Outcome) -> Counters
     requires { ⌜ o .sent < 64 ⌝ }
@@ -58,14 +65,14 @@ pub fn sent_count(o: Outcome) -> u32
     sent + u32::count_ones(o.leg_sent)
 }
 
-// How many of six links a set has. Its bits are set apart, three places or more between them, and a product adds them up in the bits
-// from 21 on: a third of what counting the ones of 32 bits takes.
+// How many of six links a set has, by two products: the first repeats the set so that its six bits can be taken three places or more
+// apart, the second adds these up in the bits 21 to 23.
 fn links_in(set: u32) -> u32
     requires { ⌜ set < 64 ⌝ }
     ensures { λ n. ⌜ n ≡ ones set ⌝ }
 {
-    let apart = (set as u64 * 65793) & 2363913;
-    ((apart * 2363913 >> 21) % 8) as u32
+    let apart = (set as u64 * THREE_TIMES) & SIX_PLACES;
+    ((apart * SIX_PLACES >> 21) % 8) as u32
 }
 
 fn delivered_count(o: Outcome) -> u32

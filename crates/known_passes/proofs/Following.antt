@@ -12,7 +12,8 @@ use Rattle.packet.specs.Bytes.{packetAt}
 use Rattle.packet.specs.Refusal.{Refusal, refuse, firstOf, packetRefusals}
 use Rattle.mesh.specs.Steps.{Going, same, injected, rounded}
 use Rattle.mesh.specs.Refusals.{tablesRefusals}
-use Rattle.mesh.specs.Calls.{Left, many, unless}
+use Rattle.mesh.specs.Mesh.{many}
+use Rattle.mesh.specs.Calls.{Left, unless}
 use Rattle.mesh.specs.Weights.{inFlight}
 use Rattle.buffer.specs.Layout.{meshOf}
 use Rattle.buffer.specs.Holding.{holdsMesh}

@@ -8,3 +8,6 @@ neither false b e = (refl, e)
 
 pub both : (a b : Bool) → (a && b) ≡ true → (a ≡ true) × (b ≡ true)
 both a b e = and-eq-true-iff a b .0 e
+
+pub together : {a b : Bool} → a ≡ true → b ≡ true → (a && b) ≡ true
+together {a} {b} e f = and-eq-true-iff a b .1 (e, f)

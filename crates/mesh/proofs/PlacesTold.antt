@@ -1,13 +1,12 @@
 -- The place that is told is the first where the tables are wrong: case by case of the number, by the one law of first places.
-use mathlib.Core.Path.{_≡_, refl, sym, _∙_}
+use mathlib.Core.Path.{_≡_, refl}
 use mathlib.Core.Bool.{Bool, true, false, cond, not}
-use Prim.Native.Nat.{ℕ, _*_, _/_, _≤_}
+use Prim.Native.Nat.{ℕ, _*_, _/_}
 use native.Mathlib.Omega.{arith}
 use lib.ListN.{length}
 use Rattle.tables.specs.Accept.{startsRight, rowsFew, routesFine, fixedFine, codesFine}
 use Rattle.groups.specs.Room.{longest, roomShort}
 use Rattle.tables.proofs.WrongPlaces.{starts-exact, crowd-exact, route-exact, fixed-exact, right-long}
-use Rattle.mesh.specs.Lending.{Tables}
 use Rattle.mesh.specs.Places.{FirstWrong, PlacesTold}
 
 pub places-told : PlacesTold

@@ -17,7 +17,7 @@ use Rattle.links.specs.Link.{Flight, Link, idle, isReady}
 use Rattle.links.specs.Phase.{nextPhase}
 use Rattle.mesh.specs.Mesh.{Chip, Mesh, fresh, opened, roundsFine}
 use Rattle.mesh.specs.Lending.{Tables, tablesAt}
-use Rattle.mesh.specs.Steps.{Arrival, Going, settingAt, emptied, emptiedChip, setAside, arrivals, roundOver, passAt, injected, passed, rounded}
+use Rattle.mesh.specs.Steps.{Arrival, Going, settingAt, emptied, emptiedChip, setAside, arrivals, roundOver, passAt, injected, passed, rounded, setOut}
 use Rattle.lists.specs.Lists.{All}
 use Rattle.mesh.specs.Sound.{Passable, Arrives, SoundLink, SoundChip, SoundMesh}
 use Rattle.lists.proofs.Alls.{all-nil, all-map, all-weaken, all-replicate}
@@ -161,10 +161,10 @@ module _ {A : Type 0} where
 
     pub sound-injected : (m : Mesh A) (chip : ℕ) (f : Flight A) → SoundMesh m → chip < m .height * m .width → Passable (f .packet) → CodesFor t m
         → SoundMesh (injected t turn m chip f .mesh)
-    sound-injected m chip f sound there passable codes = sound-pass (record { mesh = m; log = [] }) (record { chip = chip; source = 7; flight = f }) sound codes (record { there = there; from = inr refl; passable = passable })
+    sound-injected m chip f sound there passable codes = sound-pass (setOut m) (record { chip = chip; source = 7; flight = f }) sound codes (record { there = there; from = inr refl; passable = passable })
 
     pub sound-passed : {m : Mesh A} → SoundMesh m → CodesFor t m → SoundMesh (passed t turn m .mesh)
-    sound-passed {m} sound codes = sound-passes (record { mesh = setAside m; log = [] }) (arrivals m) (sound-aside sound) codes (sound-arrivals sound)
+    sound-passed {m} sound codes = sound-passes (setOut (setAside m)) (arrivals m) (sound-aside sound) codes (sound-arrivals sound)
 
     pub sound-rounded : {m : Mesh A} → SoundMesh m → CodesFor t m → SoundMesh (rounded t turn m .mesh)
     sound-rounded sound codes = sound-over (sound-passed sound codes)

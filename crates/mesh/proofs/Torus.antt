@@ -10,7 +10,7 @@ use Rattle.links.specs.Across.{stepEast, stepNorth, across, opposite}
 use Rattle.mesh.specs.Mesh.{Chip, Mesh, fresh}
 use Rattle.mesh.specs.Steps.{Arrival, arrivingBy, arrivingAt, arrivingFrom, arrivals}
 use Rattle.lists.specs.Lists.{total}
-use Rattle.mesh.specs.Weights.{onLink, onChip, onMesh, inFlight}
+use Rattle.mesh.specs.Weights.{weightOn, onChip, onMesh, inFlight}
 use Rattle.lists.proofs.Sums.{sumTo, sum-same, sum-add, sum-first, total-sum, sum-torus}
 use Rattle.lists.proofs.Totals.{total-append, total-six, total-map, total-ones}
 
@@ -51,7 +51,7 @@ module _ {A : Type 0} (w : Flight A → ℕ) where
 
   -- what link j of chip k weighs
   on : Mesh A → ℕ → ℕ → ℕ
-  on m k j = onLink w (getD (getD (m .chips) k fresh .links) j idle)
+  on m k j = weightOn w (getD (getD (m .chips) k fresh .links) j idle)
 
   -- what arrives at a chip by a link weighs what the link opposite held, at the chip across
   by-weighs : (m : Mesh A) (c s : ℕ) → total wa (arrivingBy m c s) ≡ on m (across (m .width) (m .height) c s) (opposite s)
@@ -77,9 +77,9 @@ module _ {A : Type 0} (w : Flight A → ℕ) where
       ∙ sym (sum-first n (λ k. at (c + k)))
 
   -- a chip of six links weighs what they weigh
-  chip-weighs : (c : Chip A) → length (c .links) ≡ 6 → six-on (λ (j : ℕ). onLink w (getD (c .links) j idle)) ≡ onChip w c
+  chip-weighs : (c : Chip A) → length (c .links) ≡ 6 → six-on (λ (j : ℕ). weightOn w (getD (c .links) j idle)) ≡ onChip w c
   unfolding six-on total
-  chip-weighs c h = omega (arith, ap (total (onLink w)) (six idle (c .links) h))
+  chip-weighs c h = omega (arith, ap (total (weightOn w)) (six idle (c .links) h))
 
   -- each source's links, summed over the torus: those of the chips across are those of all chips
   links-weigh : (m : Mesh A) → 1 ≤ m .width → 1 ≤ m .height → (s : ℕ)

@@ -1,16 +1,16 @@
 -- The calls that change a mesh: what each answers, and the mesh and the records that it leaves.
-use Prim.Native.Nat.{ℕ, _*_, _/_}
+use Prim.Native.Nat.{ℕ, _/_}
 use mathlib.Core.Bool.{Bool, cond}
 use mathlib.Core.List.{List, [], _++_}
 use lib.Dec.{eqb}
-use lib.ListN.{length, getD, drop, set}
+use lib.ListN.{length, drop, set}
 use Rattle.packet.specs.Bytes.{packetAt}
 use Rattle.packet.specs.Refusal.{firstOf}
 use Rattle.kept.specs.Keeping.{empty}
 use Rattle.mesh.specs.declared.Added.{Added}
 use Rattle.mesh.specs.declared.RegistersRead.{RegistersRead}
-use Rattle.links.specs.Link.{Link, idle}
-use Rattle.mesh.specs.Mesh.{Chip, Mesh, fresh}
+use Rattle.links.specs.Link.{Link}
+use Rattle.mesh.specs.Mesh.{Mesh, many, chipOf, linkOf}
 use Rattle.mesh.specs.Lending.{Tables}
 use Rattle.mesh.specs.Refusals.{placeIn, injectRefusals, roundRefusals, chipRefusals, linkRefusals}
 use Rattle.mesh.specs.Steps.{Going, setOut, withChip, injected, rounded}
@@ -32,15 +32,6 @@ abbrev pub loggedOn : List ℕ → List ℕ → List ℕ
 loggedOn records log = records ++ drop (length records) log
 
 module _ {A : Type 0} where
-  abbrev pub many : Mesh A → ℕ
-  many m = m .height * m .width
-
-  abbrev pub chipOf : Mesh A → ℕ → Chip A
-  chipOf m chip = getD (m .chips) chip fresh
-
-  abbrev pub linkOf : Mesh A → ℕ → ℕ → Link A
-  linkOf m chip link = getD (chipOf m chip .links) link idle
-
   -- "A refusal returns its number ..., and lent memory stays as it came."
   abbrev pub unless : ℕ → ℕ → Mesh A → Going A → Left A
   unless refusal place m g =

@@ -1,7 +1,7 @@
 -- The calls on a mesh that only look: what each refuses and answers. The mesh stays as it is.
 use Prim.Native.Nat.{ℕ}
 use mathlib.Core.Bool.{Bool, cond}
-use mathlib.Core.List.{List, map}
+use mathlib.Core.List.{map}
 use lib.Dec.{eqb, ltb}
 use lib.ListN.{length, getD}
 use Rattle.packet.specs.Bytes.{nothing}
@@ -12,10 +12,9 @@ use Rattle.mesh.specs.declared.CountRead.{CountRead}
 use Rattle.mesh.specs.declared.MeshRead.{MeshRead}
 use Rattle.mesh.specs.declared.LinkRead.{LinkRead}
 use Rattle.mesh.specs.declared.FlightRead.{FlightRead}
-use Rattle.mesh.specs.Mesh.{Mesh}
+use Rattle.mesh.specs.Mesh.{Mesh, many, chipOf, linkOf}
 use Rattle.mesh.specs.Weights.{inFlight}
 use Rattle.mesh.specs.Refusals.{linkRefusals, counterRefusals}
-use Rattle.mesh.specs.Calls.{many, chipOf, linkOf}
 
 -- "A refusal returns its number and zeros elsewhere".
 abbrev pub noFlight : ℕ → FlightRead

@@ -47,6 +47,15 @@ module _ {A : Type 0} where
         chips = replicate (height * width) fresh;
       }
 
+  abbrev pub many : Mesh A → ℕ
+  many m = m .height * m .width
+
+  abbrev pub chipOf : Mesh A → ℕ → Chip A
+  chipOf m chip = getD (m .chips) chip fresh
+
+  abbrev pub linkOf : Mesh A → ℕ → ℕ → Link A
+  linkOf m chip link = getD (chipOf m chip .links) link idle
+
   -- The links of a chip that are ready: "this is worked out afresh at each pass".
   abbrev pub readyOf : Mesh A → ℕ → ℕ
-  readyOf m chip = readyLinks (getD (m .chips) chip fresh .links)
+  readyOf m chip = readyLinks (chipOf m chip .links)

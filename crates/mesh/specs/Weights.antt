@@ -5,11 +5,11 @@ use Rattle.links.specs.Link.{Flight, Link}
 use Rattle.mesh.specs.Mesh.{Chip, Mesh}
 
 module _ {A : Type 0} (w : Flight A → ℕ) where
-  abbrev pub onLink : Link A → ℕ
-  onLink l = total w (l .held)
+  abbrev pub weightOn : Link A → ℕ
+  weightOn l = total w (l .held)
 
   abbrev pub onChip : Chip A → ℕ
-  onChip c = total onLink (c .links)
+  onChip c = total weightOn (c .links)
 
   abbrev pub onMesh : Mesh A → ℕ
   onMesh m = total onChip (m .chips)

@@ -5,7 +5,7 @@ use mathlib.Core.Logic.{_⊎_, inl, inr, ⊎-elim}
 use mathlib.Core.Bool.{true, _||_, and-true, or-true, and-eq-true-iff}
 use Prim.Native.Nat.{ℕ, zero, suc, _+_, _*_, _/_, _%_, _<_, _^_}
 use native.Mathlib.Omega.{arith}
-use lib.Dec.{eqb, lit<}
+use lib.Dec.{eqb}
 use borrow.Author.Tests.{lt-ltb, eq-eqb, eqb-true}
 use Rattle.packet.specs.declared.Fields.{Fields}
 use Rattle.packet.specs.declared.Packet.{Packet}

@@ -10,11 +10,11 @@ use borrow.Author.Tests.{ltb-true, eqb-true, not-false}
 use Rattle.packet.specs.Bytes.{packetAt}
 use Rattle.packet.specs.Refusal.{firstOf}
 use Rattle.packet.proofs.First.{not-refused}
-use Rattle.mesh.specs.Mesh.{Mesh}
+use Rattle.mesh.specs.Mesh.{Mesh, many}
 use Rattle.mesh.specs.Lending.{Tables}
 use Rattle.mesh.specs.Steps.{Arrival, Going, setOut, setAside, arrivals, injected, rounded}
 use Rattle.mesh.specs.Refusals.{placeIn, injectRefusals, roundRefusals, chipRefusals, linkRefusals}
-use Rattle.mesh.specs.Calls.{Left, many, unless, withLink, withEmpty}
+use Rattle.mesh.specs.Calls.{Left, unless, withLink, withEmpty}
 use Rattle.mesh.specs.Weights.{inFlight}
 use Rattle.mesh.specs.Sound.{Passable}
 use Rattle.mesh.proofs.SoundSteps.{CodesFor}

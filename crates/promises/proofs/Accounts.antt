@@ -10,10 +10,9 @@ use borrow.Author.Tests.{lt-ltb}
 use Rattle.kept.specs.Units.{weightIn, extra, weightSent, settled}
 use Rattle.packet.specs.Bytes.{packetAt}
 use Rattle.kept.proofs.OnePass as pass
-use Rattle.mesh.specs.Mesh.{Chip, Mesh, fresh, opened}
+use Rattle.mesh.specs.Mesh.{Chip, Mesh, fresh, opened, chipOf}
 use Rattle.mesh.specs.Lending.{Tables, tablesAt}
 use Rattle.mesh.specs.Steps.{Arrival, Going, setOut, settingAt, outcomeAt, setAside, arrivals, passAt}
-use Rattle.mesh.specs.Calls.{chipOf}
 use Rattle.lists.specs.Lists.{total, All}
 use Rattle.mesh.specs.Weights.{onChip, onMesh}
 use Rattle.mesh.specs.Sound.{Arrives, SoundMesh}

@@ -17,7 +17,7 @@ use Rattle.links.specs.Link.{Flight}
 use Rattle.mesh.specs.Mesh.{Mesh}
 use Rattle.mesh.specs.Lending.{Tables}
 use Rattle.mesh.specs.Steps.{Arrival, Going, outcomeAt, passAt}
-use Rattle.mesh.specs.Weights.{onLink, onChip, onMesh}
+use Rattle.mesh.specs.Weights.{weightOn, onChip, onMesh}
 use Rattle.mesh.specs.Sound.{Arrives, SoundMesh}
 use Rattle.promises.specs.History.{Tag, Passage, Event, packetPassed, registersEmptied, turned}
 use Rattle.promises.specs.Told.{EachFlight, EachPass}
@@ -55,14 +55,14 @@ module _ (n : ℕ) where
   pub none-in-flight : (m : Mesh Tag) → copies m ≡ 0 → EachFlight OfOthers m
   none-in-flight m e =
       all-weaken (λ c. onChip copyOf c ≡ 0) _
-      (λ c h. all-weaken (λ l. onLink copyOf l ≡ 0) _ (λ l k. all-weaken (λ x. copyOf x ≡ 0) OfOthers of-others (l .held) (all-zero copyOf (l .held) k)) (c .links) (all-zero (onLink copyOf) (c .links) h)) (m .chips)
+      (λ c h. all-weaken (λ l. weightOn copyOf l ≡ 0) _ (λ l k. all-weaken (λ x. copyOf x ≡ 0) OfOthers of-others (l .held) (all-zero copyOf (l .held) k)) (c .links) (all-zero (weightOn copyOf) (c .links) h)) (m .chips)
       (all-zero (onChip copyOf) (m .chips) e)
 
   pub no-copies : (m : Mesh Tag) → EachFlight OfOthers m → copies m ≡ 0
   no-copies m each =
       zero-all (onChip copyOf) (m .chips)
       (all-weaken _ (λ c. onChip copyOf c ≡ 0)
-      (λ c h. zero-all (onLink copyOf) (c .links) (all-weaken _ (λ l. onLink copyOf l ≡ 0) (λ l k. zero-all copyOf (l .held) (all-weaken OfOthers (λ x. copyOf x ≡ 0) no-copy (l .held) k)) (c .links) h)) (m .chips) each)
+      (λ c h. zero-all (weightOn copyOf) (c .links) (all-weaken _ (λ l. weightOn copyOf l ≡ 0) (λ l k. zero-all copyOf (l .held) (all-weaken OfOthers (λ x. copyOf x ≡ 0) no-copy (l .held) k)) (c .links) h)) (m .chips) each)
 
   -- ---- over a pass
 

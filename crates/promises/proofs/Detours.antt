@@ -17,7 +17,7 @@ use Rattle.steps.specs.declared.Outcome.{Outcome}
 use Rattle.steps.specs.Links.{has, linksOf}
 use Rattle.steps.specs.Detour.{carrySet, sendSet, dropSet, plainSendSet, plainDropSet}
 use Rattle.steps.specs.Errors.{flag, errorsOf}
-use Rattle.steps.specs.Deciding.{decided, outcomeOf, markOn, packetOn, legPacket, hasLeg, legSet}
+use Rattle.steps.specs.Deciding.{decided, outcomeOf, markOn, legPacket, hasLeg, legSet}
 use Rattle.steps.proofs.Stamping.{outcome-stamped}
 use Rattle.steps.proofs.SentPackets.{sent-marked, sent-right}
 use Rattle.promises.specs.Detoured.{detourLink, middleSource, secondLeg, At, passAt, Lost, Middle, Arrives, DetourArrives, MarkedOnItsWay}

@@ -2,14 +2,14 @@
 -- wanted set asks for mark, stamp, length and parity alone.
 use mathlib.Core.Path.{_≡_, refl, sym, ap, _∙_, subst}
 use mathlib.Core.Bool.{Bool, true, false, cond, _&&_, _||_, not, true≢false, false≢true}
-use Prim.Native.Nat.{ℕ, _+_, _-_, _*_, _^_, _≤_, _<_}
+use Prim.Native.Nat.{ℕ, _+_, _-_, _^_, _≤_, _<_}
 use native.Mathlib.Omega.{arith}
 use lib.Dec.{eqb, ltb, lit<}
-use borrow.Author.Tests.{eqb-true, eq-eqb, ne-eqb}
+use borrow.Author.Tests.{eqb-true}
 use Rattle.packet.specs.declared.Packet.{Packet}
 use Rattle.packet.specs.Control.{kindOf, markOf, stampOf}
 use Rattle.packet.specs.Types.{isMc, isFixed, isMarked, isStamped}
-use Rattle.packet.specs.Parity.{isOdd, withMark, withStamp}
+use Rattle.packet.specs.Parity.{withMark, withStamp}
 use Rattle.packet.proofs.Types.{same-marked, mc-marked, fixed-marked, marked-stamped}
 use Rattle.packet.proofs.Rewrite.{FieldSet, mark-set, stamp-set}
 use Rattle.tables.specs.Rows.{rowsOf, routeFor}
@@ -22,7 +22,7 @@ use Rattle.steps.specs.Links.{has, linksOf, link, monitorBit}
 use Rattle.steps.specs.Detour.{carrySet, sendSet, dropSet, plainSendSet, plainDropSet}
 use Rattle.steps.specs.Errors.{flag, errorsOf, stampedOf}
 use Rattle.steps.specs.Wants.{wants, fixedWanted, wantedOf}
-use Rattle.steps.specs.Deciding.{decided, outcomeOf, markOn, packetOn, legPacket, legSet}
+use Rattle.steps.specs.Deciding.{decided, outcomeOf, markOn, packetOn, legSet}
 use Rattle.steps.proofs.Stamping.{StampedFrom, stamped}
 use Rattle.promises.specs.FixedRoute.{SameMarks, SameWords, SameSets, Each, Alike, KeyAndRowsIgnored, AsMulticast}
 

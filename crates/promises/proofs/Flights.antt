@@ -13,10 +13,10 @@ use Rattle.steps.specs.Links.{has}
 use Rattle.steps.specs.Deciding.{packetOn, legPacket}
 use Rattle.links.specs.Link.{Flight, Link, idle, sent, linkAfter}
 use Rattle.links.specs.Across.{across, opposite}
-use Rattle.mesh.specs.Mesh.{Chip, Mesh, fresh, opened}
+use Rattle.mesh.specs.Mesh.{Chip, Mesh, fresh, opened, chipOf}
 use Rattle.mesh.specs.Lending.{Tables}
 use Rattle.mesh.specs.Steps.{Arrival, Going, outcomeAt, linksAfter, emptied, emptiedChip, setAside, arrivingBy, arrivingAt, arrivingFrom, arrivals, passAt}
-use Rattle.mesh.specs.Calls.{chipOf, withLink, withEmpty}
+use Rattle.mesh.specs.Calls.{withLink, withEmpty}
 use Rattle.lists.specs.Lists.{All}
 use Rattle.mesh.specs.Sound.{Arrives, SoundChip, SoundMesh}
 use Rattle.lists.proofs.Alls.{all-nil, all-any, all-append, all-getD, all-or, all-set, all-map, all-weaken, all-replicate}

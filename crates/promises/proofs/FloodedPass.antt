@@ -15,10 +15,9 @@ use Rattle.steps.proofs.Sets.{has-none, has-set}
 use Rattle.lists.specs.Lists.{All}
 use Rattle.lists.proofs.Alls.{all-append}
 use Rattle.lists.proofs.Firsts.{first-holds}
-use Rattle.mesh.specs.Mesh.{Mesh, readyOf}
+use Rattle.mesh.specs.Mesh.{Mesh, readyOf, many}
 use Rattle.mesh.specs.Lending.{Tables}
 use Rattle.mesh.specs.Steps.{Arrival, Going, outcomeAt, passAt}
-use Rattle.mesh.specs.Calls.{many}
 use Rattle.mesh.specs.Sound.{Arrives, SoundMesh}
 use Rattle.flood.specs.Ways.{beyond, within, fewest}
 use Rattle.flood.specs.Codes.{codeOf, codesOf}

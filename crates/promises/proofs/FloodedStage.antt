@@ -9,9 +9,8 @@ use Rattle.packet.specs.Control.{kindOf}
 use Rattle.steps.specs.Errors.{errorsOf}
 use Rattle.lists.specs.Lists.{All}
 use Rattle.links.specs.Link.{Flight}
-use Rattle.mesh.specs.Mesh.{Mesh}
+use Rattle.mesh.specs.Mesh.{Mesh, many}
 use Rattle.mesh.specs.Steps.{Arrival}
-use Rattle.mesh.specs.Calls.{many}
 use Rattle.flood.specs.Ways.{fewest}
 use Rattle.flood.specs.Codes.{codeOf}
 use Rattle.flood.specs.OnItsWay.{idOf, SentOn, HandedOver}

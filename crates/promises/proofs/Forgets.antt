@@ -15,7 +15,7 @@ use Rattle.kept.specs.Keeping.{empty}
 use Rattle.mesh.specs.declared.LinkRead.{LinkRead}
 use Rattle.mesh.specs.declared.FlightRead.{FlightRead}
 use Rattle.links.specs.Link.{Flight, Link, idle, isReady}
-use Rattle.mesh.specs.Mesh.{Chip, Mesh, fresh}
+use Rattle.mesh.specs.Mesh.{Chip, Mesh, fresh, many, linkOf}
 use Rattle.buffer.specs.Layout.{meshOf}
 use Rattle.buffer.specs.Holding.{holdsMesh}
 use Rattle.mesh.specs.Steps.{Going, withChip, injected, rounded, same, setOut}
@@ -40,7 +40,7 @@ module _ {A : Type 0} where
       go true = refl
       go false = refl
 
-  plain-of : (m : Mesh A) (chip link : ℕ) → calls.linkOf (plain m) chip link ≡ plainLink (calls.linkOf m chip link)
+  plain-of : (m : Mesh A) (chip link : ℕ) → linkOf (plain m) chip link ≡ plainLink (linkOf m chip link)
   plain-of m chip link =
       ap (λ (c : Chip (Unit {0})). getD (c .links) link idle) (plain-chip m chip) ∙ plain-link (getD (m .chips) chip fresh) link
 
@@ -49,7 +49,7 @@ module _ {A : Type 0} where
       let c = getD (m .chips) chip fresh in
       let chip-with : Chip (Unit {0}) → List (Link (Unit {0})) → Chip (Unit {0}) = λ x links. record { registers = x .registers; counters = x .counters; links = links } in
       plain-with m chip _
-      ∙ ap (λ (links : List (Link (Unit {0}))). withChip (plain m) chip (chip-with (plainChip c) links)) (map-set plainLink (c .links) link (calls.withUp up (calls.linkOf m chip link)))
+      ∙ ap (λ (links : List (Link (Unit {0}))). withChip (plain m) chip (chip-with (plainChip c) links)) (map-set plainLink (c .links) link (calls.withUp up (linkOf m chip link)))
       ∙ (λ k. withChip (plain m) chip (chip-with (sym (plain-chip m chip) k) (set (sym (plain-chip m chip) k .links) link (calls.withUp up (sym (plain-of m chip link) k)))))
 
   plain-empty : (m : Mesh A) (chip : ℕ) → plain (calls.withEmpty m chip) ≡ calls.withEmpty (plain m) chip
@@ -59,8 +59,8 @@ module _ {A : Type 0} where
 
   plain-looked : (m : Mesh A) (chip link : ℕ) → looks.linkRead true m chip link ≡ looks.linkRead true (plain m) chip link
   plain-looked m chip link =
-      let n = firstOf (refusals.linkRefusals true (calls.many m) chip link) in
-      let l = calls.linkOf m chip link in
+      let n = firstOf (refusals.linkRefusals true (many m) chip link) in
+      let l = linkOf m chip link in
       let answer : Bool → ℕ → Bool → LinkRead =
       λ up held ready.
       cond (eqb n 0) (record { refusal = 0; up = flag up 1; held = held; ready = flag ready 1 })
@@ -74,8 +74,8 @@ module _ {A : Type 0} where
 
   plain-seen : (m : Mesh A) (chip link place : ℕ) → looks.flightRead true m chip link place ≡ looks.flightRead true (plain m) chip link place
   plain-seen m chip link place =
-      let n = firstOf (refusals.linkRefusals true (calls.many m) chip link) in
-      let l = calls.linkOf m chip link in
+      let n = firstOf (refusals.linkRefusals true (many m) chip link) in
+      let l = linkOf m chip link in
       let answer : ℕ → List Packet → FlightRead =
       λ held packets.
       cond (eqb n 0) (cond (ltb place held) (record { refusal = 0; packet = getD packets place nothing }) (looks.noFlight 9)) (looks.noFlight n) in
@@ -84,7 +84,7 @@ module _ {A : Type 0} where
 
   forgets-seen : (m : Mesh A) (l : Look) → seenBy m l ≡ seenBy (plain m) l
   forgets-seen m (readCounter chip counter) =
-      let n = firstOf (refusals.counterRefusals true (calls.many m) chip counter) in
+      let n = firstOf (refusals.counterRefusals true (many m) chip counter) in
       ap (λ (x : Chip (Unit {0})). ofCount (record { refusal = n; count = cond (eqb n 0) (getD (x .counters .count) counter 0) 0 })) (sym (plain-chip m chip))
   forgets-seen m lookMesh = ap (λ (flying : ℕ). ofMesh (looks.meshShown m flying)) (sym (plain-flying m))
   forgets-seen m (lookLink chip link) = ap ofLink (plain-looked m chip link)
@@ -93,21 +93,21 @@ module _ {A : Type 0} where
   module _ (turn : A → A) (tag : A) (m : Mesh A) where
     forgets-left : (c : Call) → plainLeft (leftBy turn tag m c) ≡ leftBy same tt (plain m) c
     forgets-left (change (inject chip bytes t room)) =
-        let n = firstOf (refusals.injectRefusals true (calls.many m) chip t room bytes) in
+        let n = firstOf (refusals.injectRefusals true (many m) chip t room bytes) in
         let f : Flight A = record { packet = packetAt bytes; tag = tag } in
-        plain-unless n (refusals.placeIn t (calls.many m) n) m (injected t turn m chip f)
-        ∙ ap (λ (g : Going (Unit {0})). calls.unless n (refusals.placeIn t (calls.many m) n) (plain m) g)
+        plain-unless n (refusals.placeIn t (many m) n) m (injected t turn m chip f)
+        ∙ ap (λ (g : Going (Unit {0})). calls.unless n (refusals.placeIn t (many m) n) (plain m) g)
         (plain-pass t turn (setOut m) (record { chip = chip; source = 7; flight = f }))
     forgets-left (change (round t room)) =
-        let number : ℕ → ℕ = λ flying. firstOf (refusals.roundRefusals true (calls.many m) flying t room) in
-        plain-unless (number (inFlight m)) (refusals.placeIn t (calls.many m) (number (inFlight m))) m (rounded t turn m)
-        ∙ (λ k. calls.unless (number (sym (plain-flying m) k)) (refusals.placeIn t (calls.many m) (number (sym (plain-flying m) k))) (plain m) (plain-rounded t turn m k))
+        let number : ℕ → ℕ = λ flying. firstOf (refusals.roundRefusals true (many m) flying t room) in
+        plain-unless (number (inFlight m)) (refusals.placeIn t (many m) (number (inFlight m))) m (rounded t turn m)
+        ∙ (λ k. calls.unless (number (sym (plain-flying m) k)) (refusals.placeIn t (many m) (number (sym (plain-flying m) k))) (plain m) (plain-rounded t turn m k))
     forgets-left (change (setLink chip link up)) =
-        let n = firstOf (refusals.linkRefusals true (calls.many m) chip link) in
+        let n = firstOf (refusals.linkRefusals true (many m) chip link) in
         plain-unless n 0 m (setOut (calls.withLink m chip link up))
         ∙ ap (λ (x : Mesh (Unit {0})). calls.unless n 0 (plain m) (setOut x)) (plain-set m chip link up)
     forgets-left (change (readRegisters chip)) =
-        let n = firstOf (refusals.chipRefusals true (calls.many m) chip) in
+        let n = firstOf (refusals.chipRefusals true (many m) chip) in
         plain-unless n 0 m (setOut (calls.withEmpty m chip))
         ∙ ap (λ (x : Mesh (Unit {0})). calls.unless n 0 (plain m) (setOut x)) (plain-empty m chip)
     forgets-left (look l) = ap (λ (r : Seen). record { refusal = refusalOf r; place = 0; mesh = plain m; log = [] }) (forgets-seen m l)
@@ -117,7 +117,7 @@ module _ {A : Type 0} where
     forgets-answer (change (round t room)) = ap (λ (r : calls.Left (Unit {0})). ofAdded (calls.addedOf r)) (forgets-left (change (round t room)))
     forgets-answer (change (setLink chip link up)) = ap (λ (r : calls.Left (Unit {0})). ofRefusal (r .refusal)) (forgets-left (change (setLink chip link up)))
     forgets-answer (change (readRegisters chip)) =
-        let n = firstOf (refusals.chipRefusals true (calls.many m) chip) in
+        let n = firstOf (refusals.chipRefusals true (many m) chip) in
         ap (λ (x : Chip (Unit {0})). ofRegisters (record { refusal = n; registers = cond (eqb n 0) (x .registers) empty })) (sym (plain-chip m chip))
     forgets-answer (look l) = ap ofLook (forgets-seen m l)
 

@@ -14,11 +14,10 @@ use Rattle.steps.specs.Links.{has, processorsOf}
 use Rattle.lists.specs.Lists.{total}
 use Rattle.lists.proofs.Alls.{all-or}
 use Rattle.links.specs.Link.{Flight, Link, idle}
-use Rattle.mesh.specs.Mesh.{Chip, Mesh, fresh}
+use Rattle.mesh.specs.Mesh.{Chip, Mesh, fresh, many, chipOf, linkOf}
 use Rattle.mesh.specs.Lending.{Tables}
 use Rattle.mesh.specs.Steps.{setOut, injected}
-use Rattle.mesh.specs.Calls.{many, chipOf, linkOf}
-use Rattle.mesh.specs.Weights.{onLink, onChip, inFlight}
+use Rattle.mesh.specs.Weights.{weightOn, onChip, inFlight}
 use Rattle.mesh.specs.Asked.{Call}
 use Rattle.mesh.specs.Sound.{SoundMesh}
 use Rattle.mesh.proofs.SoundSteps.{sound-injected}
@@ -52,7 +51,7 @@ quiet-link : (m : Mesh Tag) → inFlight m ≡ 0 → (c i : ℕ) → linkOf m c 
 unfolding total
 quiet-link m quiet c i =
     let chip : onChip (λ x. 1) (chipOf m c) ≡ 0 = all-or (λ (x : Chip Tag). onChip (λ x. 1) x ≡ 0) (m .chips) c fresh (all-zero (onChip (λ x. 1)) (m .chips) quiet) refl in
-    none-held _ (all-or (λ (l : Link Tag). onLink (λ x. 1) l ≡ 0) (chipOf m c .links) i idle (all-zero (onLink (λ x. 1)) (chipOf m c .links) chip) refl)
+    none-held _ (all-or (λ (l : Link Tag). weightOn (λ x. 1) l ≡ 0) (chipOf m c .links) i idle (all-zero (weightOn (λ x. 1)) (chipOf m c .links) chip) refl)
 
 none-handed : (n c q : ℕ) (es : List Event) → EachPass (λ p. OfOthers n (p .arrival .flight)) es → sumOf (handed n c q) es ≡ 0
 unfolding EachPass sumOf

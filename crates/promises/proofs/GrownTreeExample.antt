@@ -1,5 +1,5 @@
 -- What GrownTree assumes can be met: on a mesh of 2 by 1 with F = 1, a tree from chip 0 to processor 3 of chip 1, a packet with its key, and one round. All of it is computed.
-use mathlib.Core.Path.{_≡_, refl, sym}
+use mathlib.Core.Path.{_≡_, refl}
 use mathlib.Core.Bool.{true, false, false≢true}
 use mathlib.Core.List.{List, [], _∷_}
 use Prim.Native.Nat.{ℕ, zero, suc, _≤_, _<_}
@@ -16,7 +16,7 @@ use Rattle.steps.specs.Deciding.{decided, outcomeOf}
 use Rattle.lists.specs.Lists.{All, upTo, total}
 use Rattle.lists.proofs.Alls.{all-or, all-replicate}
 use Rattle.links.specs.Link.{idle}
-use Rattle.mesh.specs.Calls.{linkOf}
+use Rattle.mesh.specs.Mesh.{linkOf}
 use Rattle.mesh.specs.Lending.{Tables, tablesOf}
 use Rattle.mesh.specs.Steps.{linksAfter, arrivingFrom}
 use Rattle.mesh.specs.Asked.{Call, round, change}

@@ -10,11 +10,11 @@ use Rattle.packet.specs.Bytes.{packetAt}
 use Rattle.packet.specs.Refusal.{firstOf}
 use Rattle.lists.specs.Lists.{All}
 use Rattle.links.specs.Link.{Flight}
-use Rattle.mesh.specs.Mesh.{Mesh}
+use Rattle.mesh.specs.Mesh.{Mesh, many}
 use Rattle.mesh.specs.Lending.{Tables}
 use Rattle.mesh.specs.Steps.{Going, setOut, injected, rounded}
 use Rattle.mesh.specs.Refusals.{placeIn, injectRefusals, roundRefusals, chipRefusals, linkRefusals}
-use Rattle.mesh.specs.Calls.{Left, many, unless, withLink, withEmpty}
+use Rattle.mesh.specs.Calls.{Left, unless, withLink, withEmpty}
 use Rattle.mesh.specs.Weights.{inFlight}
 use Rattle.mesh.specs.Sound.{SoundMesh}
 use Rattle.mesh.proofs.SoundChanges.{sound-linked, sound-emptied}

@@ -17,11 +17,11 @@ use Rattle.lists.specs.Lists.{total}
 use Rattle.lists.proofs.Six.{six}
 use Rattle.lists.proofs.Totals.{total-append, total-none, total-map, total-set}
 use Rattle.links.specs.Link.{Flight, Link, idle, sent, linkAfter}
-use Rattle.mesh.specs.Mesh.{Chip, Mesh, fresh}
+use Rattle.mesh.specs.Mesh.{Chip, Mesh, fresh, chipOf, linkOf}
 use Rattle.mesh.specs.Lending.{Tables}
 use Rattle.mesh.specs.Steps.{Arrival, Going, outcomeAt, linksAfter, chipAfter, withChip, emptied, emptiedChip, setAside, arrivals, passAt}
-use Rattle.mesh.specs.Calls.{chipOf, linkOf, withUp, withLink, withEmpty}
-use Rattle.mesh.specs.Weights.{onLink, onChip, onMesh}
+use Rattle.mesh.specs.Calls.{withUp, withLink, withEmpty}
+use Rattle.mesh.specs.Weights.{weightOn, onChip, onMesh}
 use Rattle.mesh.specs.Sound.{Arrives, SoundMesh}
 use Rattle.mesh.proofs.SoundChanges.{chip-sound}
 use Rattle.mesh.proofs.Torus.{arrivals-weigh}
@@ -38,17 +38,17 @@ module _ {A : Type 0} (w : Flight A → ℕ) where
   total-sent true p tag = omega arith
   total-sent false p tag = refl
 
-  link-gains : (o : Outcome) (tag : A) (i : ℕ) (l : Link A) → onLink w (linkAfter o tag i l) ≡ onLink w l + gained o tag i
+  link-gains : (o : Outcome) (tag : A) (i : ℕ) (l : Link A) → weightOn w (linkAfter o tag i l) ≡ weightOn w l + gained o tag i
   link-gains o tag i l =
       simp total-append (omega (arith, total-sent (has (o .sent) i) (packetOn o i) tag, total-sent (has (o .«leg_sent») i) (legPacket o) tag))
 
   pub chip-gains : (o : Outcome) (tag : A) (c : Chip A) → length (c .links) ≡ 6 → onChip w (chipAfter o tag c) ≡ onChip w c + overLinks (gained o tag)
   unfolding total linksAfter
   chip-gains o tag c h =
-      subst (λ (ls : List (Link A)). total (onLink w) (linksAfter o tag 0 ls) ≡ total (onLink w) ls + overLinks (gained o tag)) (sym (six idle (c .links) h))
+      subst (λ (ls : List (Link A)). total (weightOn w) (linksAfter o tag 0 ls) ≡ total (weightOn w) ls + overLinks (gained o tag)) (sym (six idle (c .links) h))
       (omega (arith, gains 0, gains 1, gains 2, gains 3, gains 4, gains 5))
     where
-      gains : (i : ℕ) → onLink w (linkAfter o tag i (getD (c .links) i idle)) ≡ onLink w (getD (c .links) i idle) + gained o tag i
+      gains : (i : ℕ) → weightOn w (linkAfter o tag i (getD (c .links) i idle)) ≡ weightOn w (getD (c .links) i idle) + gained o tag i
       gains i = link-gains o tag i (getD (c .links) i idle)
 
   -- ---- a mesh
@@ -59,7 +59,7 @@ module _ {A : Type 0} (w : Flight A → ℕ) where
     unfolding total
     aside-weighs =
         total-map (onChip w) emptiedChip (m .chips)
-        ∙ total-none _ (λ c. total-map (onLink w) emptied (c .links) ∙ total-none _ (λ l. refl) (c .links)) (m .chips)
+        ∙ total-none _ (λ c. total-map (weightOn w) emptied (c .links) ∙ total-none _ (λ l. refl) (c .links)) (m .chips)
 
     module _ (sound : SoundMesh m) where
       -- what arrives in a round is what was in flight
@@ -76,7 +76,7 @@ module _ {A : Type 0} (w : Flight A → ℕ) where
         pub linked-weighs : (link : ℕ) (up : Bool) → link < 6 → onMesh w (withLink m chip link up) ≡ onMesh w m
         linked-weighs link up h =
             let six-here = chip-sound sound chip there .six in
-            let links = total-set (onLink w) (chipOf m chip .links) link (withUp up (linkOf m chip link)) idle (omega arith) in
+            let links = total-set (weightOn w) (chipOf m chip .links) link (withUp up (linkOf m chip link)) idle (omega arith) in
             more-weighs _ 0 (omega (arith, links)) ∙ add-zero (onMesh w m)
 
         pub emptied-weighs : onMesh w (withEmpty m chip) ≡ onMesh w m

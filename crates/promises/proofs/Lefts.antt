@@ -10,13 +10,13 @@ use lib.Seq.{take-at}
 use borrow.Author.Tests.{eqb-false}
 use Rattle.packet.specs.Bytes.{packetAt}
 use Rattle.packet.specs.Refusal.{firstOf}
-use Rattle.mesh.specs.Mesh.{Mesh}
+use Rattle.mesh.specs.Mesh.{Mesh, many}
 use Rattle.buffer.specs.Layout.{meshOf}
 use Rattle.mesh.specs.Lending.{Tables}
 use Rattle.mesh.specs.Steps.{setOut, injected, rounded, same}
 use Rattle.mesh.specs.Weights.{inFlight}
 use Rattle.mesh.specs.Refusals.{placeIn, injectRefusals, roundRefusals, linkRefusals, chipRefusals}
-use Rattle.mesh.specs.Calls.{Left, many, withLink, withEmpty, loggedOn}
+use Rattle.mesh.specs.Calls.{Left, withLink, withEmpty, loggedOn}
 use Rattle.mesh.specs.Asked.{Call, inject, round, setLink, readRegisters, change, look, leftBy, answerOf}
 use Rattle.records.specs.Traces.{Trace, over, refused, then}
 use Rattle.trace.specs.Replay.{making, stopped, behind, replaying}

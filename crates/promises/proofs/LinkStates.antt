@@ -7,10 +7,10 @@ use lib.ListN.{getD, set, List·getD-map}
 use Rattle.steps.specs.declared.Outcome.{Outcome}
 use Rattle.lists.proofs.Changed.{set-keeps}
 use Rattle.links.specs.Link.{Link, idle}
-use Rattle.mesh.specs.Mesh.{Chip, Mesh, fresh}
+use Rattle.mesh.specs.Mesh.{Chip, Mesh, fresh, chipOf, linkOf}
 use Rattle.mesh.specs.Lending.{Tables}
 use Rattle.mesh.specs.Steps.{Arrival, Going, linksAfter, emptied, emptiedChip, setAside, roundOver, passAt}
-use Rattle.mesh.specs.Calls.{chipOf, linkOf, withUp, withLink, withEmpty}
+use Rattle.mesh.specs.Calls.{withUp, withLink, withEmpty}
 use Rattle.mesh.specs.Sound.{SoundMesh}
 use Rattle.flood.specs.Ways.{isUp}
 use Rattle.flood.proofs.SameLinks.{SameLinks}

@@ -27,7 +27,7 @@ use Rattle.kept.specs.Counting.{countsOf, sentCount, delivered, swallowed}
 use Rattle.steps.proofs.Flags.{error-flags, without-error}
 use Rattle.steps.specs.Links.{has}
 use Rattle.links.specs.Link.{idle, isReady}
-use Rattle.mesh.specs.Calls.{chipOf}
+use Rattle.mesh.specs.Mesh.{chipOf}
 use Rattle.mesh.specs.Weights.{onChip}
 use Rattle.mesh.proofs.SoundChanges.{chip-sound}
 use Rattle.mesh.proofs.SoundSteps.{checked}

@@ -18,7 +18,7 @@ use Rattle.mesh.specs.Mesh.{Chip, Mesh, fresh}
 use Rattle.mesh.specs.Lending.{Tables, tablesAt}
 use Rattle.mesh.specs.Steps.{Arrival, Going, outcomeAt, logOf, linksAfter, chipAfter, withChips, withChip, emptied, emptiedChip, setAside, arrivingBy, arrivingAt, arrivingFrom, arrivals, roundOver, passAt, passed, rounded, same, setOut}
 use Rattle.lists.specs.Lists.{total}
-use Rattle.mesh.specs.Weights.{onLink, onChip, inFlight}
+use Rattle.mesh.specs.Weights.{weightOn, onChip, inFlight}
 use Rattle.lists.proofs.Changed.{map-set}
 use Rattle.lists.proofs.Totals.{total-map, total-ones}
 use Rattle.promises.specs.Told.{plainFlight, plainLink, plainChip, plain}
@@ -52,11 +52,11 @@ module _ {A : Type 0} where
       (record { width = m .width; height = m .height; monitor = m .monitor; phase = m .phase; ready = ready }))
       (ap (λ (c : Chip (Unit {0})). readyLinks (c .links)) (plain-chip m chip) ∙ ready-links (getD (m .chips) chip fresh))
 
-  on-link : (l : Link A) → onLink (λ f. 1) (plainLink l) ≡ onLink (λ f. 1) l
+  on-link : (l : Link A) → weightOn (λ f. 1) (plainLink l) ≡ weightOn (λ f. 1) l
   on-link l = total-ones (map plainFlight (l .held)) ∙ length-map (l .held) plainFlight ∙ sym (total-ones (l .held))
 
   on-chip : (c : Chip A) → onChip (λ f. 1) (plainChip c) ≡ onChip (λ f. 1) c
-  on-chip c = total-map (onLink (λ f. 1)) plainLink (c .links) ∙ ap (λ (w : Link A → ℕ). total w (c .links)) (fun-ext on-link)
+  on-chip c = total-map (weightOn (λ f. 1)) plainLink (c .links) ∙ ap (λ (w : Link A → ℕ). total w (c .links)) (fun-ext on-link)
 
   pub plain-flying : (m : Mesh A) → inFlight (plain m) ≡ inFlight m
   plain-flying m = total-map (onChip (λ f. 1)) plainChip (m .chips) ∙ ap (λ (w : Chip A → ℕ). total w (m .chips)) (fun-ext on-chip)

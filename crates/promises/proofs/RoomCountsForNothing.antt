@@ -12,15 +12,13 @@ use Rattle.packet.specs.Bytes.{packetAt, notTaken}
 use Rattle.packet.specs.Refusal.{Refusal, refuse, firstOf, packetRefusals}
 use Rattle.tables.specs.Accept.{startsRight, rowsFew, fewRows, routesFine, routeFine, fixedFine, codesFine}
 use Rattle.tables.specs.Sizes.{sizeFine}
-use Rattle.tables.specs.Tables.{ChipTables}
 use Rattle.groups.specs.Room.{longest, roomShort}
-use Rattle.steps.specs.declared.Setting.{Setting}
-use Rattle.router.specs.Call.{settingFine, sourceFine, passRefusals, checkedOf, answer, passOf}
-use Rattle.mesh.specs.Mesh.{Mesh}
+use Rattle.router.specs.Call.{settingFine, sourceFine, checkedOf, answer, passOf}
+use Rattle.mesh.specs.Mesh.{Mesh, many}
 use Rattle.mesh.specs.Lending.{Tables}
 use Rattle.mesh.specs.Steps.{Going, injected, rounded, same}
-use Rattle.mesh.specs.Refusals.{tablesRefusals, injectRefusals, roundRefusals, placeIn}
-use Rattle.mesh.specs.Calls.{Left, many, unless, injecting, rounding, linking, emptying, addedOf}
+use Rattle.mesh.specs.Refusals.{placeIn}
+use Rattle.mesh.specs.Calls.{Left, unless, injecting, rounding, linking, emptying, addedOf}
 use Rattle.mesh.specs.Weights.{inFlight}
 use Rattle.mesh.specs.Asked.{change, look, inject, round, setLink, readRegisters, ofAdded}
 use Rattle.records.specs.declared.Call.{Call}

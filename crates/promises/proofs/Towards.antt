@@ -15,10 +15,10 @@ use Rattle.lists.proofs.Alls.{all-nil, all-or, all-map, all-weaken}
 use Rattle.lists.proofs.Changed.{set-keeps}
 use Rattle.links.specs.Link.{Flight, Link, idle, linkAfter}
 use Rattle.links.specs.Across.{across, opposite}
-use Rattle.mesh.specs.Mesh.{Chip, Mesh, fresh}
+use Rattle.mesh.specs.Mesh.{Chip, Mesh, fresh, chipOf, linkOf}
 use Rattle.mesh.specs.Lending.{Tables}
 use Rattle.mesh.specs.Steps.{Arrival, Going, outcomeAt, arrivingBy, arrivals, passAt}
-use Rattle.mesh.specs.Calls.{chipOf, linkOf, withUp, withLink, withEmpty}
+use Rattle.mesh.specs.Calls.{withUp, withLink, withEmpty}
 use Rattle.mesh.specs.Sound.{Arrives, SoundMesh}
 use Rattle.links.proofs.Crossing.{opposite-there}
 use Rattle.mesh.proofs.SoundChanges.{chip-sound}

@@ -14,9 +14,8 @@ use Rattle.steps.specs.Errors.{errorsOf}
 use Rattle.lists.specs.Lists.{All}
 use Rattle.links.specs.Link.{Flight}
 use Rattle.links.specs.Across.{across, opposite}
-use Rattle.mesh.specs.Mesh.{Mesh}
+use Rattle.mesh.specs.Mesh.{Mesh, linkOf}
 use Rattle.mesh.specs.Steps.{Arrival, arrivingBy, arrivingAt}
-use Rattle.mesh.specs.Calls.{linkOf}
 use Rattle.mesh.specs.Sound.{SoundPacket}
 use Rattle.links.proofs.Crossing.{opposite-there}
 use Rattle.flood.proofs.WholeWay.{no-error}

@@ -9,8 +9,7 @@ use lib.Dec.{eqb, leb}
 use borrow.Author.Tests.{eq-eqb, eqb-true, le-leb, lt-leb}
 use Rattle.steps.specs.Links.{has}
 use Rattle.steps.proofs.Sets.{has-none}
-use Rattle.mesh.specs.Mesh.{Mesh}
-use Rattle.mesh.specs.Calls.{linkOf}
+use Rattle.mesh.specs.Mesh.{Mesh, linkOf}
 use Rattle.promises.specs.History.{Tag, Passage, Event, packetPassed}
 use Rattle.promises.specs.Told.{EachPass, sumOf}
 use Rattle.promises.specs.GrownTree.{handed}

@@ -9,10 +9,9 @@ use native.Mathlib.Omega.{arith}
 use lib.ListN.{getD, List·getD-map}
 use Rattle.links.specs.Link.{Link, idle}
 use Rattle.links.specs.Across.{opposite}
-use Rattle.mesh.specs.Mesh.{Chip, Mesh, fresh}
+use Rattle.mesh.specs.Mesh.{Chip, Mesh, fresh, many, chipOf, linkOf}
 use Rattle.mesh.specs.Lending.{Tables}
 use Rattle.mesh.specs.Steps.{Arrival, Going, emptied, emptiedChip, setAside, arrivingAt, arrivingFrom, passAt}
-use Rattle.mesh.specs.Calls.{many, chipOf, linkOf}
 use Rattle.mesh.specs.Sound.{SoundPacket, Arrives, SoundMesh}
 use Rattle.links.proofs.Crossing.{opposite-there}
 use Rattle.mesh.proofs.SoundArrivals.{sound-passable}

@@ -14,10 +14,9 @@ use Rattle.steps.specs.Links.{has}
 use Rattle.steps.proofs.Sets.{has-none}
 use Rattle.lists.specs.Lists.{All}
 use Rattle.links.specs.Link.{Flight, idle}
-use Rattle.mesh.specs.Mesh.{fresh}
+use Rattle.mesh.specs.Mesh.{fresh, linkOf}
 use Rattle.mesh.specs.Lending.{Tables}
 use Rattle.mesh.specs.Steps.{setOut, setAside, arrivals}
-use Rattle.mesh.specs.Calls.{linkOf}
 use Rattle.mesh.specs.Asked.{Call}
 use Rattle.mesh.specs.Sound.{SoundMesh}
 use Rattle.mesh.proofs.SoundChanges.{chip-sound, sound-linked, sound-emptied}

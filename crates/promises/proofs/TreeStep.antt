@@ -15,20 +15,19 @@ use Rattle.steps.specs.Errors.{errorsOf}
 use Rattle.steps.specs.Deciding.{packetOn, legPacket}
 use Rattle.steps.proofs.Sets.{has-none}
 use Rattle.links.specs.Link.{Flight, Link, idle, isReady, sent, linkAfter}
-use Rattle.mesh.specs.Mesh.{Chip, Mesh, fresh, readyOf}
+use Rattle.mesh.specs.Mesh.{Chip, Mesh, fresh, readyOf, chipOf, linkOf}
 use Rattle.mesh.specs.Lending.{Tables, tablesAt}
 use Rattle.mesh.specs.Steps.{Arrival, Going, outcomeAt, settingAt, passAt}
-use Rattle.mesh.specs.Calls.{chipOf, linkOf}
 use Rattle.mesh.specs.Sound.{Arrives, SoundMesh}
 use Rattle.mesh.proofs.SoundChanges.{chip-sound}
 use Rattle.mesh.proofs.SoundSteps.{CodesFor, checked}
 use Rattle.promises.specs.History.{Tag, Passage, turned}
-use Rattle.promises.specs.GrownTree.{Asked, refusal, tree, Only, handed}
+use Rattle.promises.specs.GrownTree.{Asked, refusal, Only, handed}
 use Rattle.promises.proofs.Apart.{link-at}
 use Rattle.promises.proofs.Runs.{passage}
 use Rattle.promises.proofs.TreeRows.{chip-rows}
 use Rattle.promises.proofs.TreePass.{ByRoute, ComesBy, Fits, set-all, by-route, sent-fits}
-use Rattle.promises.proofs.TreeShape.{all, entered, route, leads}
+use Rattle.promises.proofs.TreeShape.{entered, route, leads}
 
 -- an injection into a grown tree: what was grown, the mesh that it found, all links up, the number of the injection, and the rounds before it
 pub record Trip : Type 0 where

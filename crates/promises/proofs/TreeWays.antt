@@ -1,17 +1,12 @@
 -- A way of a tree has as many links as the fewest of a flood where all links are up: its links are a way of the flood's, and the links of every way of the flood's lead there.
-use Prim.Native.Nat.{ℕ, _<_, _≤_}
-use mathlib.Core.Path.{_≡_, refl, sym, subst}
-use mathlib.Core.Bool.{Bool, true, false, cond}
-use mathlib.Core.List.{List, [], _∷_, _++_}
-use native.Mathlib.Omega.{arith}
+use Prim.Native.Nat.{ℕ, _<_}
+use mathlib.Core.Path.{_≡_, refl, subst}
+use mathlib.Core.List.{List, [], _∷_}
 use native.Mathlib.Nat.{le-antisymm, le-trans}
-use lib.Dec.{lit<}
-use lib.ListN.{length}
 use Rattle.lists.specs.Lists.{All}
 use Rattle.lists.proofs.Firsts.{first-holds}
 use Rattle.tables.proofs.Sizes.{Size, size}
-use Rattle.mesh.specs.Mesh.{Mesh}
-use Rattle.mesh.specs.Calls.{many}
+use Rattle.mesh.specs.Mesh.{Mesh, many}
 use Rattle.mesh.specs.Sound.{SoundMesh}
 use Rattle.links.proofs.Crossing.{across-there}
 use Rattle.flood.specs.Ways.{Way, here, onward, beyond, within, fewest}

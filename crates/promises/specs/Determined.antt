@@ -27,7 +27,8 @@ use Rattle.buffer.specs.Opening.{sizeOf, openRefusals, opening}
 use Rattle.buffer.specs.Holding.{holdsMesh}
 use Rattle.mesh.specs.Sound.{SoundLink}
 use Rattle.mesh.specs.Lending.{Tables}
-use Rattle.mesh.specs.Calls.{Left, many, chipOf, linkOf, registersRead}
+use Rattle.mesh.specs.Mesh.{many, chipOf, linkOf}
+use Rattle.mesh.specs.Calls.{Left, registersRead}
 use Rattle.mesh.specs.Looks.{countRead, meshRead, linkRead, flightRead}
 use Rattle.buffer.specs.Leaving.{Leaves, Moves, linkLeft, roundRoom}
 use Rattle.flood.specs.Codes.{floodRefusal, flooded}

@@ -16,7 +16,7 @@ use Rattle.steps.specs.Errors.{errorsOf}
 use Rattle.lists.specs.Lists.{All}
 use Rattle.links.specs.Across.{across}
 use Rattle.mesh.specs.Lending.{Tables}
-use Rattle.mesh.specs.Calls.{many, linkOf}
+use Rattle.mesh.specs.Mesh.{many, linkOf}
 use Rattle.mesh.specs.Weights.{inFlight}
 use Rattle.mesh.specs.Asked.{Call, inject, round, setLink, readRegisters, change, look, leftBy}
 use Rattle.tree.specs.Growing.{targetsOf, Grown}

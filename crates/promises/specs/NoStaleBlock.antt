@@ -15,10 +15,10 @@ use Rattle.steps.specs.Links.{has, linksOf, link}
 use Rattle.steps.specs.Errors.{flag}
 use Rattle.steps.specs.Deciding.{outcomeOf}
 use Rattle.links.specs.Link.{idle, isReady, readyLinks}
-use Rattle.mesh.specs.Mesh.{Chip, Mesh, fresh, readyOf}
+use Rattle.mesh.specs.Mesh.{Chip, Mesh, fresh, readyOf, many, chipOf, linkOf}
 use Rattle.mesh.specs.Lending.{Tables, tablesAt}
 use Rattle.mesh.specs.Steps.{outcomeAt}
-use Rattle.mesh.specs.Calls.{many, chipOf, linkOf, withUp, withLink}
+use Rattle.mesh.specs.Calls.{withUp, withLink}
 use Rattle.mesh.specs.Sound.{SoundMesh}
 use Rattle.mesh.proofs.SoundChanges.{chip-sound}
 use Rattle.steps.proofs.Sets.{has-set}

@@ -3,8 +3,7 @@ use Prim.Native.Nat.{ℕ, _<_}
 use mathlib.Core.Path.{_≡_}
 use mathlib.Core.Bool.{true}
 use lib.ListN.{length}
-use Rattle.mesh.specs.Mesh.{Mesh}
-use Rattle.mesh.specs.Calls.{many}
+use Rattle.mesh.specs.Mesh.{Mesh, many}
 use Rattle.mesh.specs.Sound.{SoundMesh}
 use Rattle.flood.specs.Ways.{isUp, fewest}
 use Rattle.tree.specs.Way.{linksOf, wayBetween}

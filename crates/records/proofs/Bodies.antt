@@ -1,7 +1,7 @@
 -- Which kinds go with which body lengths and link states, kind by kind.
 use mathlib.Core.Path.{_≡_, refl, sym, ap, _∙_}
 use mathlib.Core.Logic.{_⊎_, inl, inr}
-use mathlib.Core.Bool.{Bool, true, false, _&&_, _||_, not, and-eq-true-iff}
+use mathlib.Core.Bool.{Bool, true, false, _&&_, _||_, not, and-eq-true-iff, and-true, false≢true}
 use mathlib.Core.List.{List}
 use Prim.Native.Nat.{ℕ, _≤_, _<_}
 use native.Mathlib.Omega.{arith}
@@ -9,17 +9,6 @@ use lib.Dec.{eqb, leb}
 use lib.ListN.{length, getD}
 use borrow.Author.Tests.{eq-eqb, ne-eqb, eqb-true, leb-true}
 use Rattle.records.specs.Records.{bodyFits, bodyLength, bodyFine, Readable}
-
-and-true : (b : Bool) → (b && true) ≡ b
-and-true true = refl
-and-true false = refl
-
-and-false : (b : Bool) → (b && false) ≡ false
-and-false true = refl
-and-false false = refl
-
-never : {X : Type 0} → false ≡ true → X
-never e = absurd (mathlib.Core.Bool.false≢true e)
 
 -- the three numbers that decide
 abbrev fits : ℕ → ℕ → ℕ → Bool
@@ -70,7 +59,7 @@ module _ (s : List ℕ) where
         go : (a b : Bool) → eqb (bodyLength s) 9 ≡ a → eqb (bodyLength s) 13 ≡ b → (a || b) ≡ true → (bodyLength s ≡ 9) ⊎ (bodyLength s ≡ 13)
         go true b x y z = inl (eqb-true _ _ x)
         go false true x y z = inr (eqb-true _ _ y)
-        go false false x y z = never z
+        go false false x y z = absurd (false≢true z)
 
     pub fine-round : getD s 3 0 ≡ 2 → bodyLength s ≡ 2
     fine-round e = eqb-true _ _ (of-round e ∙ fine)
@@ -85,14 +74,14 @@ module _ (s : List ℕ) where
       where
         go : (d : Bool) → eqb (getD s 3 0) 4 ≡ d → (getD s 3 0 ≡ 4) × (bodyLength s ≡ 4)
         go true x = (eqb-true _ _ x, eqb-true _ _ (of-read (eqb-true _ _ x) ∙ fine))
-        go false x = never (of-none a b c (λ e. never (sym x ∙ eq-eqb (getD s 3 0) 4 e)) ∙ fine)
+        go false x = absurd (false≢true (of-none a b c (λ e. absurd (false≢true (sym x ∙ eq-eqb (getD s 3 0) 4 e))) ∙ fine))
 
     pub fine-long : 2 ≤ bodyLength s
     fine-long = go (leb 2 (bodyLength s)) refl
       where
         go : (d : Bool) → leb 2 (bodyLength s) ≡ d → 2 ≤ bodyLength s
         go true x = leb-true _ _ x
-        go false x = never (of-short (borrow.Author.Tests.leb-false _ _ x) ∙ fine)
+        go false x = absurd (false≢true (of-short (borrow.Author.Tests.leb-false _ _ x) ∙ fine))
 
   pub injection-long : Readable s → (bodyLength s ≡ 9) ⊎ (bodyLength s ≡ 13) → 11 ≤ length s
   injection-long r (inl e) = omega (arith, r .whole)

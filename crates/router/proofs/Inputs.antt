@@ -1,6 +1,6 @@
 -- What is known of the inputs of the one-router call once nothing is refused.
 use mathlib.Core.Path.{_≡_, refl, sym, ap, _∙_}
-use mathlib.Core.Bool.{Bool, true, false, cond, not, _&&_, and-eq-true-iff}
+use mathlib.Core.Bool.{Bool, true, false, cond, not, _&&_, and-eq-true-iff, true≢false}
 use mathlib.Core.List.{List}
 use Prim.Native.Nat.{ℕ, zero, suc, _*_, _/_, _≤_, _<_}
 use native.Mathlib.Nat.{le-of-eq}
@@ -97,15 +97,15 @@ module _ (bytes : List ℕ) (source : ℕ) (tables : ChipTables) (t : Setting) (
     accepted e d = by-packet ∙ simp (eq-eqb _ _ e, d)
 
 -- where nothing is refused, each test has passed, and the packet is the one that stands in the bytes
-pub record Passed (bytes : List ℕ) (source : ℕ) (tables : ChipTables) (t : Setting) (room : ℕ) : Type 0 where
+pub record NoneRefused (bytes : List ℕ) (source : ℕ) (tables : ChipTables) (t : Setting) (room : ℕ) : Type 0 where
   pub tests : Fine source tables t
   pub packet : checkedOf bytes source tables t room ≡ record { refusal = 0; packet = packetAt bytes }
 
-pub none-refused : (bytes : List ℕ) (source : ℕ) (tables : ChipTables) (t : Setting) (room : ℕ) → checkedOf bytes source tables t room .refusal ≡ 0 → Passed bytes source tables t room
+pub none-refused : (bytes : List ℕ) (source : ℕ) (tables : ChipTables) (t : Setting) (room : ℕ) → checkedOf bytes source tables t room .refusal ≡ 0 → NoneRefused bytes source tables t room
 unfolding checkedOf
 none-refused bytes source tables t room e = go (firstOf (settingRefusals source tables t room)) refl (firstOf (passRefusals bytes source tables t room)) refl
   where
-    go : (n : ℕ) → firstOf (settingRefusals source tables t room) ≡ n → (m : ℕ) → firstOf (passRefusals bytes source tables t room) ≡ m → Passed bytes source tables t room
+    go : (n : ℕ) → firstOf (settingRefusals source tables t room) ≡ n → (m : ℕ) → firstOf (passRefusals bytes source tables t room) ≡ m → NoneRefused bytes source tables t room
     go zero f zero g = record { tests = fine source tables t room f; packet = simp (eq-eqb _ _ g) }
     go zero f (suc m) g =
         let some : suc m ≡ 0 → ⊥ = λ z. omega arith in
@@ -120,7 +120,7 @@ none-refused bytes source tables t room e = go (firstOf (settingRefusals source 
 
 -- where one of three tests fails, the first that does
 pub lent-number : (few routes fixed : Bool) (rest : ℕ) → ((few && routes) && fixed) ≡ false → cond (not few) 16 (cond (not routes) 17 18) ≡ cond (not few) 16 (cond (not routes) 17 (cond (not fixed) 18 rest))
-lent-number true true true rest e = absurd (let z : _≡_ {A = ℕ} 0 1 = cc in omega arith)
+lent-number true true true rest e = absurd (true≢false e)
 lent-number true true false rest e = refl
 lent-number true false fixed rest e = refl
 lent-number false routes fixed rest e = refl

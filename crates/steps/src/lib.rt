@@ -22,9 +22,8 @@ pub struct Wanted {
 }
 
 // What a pass does: where the packet came from, the errors found, the packet after stamping, the wanted set, whether a local packet found
-// no row, the links that send the packet and those of them that carry a detour, the links dropped for, and the second leg's link
-// as a set, where it is sent and where it is dropped; and the phase. Source and phase stand apart: side by side the compiler takes
-// them for one number, which a pass then puts together and takes apart again.
+// no row, the links that send the packet and those of them that carry a detour, the links dropped for, the second leg's link as a set,
+// where it is sent and where it is dropped, and the phase. Source and phase stand apart for speed (docs/DECISIONS.md).
 pub struct Outcome {
     pub source: u32,
     pub errors: u32,

@@ -26,8 +26,8 @@ pub fn by_rows(errors: u32, control: u32) -> bool
     (errors == 0) & is_mc(control) & (mark_of(control) != 2)
 }
 
-// The wanted set of a packet: what the rows say to it, where it goes by them. The one-router call's; the mesh's pass takes `looked_up` and
-// `wanted_given` instead, which say the same in two steps: what has one caller the compiler puts in place, and keeps its numbers out of memory.
+// The wanted set of a packet: by the rows where it goes by them, else by its type. The one-router call uses this; the mesh's pass uses
+// `looked_up` and `wanted_given`, the same in two steps, since the compiler puts in place only what has one caller.
 pub fn wanted_of(
     errors: u32,
     p: Packet,

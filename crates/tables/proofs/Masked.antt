@@ -5,7 +5,6 @@ use Prim.Native.Nat.{ℕ, zero, suc, _+_, _*_, _/_, _%_, _<_, min}
 use native.Mathlib.Nat.{min-zero, zero-min, suc-min-suc, min-le-left, mod-lt, lt-of-le-of-lt, zero-lt-suc}
 use lib.Arith.{bin-ind, digits-div, digits-mod}
 use lib.Bits.{bitAnd, and-step, and-comm, and-self}
-use lib.Dec.{eqb}
 use borrow.Author.Tests.{eqb-true, eq-eqb}
 use Rattle.tables.specs.Rows.{matches, used}
 

@@ -1,6 +1,6 @@
 -- Where a walk over the starts stops is the first place where they are wrong: at once where their number or the first is, at the first that falls, at the last, or nowhere.
-use mathlib.Core.Path.{_≡_, refl, sym, ap, _∙_}
-use mathlib.Core.Bool.{Bool, true, false, cond, _&&_, _||_, not, and-false}
+use mathlib.Core.Path.{_≡_, refl, sym, _∙_}
+use mathlib.Core.Bool.{Bool, true, false, _&&_, not, and-false, or-true}
 use mathlib.Core.List.{List}
 use Prim.Native.Nat.{ℕ, zero, suc, _+_, _-_, _≤_, _<_}
 use native.Mathlib.Omega.{arith}
@@ -52,10 +52,6 @@ module _ (starts : List ℕ) (chips rows : ℕ) where
   pub last-wrong : 1 ≤ chips → (p : ℕ) → chips < p → Unfallen starts chips p → (getD starts chips 0 ≡ rows → ⊥) → chips ≡ startsPlace starts chips rows
   last-wrong some p past u e =
       sym (first-is (startWrong starts chips rows) (chips + 1) chips (omega arith) (simp (ne-eqb chips 0 (λ z. omega arith), eq-eqb chips chips refl, ne-eqb (getD starts chips 0) rows e) (or-true (ltb (getD starts chips 0) (getD starts (chips - 1) 0)))) (λ j h. right-before p u j (omega arith) (λ f. absurd (omega arith))))
-    where
-      or-true : (b : Bool) → (b || true) ≡ true
-      or-true true = refl
-      or-true false = refl
 
   pub none-wrong : (p : ℕ) → p ≡ chips + 1 → Unfallen starts chips p → getD starts chips 0 ≡ rows → p ≡ startsPlace starts chips rows
   none-wrong p e u last = e ∙ sym (first-none (startWrong starts chips rows) (chips + 1) (λ j h. right-before p u j (omega arith) (λ f. last)))

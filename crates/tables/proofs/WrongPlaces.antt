@@ -1,13 +1,13 @@
 -- The place that is told with each of 15 to 18 is exact. A test that walks a list is one of each number in it, or of each and the next, so that it fails exactly where one of them does.
 use mathlib.Core.Path.{_≡_, refl, sym, ap, _∙_}
-use mathlib.Core.Bool.{Bool, true, false, cond, _&&_, _||_, not, and-eq-true-iff, and-false, false≢true}
+use mathlib.Core.Bool.{Bool, true, false, cond, _&&_, not, and-eq-true-iff, and-false, false≢true}
 use mathlib.Core.List.{List, [], _∷_}
-use Prim.Native.Nat.{ℕ, zero, suc, _+_, _-_, _*_, _/_, _%_, _≤_, _<_}
+use Prim.Native.Nat.{ℕ, zero, suc, _+_, _-_, _/_, _%_, _≤_, _<_}
 use native.Mathlib.Omega.{arith}
 use native.Mathlib.Numerals.{add-one}
 use lib.Dec.{eqb, ltb, leb}
 use lib.ListN.{length, getD}
-use borrow.Author.Tests.{leb-true, le-leb, ltb-true, lt-ltb, le-ltb, ltb-false, eqb-true, eq-eqb, ne-eqb, not-false, not-true}
+use borrow.Author.Tests.{leb-true, le-leb, le-ltb, ltb-false, eqb-true, eq-eqb, ne-eqb}
 use Rattle.lists.specs.Firsts.{Exact}
 use Rattle.lists.proofs.Bools.{neither}
 use Rattle.lists.proofs.Firsts.{exact, exact-fine, exact-not, lt-or-ge}

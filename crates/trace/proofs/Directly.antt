@@ -18,7 +18,7 @@ use Rattle.records.specs.declared.Call.{Call}
 use Rattle.records.specs.Traces.{Trace, refused, then}
 use Rattle.trace.specs.declared.Replayed.{Replayed}
 use Rattle.trace.specs.Replay.{madeLeft, Replay, stopped, behind, replaying}
-use Rattle.trace.specs.Directly.{Made, injected, rounded, changed, handedOver, Directly, done, unread, stops, goes, AsDirectly, OneReplay}
+use Rattle.trace.specs.Directly.{Made, injected, rounded, changed, registersHandedOver, Directly, done, unread, stops, goes, AsDirectly, OneReplay}
 use Rattle.trace.proofs.KeptSizes.{Keeps, keeps-made}
 use Rattle.trace.proofs.MadeCalls.{made-injection, made-round, made-change, made-read}
 
@@ -34,7 +34,7 @@ gives : (t : Tables) (l log : List ℕ) (c : Call) {a : Added} {l₁ log₁ : Li
 gives t l log c (injected k x) = made-injection t l log c _ _ _ k x
 gives t l log c (rounded k x) = made-round t l log c _ _ _ k x
 gives t l log c (changed k x y) = made-change t l log c _ k _ x y
-gives t l log c (handedOver k x y) = made-read t l log c _ (λ e. omega arith) (λ e. omega arith) (λ e. omega arith) _ x y
+gives t l log c (registersHandedOver k x y) = made-read t l log c _ (λ e. omega arith) (λ e. omega arith) (λ e. omega arith) _ x y
 
 module _ (t : Tables) where
   abbrev onward : List ℕ → List ℕ → Trace → Replay

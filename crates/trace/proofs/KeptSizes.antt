@@ -11,12 +11,12 @@ use Rattle.packet.specs.Refusal.{firstOf}
 use Rattle.packet.specs.Bytes.{packetAt}
 use Rattle.steps.specs.declared.Outcome.{Outcome}
 use Rattle.steps.specs.Links.{processorsOf}
-use Rattle.mesh.specs.Mesh.{Mesh}
+use Rattle.mesh.specs.Mesh.{Mesh, many}
 use Rattle.mesh.specs.Lending.{Tables}
 use Rattle.mesh.specs.Steps.{Arrival, Going, setOut, outcomeAt, logOf, setAside, arrivals, passAt, injected, rounded}
 use Rattle.mesh.specs.Weights.{inFlight}
 use Rattle.mesh.specs.Refusals.{placeIn, injectRefusals, roundRefusals, linkRefusals, chipRefusals}
-use Rattle.mesh.specs.Calls.{Left, many, unless, withLink, withEmpty}
+use Rattle.mesh.specs.Calls.{Left, unless, withLink, withEmpty}
 use Rattle.records.specs.declared.Call.{Call}
 use Rattle.records.specs.Records.{packetOf}
 use Rattle.trace.specs.Replay.{making}

@@ -9,13 +9,13 @@ use borrow.Author.Tests.{eqb-true}
 use Rattle.mesh.specs.declared.Added.{Added}
 use Rattle.mesh.specs.declared.RegistersRead.{RegistersRead}
 use Rattle.packet.specs.Refusal.{firstOf}
-use Rattle.mesh.specs.Mesh.{Mesh}
+use Rattle.mesh.specs.Mesh.{Mesh, many}
 use Rattle.buffer.specs.Layout.{meshOf}
 use Rattle.buffer.specs.Holding.{holdsMesh}
 use Rattle.mesh.specs.Lending.{Tables}
 use Rattle.mesh.specs.Steps.{Going, setOut}
 use Rattle.mesh.specs.Refusals.{chipRefusals, linkRefusals}
-use Rattle.mesh.specs.Calls.{Left, many, unless, withLink, withEmpty, addedOf, loggedOn, registersRead}
+use Rattle.mesh.specs.Calls.{Left, unless, withLink, withEmpty, addedOf, loggedOn, registersRead}
 use Rattle.buffer.specs.Leaving.{Leaves, Moves, injectLeft, roundLeft, linkLeft, registersLeft}
 use Rattle.records.specs.declared.Call.{Call}
 use Rattle.records.specs.Records.{packetOf}

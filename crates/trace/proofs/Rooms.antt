@@ -15,7 +15,8 @@ use Rattle.mesh.specs.Steps.{same, rounded}
 use Rattle.mesh.specs.Weights.{inFlight}
 use Rattle.mesh.specs.Room.{roomAfterRound}
 use Rattle.mesh.specs.Refusals.{placeIn, roundRefusals}
-use Rattle.mesh.specs.Calls.{Left, many}
+use Rattle.mesh.specs.Mesh.{many}
+use Rattle.mesh.specs.Calls.{Left}
 use Rattle.buffer.specs.Leaving.{injectLeft, roundLeft, roundRoom, linkLeft, registersLeft}
 use Rattle.records.specs.declared.Call.{Call}
 use Rattle.records.specs.declared.Record.{Record}

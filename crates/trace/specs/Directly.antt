@@ -27,7 +27,7 @@ pub data Made (t : Tables) (before log : List ℕ) (c : Call) : Added → List �
   changed : {number : ℕ} {after : List ℕ} → c .kind ≡ 3 → number ≡ linkLeft before (c .chip) (c .link) (eqb (c .up) 1) .refusal
       → Leaves before after (linkLeft before (c .chip) (c .link) (eqb (c .up) 1))
       → Made t before log c (record { refusal = number; added = 0; place = 0 }) after log
-  handedOver : {read : RegistersRead} {after : List ℕ} → c .kind ≡ 4 → read ≡ registersRead (holdsMesh before) (meshOf before) (c .chip)
+  registersHandedOver : {read : RegistersRead} {after : List ℕ} → c .kind ≡ 4 → read ≡ registersRead (holdsMesh before) (meshOf before) (c .chip)
       → Leaves before after (registersLeft before (c .chip))
       → Made t before log c (record { refusal = read .refusal; added = 0; place = 0 }) after log
 

@@ -3,7 +3,7 @@ use Prim.Native.Nat.{ℕ, zero, suc, _+_, _*_, _/_, _%_, _<_}
 use mathlib.Core.Path.{_≡_, refl, sym, ap, _∙_}
 use mathlib.Core.List.{List, [], _∷_}
 use native.Mathlib.Omega.{arith}
-use native.Mathlib.Nat.{mod-lt, div-lt-iff-lt-mul, div-add-mod'}
+use native.Mathlib.Nat.{div-lt-iff-lt-mul, div-add-mod'}
 use lib.IntN.{ℤ, pos}
 use Rattle.links.specs.Across.{across, opposite}
 use Rattle.tree.specs.Way.{turned}

@@ -1,11 +1,11 @@
 -- The processors that a list of targets names on a chip: those of the one target that names it, where no chip is named twice.
 use Prim.Native.Nat.{ℕ}
-use mathlib.Core.Path.{_≡_, refl, sym, ap, subst, _∙_}
+use mathlib.Core.Path.{_≡_, refl, sym, ap, _∙_}
 use mathlib.Core.Bool.{Bool, true, false, cond, _||_, true≢false}
 use mathlib.Core.List.{List, [], _∷_}
 use borrow.Author.Tests.{eq-eqb, ne-eqb}
 use lib.Bits.{bitOr, or-zero-l}
-use lib.Dec.{T, eqb}
+use lib.Dec.{eqb}
 use Rattle.lists.proofs.Bools.{neither}
 use Rattle.lists.specs.Lists.{All}
 use Rattle.tree.specs.Rooted.{processorsOn}

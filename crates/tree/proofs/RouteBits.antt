@@ -4,10 +4,10 @@ use mathlib.Core.Path.{_≡_, refl, sym, ap, subst, _∙_}
 use mathlib.Core.Logic.{_⊎_, inl, inr}
 use mathlib.Core.Bool.{Bool, true, false, _||_, or-true, or-false}
 use native.Mathlib.Omega.{arith}
-use native.Mathlib.Nat.{mod-lt, div-eq-of-lt}
+use native.Mathlib.Nat.{div-eq-of-lt}
 use borrow.Author.Tests.{eqb-true, eq-eqb}
-use lib.Bits.{bitOr, or-shr, or-mod, or-zero-r}
-use lib.Dec.{eqb, lit<, T}
+use lib.Bits.{bitOr, or-shr, or-zero-r}
+use lib.Dec.{eqb, T}
 use lib.Pow.{pow-lt}
 use Rattle.packet.proofs.Small.{every₂, every, at₂}
 use Rattle.steps.specs.Links.{has}

@@ -11,31 +11,31 @@ use Rattle.buffer.proofs.aside.copy_aside.Tie as tie
 use Rattle.links.specs.Offsets.{placesAt, placeLong, depth, asidePlacesAt, linkLong}
 
 abbrev Inv-loop : tie.InvT-loop
-Inv-loop link₀ words i₀ link i = (i ≤ words) × ((length link ≡ linkLong) × (link ≡ paste link₀ asidePlacesAt (drop 2 link₀) i))
+Inv-loop words₀ count i₀ words i = (i ≤ count) × ((length words ≡ linkLong) × (words ≡ paste words₀ asidePlacesAt (drop 2 words₀) i))
 
 abbrev μ-loop : tie.MeasureT-loop
-μ-loop link₀ words i₀ link i = words - i
+μ-loop words₀ count i₀ words i = count - i
 
 loop-holds : tie.Need-loop-holds Inv-loop μ-loop
-loop-holds c = (omega arith, (c .pre .0, paste-zero (c .args .link-words .now) asidePlacesAt (drop 2 (c .args .link-words .now))))
+loop-holds c = (omega arith, (c .pre .0, paste-zero (c .args .words .now) asidePlacesAt (drop 2 (c .args .words .now))))
 
-add-link-words : tie.Need-add-link-words Inv-loop μ-loop
-add-link-words c = omega (arith, c .before .before .pre .1)
+add-words : tie.Need-add-words Inv-loop μ-loop
+add-words c = omega (arith, c .before .before .pre .1)
 
-mul-link-words : tie.Need-mul-link-words Inv-loop μ-loop
-mul-link-words c = omega (arith, c .before .before .pre .1)
+mul-words : tie.Need-mul-words Inv-loop μ-loop
+mul-words c = omega (arith, c .before .before .pre .1)
 
-slice-read-link-words : tie.Need-slice-read-link-words Inv-loop μ-loop
-slice-read-link-words c = omega (arith, c .before .before .before .pre .1)
+slice-read-words : tie.Need-slice-read-words Inv-loop μ-loop
+slice-read-words c = omega (arith, c .before .before .before .pre .1)
 
-add-link-words-2 : tie.Need-add-link-words-2 Inv-loop μ-loop
-add-link-words-2 c = omega (arith, c .before .before .before .pre .1)
+add-words-2 : tie.Need-add-words-2 Inv-loop μ-loop
+add-words-2 c = omega (arith, c .before .before .before .pre .1)
 
-mul-link-words-2 : tie.Need-mul-link-words-2 Inv-loop μ-loop
-mul-link-words-2 c = omega (arith, c .before .before .before .pre .1)
+mul-words-2 : tie.Need-mul-words-2 Inv-loop μ-loop
+mul-words-2 c = omega (arith, c .before .before .before .pre .1)
 
-slice-write-link-words : tie.Need-slice-write-link-words Inv-loop μ-loop
-slice-write-link-words c = omega (arith, c .before .before .before .pre .1)
+slice-write-words : tie.Need-slice-write-words Inv-loop μ-loop
+slice-write-words c = omega (arith, c .before .before .before .pre .1)
 
 add-i : tie.Need-add-i Inv-loop μ-loop
 add-i c = omega arith
@@ -46,10 +46,10 @@ loop-less c = omega arith
 loop-again : tie.Need-loop-again Inv-loop μ-loop
 loop-again c =
     let at = c .before .before .loop in
-    let l = c .before .before .before .args .link-words .now in
+    let l = c .before .before .before .args .words .now in
     let long = c .before .before .before .pre .0 in
     let few : at .i ≤ depth * placeLong = omega (arith, c .before .before .before .pre .1) in
-    let read : getD (at .link-words) (2 + at .i) 0 ≡ getD (drop placesAt l) (at .i) 0 =
+    let read : getD (at .words) (2 + at .i) 0 ≡ getD (drop placesAt l) (at .i) 0 =
     ap (λ (w : List ℕ). getD w (2 + at .i) 0) (at .inv .1 .1) ∙ copied-before l (at .i) long few (2 + at .i) (omega (arith, c .before .before .before .pre .1)) ∙ sym (getD-drop placesAt l (at .i) 0) in (
       omega arith,
       (
@@ -63,7 +63,7 @@ same-length : tie.Need-same-length Inv-loop μ-loop
 same-length c = c .before .loop .inv .1 .0 ∙ sym (c .before .before .pre .0)
 
 returns : tie.Need-returns Inv-loop μ-loop
-returns c = let e : c .before .loop .i ≡ c .before .before .args .words = omega arith in rw e at (c .before .loop .inv .1 .1)
+returns c = let e : c .before .loop .i ≡ c .before .before .args .count = omega arith in rw e at (c .before .loop .inv .1 .1)
 
 pub copy-aside-spec : {M : Type 1} → statement M
 copy-aside-spec =
@@ -72,12 +72,12 @@ copy-aside-spec =
     Inv-loop
     μ-loop
     loop-holds
-    add-link-words
-    mul-link-words
-    slice-read-link-words
-    add-link-words-2
-    mul-link-words-2
-    slice-write-link-words
+    add-words
+    mul-words
+    slice-read-words
+    add-words-2
+    mul-words-2
+    slice-write-words
     add-i
     loop-less
     loop-again

@@ -4,7 +4,7 @@ use mathlib.Core.Path.{_≡_}
 use Prim.Native.Nat.{_+_, _-_, _*_, _≤_}
 use native.Mathlib.Nat.{add-sub-cancel-left}
 use native.Mathlib.Omega.{arith}
-use Rattle.buffer.specs.Passing.{chipWords}
+use Rattle.buffer.specs.OnePass.{chipWords}
 use Rattle.buffer.specs.Held.{chipFlight}
 use Rattle.buffer.proofs.HoldsMesh.{Chips, chips-held, few-held}
 use Rattle.buffer.proofs.Flights.{Summed, summed-first, summed-next, summed-last}

@@ -1,7 +1,7 @@
 use native.Mathlib.Omega.{arith}
 use native.Mathlib.Nat.{add-sub-cancel-left}
 use Prim.Native.Nat.{_*_}
-use Rattle.buffer.proofs.LoggedPasses as goings
+use Rattle.buffer.proofs.LoggedPasses as logged
 use borrow.Author.Needs.{needs}
 use Rattle.buffer.proofs.logged_pass.pass_found.Statement.{statement}
 use Rattle.buffer.proofs.logged_pass.pass_found.Tie as tie
@@ -40,7 +40,7 @@ returns : tie.Need-returns
 returns c =
     let a = c .before .before .before .before .before .before .before .before .before .before .before .before .before .before .before .args in
     let found = c .before .before .before .before .before .before .before .before .before .grouped-row in
-    goings.passed-route _ (a .rows .now) (a .codes .now) (a .fixed) _ _ _ _ _ _ _ (goings.row-found (a .rows .now) (a .p .word) (found .result) (found .ensures .0) (c .before .before .before .before .before .before .before .before .if1 .taken) _ (add-sub-cancel-left (found .result * 3) 3)) (c .before .before .before .before .pass-one .ensures)
+    logged.passed-route _ (a .rows .now) (a .codes .now) (a .fixed) _ _ _ _ _ _ _ (logged.row-found (a .rows .now) (a .p .word) (found .result) (found .ensures .0) (c .before .before .before .before .before .before .before .before .if1 .taken) _ (add-sub-cancel-left (found .result * 3) 3)) (c .before .before .before .before .pass-one .ensures)
 
 slice-aggregate-pass-one : tie.Need-slice-aggregate-pass-one
 slice-aggregate-pass-one c = search needs
@@ -58,7 +58,7 @@ returns-2 : tie.Need-returns-2
 returns-2 c =
     let a = c .before .before .before .before .before .before .before .before .before .before .before .before .before .before .before .args in
     let found = c .before .before .before .before .before .before .before .before .before .grouped-row in
-    goings.passed-route _ (a .rows .now) (a .codes .now) (a .fixed) _ _ _ _ _ _ _ (goings.none-found (a .rows .now) (a .p .word) (found .result) (found .ensures .0) (omega arith)) (c .before .before .before .before .pass-one2 .ensures)
+    logged.passed-route _ (a .rows .now) (a .codes .now) (a .fixed) _ _ _ _ _ _ _ (logged.none-found (a .rows .now) (a .p .word) (found .result) (found .ensures .0) (omega arith)) (c .before .before .before .before .pass-one2 .ensures)
 
 pub pass-found-spec : {M : Type 1} → statement M
 pass-found-spec =

@@ -1,5 +1,5 @@
 use borrow.Author.Needs.{needs}
-use mathlib.Core.Path.{refl, _∙_, sym, ap}
+use mathlib.Core.Path.{_∙_, sym, ap}
 use lib.ListN.{length}
 use Rattle.mesh.specs.Lending.{tablesOf}
 use Rattle.buffer.specs.declared.testing.Tested.{Tested}

@@ -8,15 +8,15 @@ use Rattle.buffer.specs.Layout.{chipsOf}
 use Rattle.buffer.specs.PassesInTurn.{arrival}
 use Rattle.buffer.proofs.FineSteps.{head-size}
 use Rattle.buffer.proofs.Headers.{head-range}
-use Rattle.buffer.proofs.LoggedPasses as goings
+use Rattle.buffer.proofs.LoggedPasses as logged
 use borrow.Author.Needs.{needs}
 use Rattle.buffer.proofs.moving.pass_there.Statement.{statement}
 use Rattle.buffer.proofs.moving.pass_there.Tie as tie
 
 -- the chip's tables, cut out of all that is lent
-cut-here : (s : tie.Start) → goings.Cuts (tablesOf (s .args .rows .now) (s .args .starts .now) (s .args .codes .now) (s .args .fixed .now) 0) (chipsOf (s .args .mesh .now)) (s .args .chip)
+cut-here : (s : tie.Start) → logged.Cuts (tablesOf (s .args .rows .now) (s .args .starts .now) (s .args .codes .now) (s .args .fixed .now) 0) (chipsOf (s .args .mesh .now)) (s .args .chip)
 cut-here s =
-    goings.cuts (tablesOf (s .args .rows .now) (s .args .starts .now) (s .args .codes .now) (s .args .fixed .now) 0) (chipsOf (s .args .mesh .now)) (s .args .chip) (s .pre .1) (goings.arrives _ _ _ _ (s .pre .0) .there)
+    logged.cuts (tablesOf (s .args .rows .now) (s .args .starts .now) (s .args .codes .now) (s .args .fixed .now) 0) (chipsOf (s .args .mesh .now)) (s .args .chip) (s .pre .1) (logged.arrives _ _ _ _ (s .pre .0) .there)
     (head-range (s .args .mesh .now) (s .pre .0 .head) .few)
 
 slice-read-chips : tie.Need-slice-read-chips
@@ -94,9 +94,9 @@ pass-one-requires : tie.Need-pass-one-requires
 pass-one-requires c κs =
     let a = c .before .before .before .before .before .before .before .before .before .before .before .before .before .before .before .before .before .before .args in
     let pre = c .before .before .before .before .before .before .before .before .before .before .before .before .before .before .before .before .before .before .pre in
-    let below = goings.arrives _ _ _ _ (pre .0) .there in
+    let below = logged.arrives _ _ _ _ (pre .0) .there in
     let cut = cut-here (c .before .before .before .before .before .before .before .before .before .before .before .before .before .before .before .before .before .before) in
-    (pre .0, goings.codes-enough (tablesOf (a .rows .now) (a .starts .now) (a .codes .now) (a .fixed .now) 0) (chipsOf (a .mesh .now)) (a .chip) (pre .1) below _ (c .before .before .before .before .before .before .before .before .before .chips .ensures))
+    (pre .0, logged.codes-enough (tablesOf (a .rows .now) (a .starts .now) (a .codes .now) (a .fixed .now) 0) (chipsOf (a .mesh .now)) (a .chip) (pre .1) below _ (c .before .before .before .before .before .before .before .before .before .chips .ensures))
 
 same-length : tie.Need-same-length
 same-length c = search needs
@@ -109,9 +109,9 @@ unfolding All
 returns c =
     let a = c .before .before .before .before .before .before .before .before .before .before .before .before .before .before .before .before .before .before .before .before .before .before .before .args in
     let pre = c .before .before .before .before .before .before .before .before .before .before .before .before .before .before .before .before .before .before .before .before .before .before .before .pre in
-    let below = goings.arrives _ _ _ _ (pre .0) .there in
+    let below = logged.arrives _ _ _ _ (pre .0) .there in
     let cut = cut-here (c .before .before .before .before .before .before .before .before .before .before .before .before .before .before .before .before .before .before .before .before .before .before .before) in
-    goings.passed-chip (tablesOf (a .rows .now) (a .starts .now) (a .codes .now) (a .fixed .now) 0) _ (a .chip) (arrival (a .chip) 7 (a .p) ∷ []) (a .mesh .now) (a .log .now) 0 _ _ _ (refl, tt) (goings.tables-places (tablesOf (a .rows .now) (a .starts .now) (a .codes .now) (a .fixed .now) 0) (chipsOf (a .mesh .now)) (a .chip) (pre .1) below _ _ _ (c .before .before .before .before .before .before .before .before .before .before .before .before .row-place .ensures) (c .before .before .before .before .before .before .before .before .before .before .row-place2 .ensures) (c .before .before .before .before .before .before .before .before .before .before .before .before .before .before .chips .ensures)) (c .before .before .before .before .pass-one .ensures)
+    logged.passed-chip (tablesOf (a .rows .now) (a .starts .now) (a .codes .now) (a .fixed .now) 0) _ (a .chip) (arrival (a .chip) 7 (a .p) ∷ []) (a .mesh .now) (a .log .now) 0 _ _ _ (refl, tt) (logged.tables-places (tablesOf (a .rows .now) (a .starts .now) (a .codes .now) (a .fixed .now) 0) (chipsOf (a .mesh .now)) (a .chip) (pre .1) below _ _ _ (c .before .before .before .before .before .before .before .before .before .before .before .before .row-place .ensures) (c .before .before .before .before .before .before .before .before .before .before .row-place2 .ensures) (c .before .before .before .before .before .before .before .before .before .before .before .before .before .before .chips .ensures)) (c .before .before .before .before .pass-one .ensures)
 
 pub pass-there-spec : {M : Type 1} → statement M
 pass-there-spec =

@@ -6,7 +6,7 @@ use lib.ListN.{getD}
 use Rattle.buffer.proofs.StepAt.{checked-at, chip-long, mesh-step}
 use Rattle.steps.proofs.Sources.{source-near}
 use Rattle.buffer.proofs.Takes.{takes}
-use Rattle.buffer.specs.Passing.{chipWords, settingIn}
+use Rattle.buffer.specs.OnePass.{chipWords, settingIn}
 use Rattle.buffer.specs.Layout.{chipIn}
 use Rattle.steps.specs.Deciding.{Checked, outcomeOf}
 use Rattle.buffer.proofs.one_pass.pass_at.Statement.{statement}

@@ -9,7 +9,7 @@ use Rattle.buffer.specs.Layout.{chipsOf}
 use Rattle.buffer.specs.PassesInTurn.{asideFrom}
 use Rattle.buffer.proofs.FineSteps.{head-size}
 use Rattle.buffer.proofs.Headers.{head-range}
-use Rattle.buffer.proofs.LoggedPasses as goings
+use Rattle.buffer.proofs.LoggedPasses as logged
 use Rattle.buffer.proofs.Arrivals.{at-the-chip}
 use Rattle.buffer.proofs.GroupsBuilt.{chip-there, fits-cut, room-cut}
 use borrow.Author.Needs.{needs}
@@ -17,9 +17,9 @@ use Rattle.buffer.proofs.round_passes.pass_chip.Statement.{statement}
 use Rattle.buffer.proofs.round_passes.pass_chip.Tie as tie
 
 -- the chip's tables, cut out of all that is lent
-cut-here : (s : tie.Start) → goings.Cuts (tablesOf (s .args .rows .now) (s .args .starts .now) (s .args .codes .now) (s .args .fixed .now) 0) (chipsOf (s .args .mesh .now)) (s .args .chip)
+cut-here : (s : tie.Start) → logged.Cuts (tablesOf (s .args .rows .now) (s .args .starts .now) (s .args .codes .now) (s .args .fixed .now) 0) (chipsOf (s .args .mesh .now)) (s .args .chip)
 cut-here s =
-    goings.cuts (tablesOf (s .args .rows .now) (s .args .starts .now) (s .args .codes .now) (s .args .fixed .now) 0) (chipsOf (s .args .mesh .now)) (s .args .chip) (s .pre .0 .1 .1) (s .pre .0 .0)
+    logged.cuts (tablesOf (s .args .rows .now) (s .args .starts .now) (s .args .codes .now) (s .args .fixed .now) 0) (chipsOf (s .args .mesh .now)) (s .args .chip) (s .pre .0 .1 .1) (s .pre .0 .0)
     (head-range (s .args .mesh .now) (s .pre .0 .1 .0 .due .head) .few)
 
 slice-read-chips : tie.Need-slice-read-chips
@@ -131,7 +131,7 @@ pass-links-requires c κs =
     let a = c .before .before .before .before .before .before .before .before .before .before .before .before .before .before .before .before .before .before .before .before .before .before .before .before .before .before .args in
     let pre = c .before .before .before .before .before .before .before .before .before .before .before .before .before .before .before .before .before .before .before .before .before .before .before .before .before .before .pre in
     let cut = cut-here (c .before .before .before .before .before .before .before .before .before .before .before .before .before .before .before .before .before .before .before .before .before .before .before .before .before .before) in
-    (pre .0 .0, (pre .0 .1 .0, (goings.codes-enough (tablesOf (a .rows .now) (a .starts .now) (a .codes .now) (a .fixed .now) 0) (chipsOf (a .mesh .now)) (a .chip) (pre .0 .1 .1) (pre .0 .0) _ (c .before .before .before .before .before .before .before .before .before .before .before .before .before .before .before .before .chips .ensures), c .before .before .before .before .before .before .before .before .group-chip .ensures .1 .0)))
+    (pre .0 .0, (pre .0 .1 .0, (logged.codes-enough (tablesOf (a .rows .now) (a .starts .now) (a .codes .now) (a .fixed .now) 0) (chipsOf (a .mesh .now)) (a .chip) (pre .0 .1 .1) (pre .0 .0) _ (c .before .before .before .before .before .before .before .before .before .before .before .before .before .before .before .before .chips .ensures), c .before .before .before .before .before .before .before .before .group-chip .ensures .1 .0)))
 
 same-length : tie.Need-same-length
 same-length c = search needs
@@ -146,8 +146,8 @@ returns : tie.Need-returns
 returns c =
     let a = c .before .before .before .before .before .before .before .before .before .before .before .before .before .before .before .before .before .before .before .before .before .before .before .before .before .before .before .before .before .before .before .args in
     let pre = c .before .before .before .before .before .before .before .before .before .before .before .before .before .before .before .before .before .before .before .before .before .before .before .before .before .before .before .before .before .before .before .pre in
-    let cut = goings.cuts (tablesOf (a .rows .now) (a .starts .now) (a .codes .now) (a .fixed .now) 0) (chipsOf (a .mesh .now)) (a .chip) (pre .0 .1 .1) (pre .0 .0) (head-range (a .mesh .now) (pre .0 .1 .0 .due .head) .few) in (
-      goings.passed-chip (tablesOf (a .rows .now) (a .starts .now) (a .codes .now) (a .fixed .now) 0) _ (a .chip) _ (a .mesh .now) (a .log .now) (a .n) _ _ _ (at-the-chip (a .mesh .now) (a .chip)) (goings.tables-places (tablesOf (a .rows .now) (a .starts .now) (a .codes .now) (a .fixed .now) 0) (chipsOf (a .mesh .now)) (a .chip) (pre .0 .1 .1) (pre .0 .0) _ _ _ (c .before .before .before .before .before .before .before .before .before .before .before .before .before .before .before .before .before .before .before .row-place .ensures) (c .before .before .before .before .before .before .before .before .before .before .before .before .before .before .before .before .before .row-place2 .ensures) (c .before .before .before .before .before .before .before .before .before .before .before .before .before .before .before .before .before .before .before .before .before .chips .ensures)) (c .before .before .before .before .pass-links .ensures),
+    let cut = logged.cuts (tablesOf (a .rows .now) (a .starts .now) (a .codes .now) (a .fixed .now) 0) (chipsOf (a .mesh .now)) (a .chip) (pre .0 .1 .1) (pre .0 .0) (head-range (a .mesh .now) (pre .0 .1 .0 .due .head) .few) in (
+      logged.passed-chip (tablesOf (a .rows .now) (a .starts .now) (a .codes .now) (a .fixed .now) 0) _ (a .chip) _ (a .mesh .now) (a .log .now) (a .n) _ _ _ (at-the-chip (a .mesh .now) (a .chip)) (logged.tables-places (tablesOf (a .rows .now) (a .starts .now) (a .codes .now) (a .fixed .now) 0) (chipsOf (a .mesh .now)) (a .chip) (pre .0 .1 .1) (pre .0 .0) _ _ _ (c .before .before .before .before .before .before .before .before .before .before .before .before .before .before .before .before .before .before .before .row-place .ensures) (c .before .before .before .before .before .before .before .before .before .before .before .before .before .before .before .before .before .row-place2 .ensures) (c .before .before .before .before .before .before .before .before .before .before .before .before .before .before .before .before .before .before .before .before .before .chips .ensures)) (c .before .before .before .before .pass-links .ensures),
       c .before .before .before .before .before .before .before .before .before .before .before .before .before .group-chip .ensures .0 ∙ room-cut (tablesOf (a .rows .now) (a .starts .now) (a .codes .now) (a .fixed .now) 0) (chipsOf (a .mesh .now)) (a .chip) _ _ cut (c .before .before .before .before .before .before .before .before .before .before .before .before .before .before .before .before .before .before .before .row-place .ensures) (c .before .before .before .before .before .before .before .before .before .before .before .before .before .before .before .before .before .row-place2 .ensures) (keysOf (asideFrom (a .mesh .now) (a .chip))) (a .room .now),
     )
 

@@ -1,7 +1,7 @@
 -- `testing::place_in` meets its contract: a place is at most one more than the chips or, where the starts are right and the rows few, than 1,024 rows a chip, so that it fits.
 use mathlib.Core.Path.{_≡_, _∙_}
 use mathlib.Core.Bool.{and-eq-true-iff}
-use Prim.Native.Nat.{ℕ, _+_, _/_}
+use Prim.Native.Nat.{_+_, _/_}
 use native.Mathlib.Omega.{arith}
 use borrow.Author.Tests.{eq-eqb, ne-eqb}
 use lib.ListN.{length}

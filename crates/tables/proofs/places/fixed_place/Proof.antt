@@ -1,5 +1,5 @@
 -- `places::fixed_place` meets its contract. The loop's invariant: no chip before c has a wrong route. The measure is what is left of the chips.
-use mathlib.Core.Path.{_≡_, sym, ap, _∙_}
+use mathlib.Core.Path.{_≡_, sym, _∙_}
 use mathlib.Core.Bool.{true, false}
 use Prim.Native.Nat.{ℕ, _-_, _≤_, _<_}
 use native.Mathlib.Omega.{arith}

@@ -1,7 +1,7 @@
 -- `places::route_place` meets its contract. The loop's invariant: no row before i has a route bit above 25. The measure is what is left of the rows.
 use mathlib.Core.Path.{_≡_, refl, sym, ap, _∙_}
 use mathlib.Core.Bool.{true, false}
-use Prim.Native.Nat.{ℕ, _/_, _%_, _*_, _+_, _-_, _<_, _≤_}
+use Prim.Native.Nat.{ℕ, _/_, _%_, _+_, _-_, _<_, _≤_}
 use native.Mathlib.Omega.{arith}
 use borrow.Author.Count.{below-more}
 use borrow.Author.Tests.{lt-ltb, le-ltb, eq-eqb, ne-eqb}

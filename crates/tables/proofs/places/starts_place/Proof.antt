@@ -1,9 +1,8 @@
 -- `places::starts_place` meets its contract. The loop's invariant: no start before p is below the one before it. The measure is what is left of the starts.
-use mathlib.Core.Path.{_≡_, sym, ap, _∙_}
-use Prim.Native.Nat.{ℕ, _+_, _-_, _≤_, _<_}
+use mathlib.Core.Path.{sym, _∙_}
+use Prim.Native.Nat.{_+_, _-_, _≤_}
 use native.Mathlib.Omega.{arith}
 use borrow.Author.Needs.{needs}
-use lib.ListN.{length, getD}
 use Rattle.tables.proofs.StartsFound.{Unfallen, one-more, long-wrong, first-wrong, falls, last-wrong, none-wrong}
 use Rattle.tables.proofs.places.starts_place.Statement.{statement}
 use Rattle.tables.proofs.places.starts_place.Tie as tie
