@@ -7,7 +7,7 @@ use sheet::board::{LOG, x_of, y_of};
 use std::num::wrapping_add_u64;
 
 // A log record.
-#[derive(Drop)]
+#[derive(Clone, Copy)]
 struct Delivery {
     chip: u32,
     processors: u32,

@@ -1,4 +1,6 @@
 // The lines of FILE, or the records of a trace, made into calls on the mesh, each told as it is made.
+#![tactic(auto)]
+
 mod calls;
 mod deliveries;
 pub mod flooding;

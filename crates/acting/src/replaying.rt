@@ -8,7 +8,7 @@ use script::cells::between;
 use script::pieces::{FAILED, PIECE};
 use sheet::board::{LOG, WORDS};
 
-#[derive(Drop)]
+#[derive(Clone, Copy)]
 struct Replay {
     records: Records,
     course: Course,

@@ -11,7 +11,7 @@ use script::statements::{Statement, read_statement};
 use script::words::before_comment;
 use sheet::board::{CODES, LOG, WORDS, chip_at};
 
-#[derive(Drop)]
+#[derive(Clone, Copy)]
 struct Run {
     lines: Lines,
     course: Course,

@@ -40,7 +40,7 @@ const DELIVERED: u32 = 6;
 const DROPPED: u32 = 7;
 
 // What all chips together counted.
-#[derive(Drop)]
+#[derive(Clone, Copy)]
 pub struct Totals {
     pub sent: u32,
     pub delivered: u32,

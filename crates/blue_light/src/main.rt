@@ -1,5 +1,7 @@
 // The story of one link's light. A packet goes straight; the link is taken down, and the next packet goes round it and
 // arrives all the same; the link comes up, and the one after goes straight again. Every number comes from the mesh's calls.
+#![tactic(auto)]
+
 mod board;
 mod telling;
 

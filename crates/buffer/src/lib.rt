@@ -1,4 +1,6 @@
 // A mesh of routers in a lent buffer of 32-bit words: a header, then a block for each chip. docs/LAYOUT.md has the layout.
+#![tactic(auto)]
+
 mod aside;
 pub mod changing;
 mod chip;

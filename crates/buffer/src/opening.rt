@@ -11,7 +11,7 @@ use tables::size::{chips, size_fine};
 
 // What asking for the size answers.
 #[repr(C)]
-#[derive(Drop)]
+#[derive(Clone, Copy)]
 pub struct SizeRead {
     pub refusal: u32,
     pub words: u32,

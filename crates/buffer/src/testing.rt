@@ -14,7 +14,7 @@ use tables::places::{crowd_place, fixed_place, route_place, starts_place};
 use tables::size::chips;
 
 // Whether the buffer holds a mesh, and what the tables are refused for, or 0, with the place.
-#[derive(Drop)]
+#[derive(Clone, Copy)]
 pub struct Tested {
     pub holds: bool,
     pub tables: u32,

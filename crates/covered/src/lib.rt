@@ -1,4 +1,6 @@
 // Which rows of a table decide nothing: those that match no key, and those that an earlier row covers.
+#![tactic(auto)]
+
 ghost use Rattle.std.specs.Prelude.{◌≡◌};
 ghost use Rattle.tables.specs.Rows.{used};
 ghost use Rattle.covered.specs.Covering.{covers};

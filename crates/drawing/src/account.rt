@@ -17,7 +17,7 @@ pub const SWALLOWED: u32 = 8;
 const MISSED: u32 = 9;
 
 // Units over all chips.
-#[derive(Drop)]
+#[derive(Clone, Copy)]
 pub struct Units {
     pub delivered: u64,
     pub dropped: u64,

@@ -1,4 +1,6 @@
 // A table with fewer rows that gives every key the same route.
+#![tactic(auto)]
+
 pub mod call;
 mod hand;
 mod joining;
@@ -6,7 +8,7 @@ mod taking_out;
 
 // What the call answers: the refusal, how many rows are left, how many numbers are listed, and the row for refusal 17.
 #[repr(C)]
-#[derive(Drop)]
+#[derive(Clone, Copy)]
 pub struct Fewer {
     pub refusal: u32,
     pub rows: u32,
@@ -15,7 +17,7 @@ pub struct Fewer {
 }
 
 // A row in hand, with the number that it first had.
-#[derive(Drop)]
+#[derive(Clone, Copy)]
 struct Held {
     key: u32,
     mask: u32,
@@ -24,7 +26,7 @@ struct Held {
 }
 
 // A walk down the rows in hand: of `count` rows it has come to row `next` and kept the first `kept`.
-#[derive(Drop)]
+#[derive(Clone, Copy)]
 struct Walk {
     kept: usize,
     next: usize,
@@ -32,7 +34,7 @@ struct Walk {
 }
 
 // The rows in hand, and a place above which no two neighbours make a pair.
-#[derive(Drop)]
+#[derive(Clone, Copy)]
 struct Pairs {
     rows: usize,
     at: usize,

@@ -1,4 +1,6 @@
 // What a chip keeps of its passes: the error registers and the ten counters. The units that the account sums are defined beside them.
+#![tactic(auto)]
+
 pub mod counting;
 pub mod keeping;
 pub mod lent;
@@ -6,7 +8,7 @@ pub mod lent;
 // The first dropped unit since the registers were last read, where it came in and in which phase, how many were dropped since then, stopping at 65,535, and whether that is
 // more than one. Empty ones are all zeros.
 #[repr(C)]
-#[derive(Drop)]
+#[derive(Clone, Copy)]
 pub struct Registers {
     pub control: u32,
     pub word: u32,
@@ -21,7 +23,7 @@ pub struct Registers {
 
 // Passes, parity, age, length, bad local, sent, delivered, dropped, swallowed, local misses.
 #[repr(C)]
-#[derive(Drop)]
+#[derive(Clone, Copy)]
 pub struct Counters {
     pub count: [u32; 10],
 }

@@ -1,4 +1,6 @@
 // Runs the known passes that are run and not proved, through the public calls, and writes a line for each.
+#![tactic(auto)]
+
 mod one_router;
 mod two_chips;
 

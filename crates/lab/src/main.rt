@@ -1,5 +1,7 @@
 // A lab's own tables, tried on the model: `lab run FILE` makes the calls of FILE and tells what happened. The last line of
 // standard output is the status: 0 all was accepted, 1 a call was refused, 2 a file could not be read or understood.
+#![tactic(auto)]
+
 mod commands;
 mod playing;
 mod showing;

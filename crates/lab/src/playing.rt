@@ -273,7 +273,7 @@ fn chip_asked(b: Board) -> u32 {
 }
 
 // The packet that is asked for: a spike of a key, or the fixed-route packet of key 0.
-#[derive(Drop)]
+#[derive(Clone, Copy)]
 struct Asked {
     good: bool,
     packet: Packet,

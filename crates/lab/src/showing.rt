@@ -12,7 +12,7 @@ use script::say;
 // As many rounds as a line takes are shown by one line.
 const MOST: u32 = 4294967295;
 
-#[derive(Drop)]
+#[derive(Clone, Copy)]
 pub struct Show {
     pub records: Records,
     // Rounds read and not yet shown; what a record is refused with.

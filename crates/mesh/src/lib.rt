@@ -1,10 +1,12 @@
 // What a mesh is, what happens in it and what its calls answer: definitions and their laws. There is no code here but the structs of the answers.
+#![tactic(auto)]
+
 use kept::Registers;
 use packet::Packet;
 
 // What an injection and a round answer; the place is that of a refusal from 15 to 18.
 #[repr(C)]
-#[derive(Drop)]
+#[derive(Clone, Copy)]
 pub struct Added {
     pub refusal: u32,
     pub added: u32,
@@ -13,7 +15,7 @@ pub struct Added {
 
 // What reading a chip's registers answers.
 #[repr(C)]
-#[derive(Drop)]
+#[derive(Clone, Copy)]
 pub struct RegistersRead {
     pub refusal: u32,
     pub registers: Registers,
@@ -21,7 +23,7 @@ pub struct RegistersRead {
 
 // What reading one of a chip's counters answers.
 #[repr(C)]
-#[derive(Drop)]
+#[derive(Clone, Copy)]
 pub struct CountRead {
     pub refusal: u32,
     pub count: u32,
@@ -29,7 +31,7 @@ pub struct CountRead {
 
 // What looking at a mesh answers.
 #[repr(C)]
-#[derive(Drop)]
+#[derive(Clone, Copy)]
 pub struct MeshRead {
     pub refusal: u32,
     pub width: u32,
@@ -43,7 +45,7 @@ pub struct MeshRead {
 
 // What looking at a directed link answers.
 #[repr(C)]
-#[derive(Drop)]
+#[derive(Clone, Copy)]
 pub struct LinkRead {
     pub refusal: u32,
     pub up: u32,
@@ -53,7 +55,7 @@ pub struct LinkRead {
 
 // What looking at a packet in flight answers.
 #[repr(C)]
-#[derive(Drop)]
+#[derive(Clone, Copy)]
 pub struct FlightRead {
     pub refusal: u32,
     pub packet: Packet,

@@ -1,5 +1,7 @@
 // The packet: taken from bytes and given back as bytes, read into fields and packed from them, its parity, and a new
 // mark or stamp.
+#![tactic(auto)]
+
 pub mod bytes;
 pub mod control;
 pub mod parity;
@@ -7,7 +9,7 @@ pub mod reading;
 
 // A packet's bytes: control, whether nine bytes are there (1) or five (0), word, and payload, which is 0 for five bytes.
 #[repr(C)]
-#[derive(Drop)]
+#[derive(Clone, Copy)]
 pub struct Packet {
     pub control: u32,
     pub nine: u32,
@@ -17,7 +19,7 @@ pub struct Packet {
 
 // A number for every field of every type, 0 where the type lacks it.
 #[repr(C)]
-#[derive(Drop)]
+#[derive(Clone, Copy)]
 pub struct Fields {
     pub kind: u32,
     pub mark: u32,
@@ -36,7 +38,7 @@ pub struct Fields {
 
 // What taking a packet from bytes answers.
 #[repr(C)]
-#[derive(Drop)]
+#[derive(Clone, Copy)]
 pub struct Taken {
     pub refusal: u32,
     pub packet: Packet,
@@ -44,7 +46,7 @@ pub struct Taken {
 
 // What reading answers.
 #[repr(C)]
-#[derive(Drop)]
+#[derive(Clone, Copy)]
 pub struct FieldsRead {
     pub refusal: u32,
     pub fields: Fields,
@@ -52,7 +54,7 @@ pub struct FieldsRead {
 
 // What packing answers: bytes past the length are 0.
 #[repr(C)]
-#[derive(Drop)]
+#[derive(Clone, Copy)]
 pub struct Packed {
     pub refusal: u32,
     pub length: u32,

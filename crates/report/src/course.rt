@@ -6,7 +6,7 @@ use script::say;
 use sheet::board::Board;
 use std::num::wrapping_add_u64;
 
-#[derive(Drop)]
+#[derive(Clone, Copy)]
 pub struct Course {
     pub board: Board,
     // The line of FILE that makes the running call, or the first byte of its record where a trace is replayed.

@@ -1,4 +1,6 @@
 // What the lab's program tells in words, how far its run has come, and the records of a trace.
+#![tactic(auto)]
+
 pub mod course;
 mod placing;
 pub mod records;

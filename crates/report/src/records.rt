@@ -9,7 +9,7 @@ pub const RECORD: usize = 65537;
 // What reading a record came to, beside what reading a byte can come to.
 pub const RECORD_THERE: u32 = 3;
 
-#[derive(Drop)]
+#[derive(Clone, Copy)]
 pub struct Records {
     pub bytes: Bytes,
     // Where the record starts, how many bytes of it are there, and what reading came to.

@@ -1,4 +1,6 @@
 // The one-router call: it takes anything, refuses or makes one pass, and shows all of it.
+#![tactic(auto)]
+
 pub mod call;
 mod showing;
 
@@ -7,7 +9,7 @@ use packet::Packet;
 
 // What the one-router call answers.
 #[repr(C)]
-#[derive(Drop)]
+#[derive(Clone, Copy)]
 pub struct Pass {
     pub refusal: u32,
     pub errors: u32,

@@ -1,4 +1,6 @@
 // A lab's file: its lines, the words of a line, and the statement that a line makes.
+#![tactic(auto)]
+
 pub mod cells;
 pub mod complaints;
 pub mod lines;

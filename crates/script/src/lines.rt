@@ -8,7 +8,7 @@ pub const LINE: usize = 4096;
 // What reading a line came to, beside what reading a byte can come to.
 pub const LINE_THERE: u32 = 3;
 
-#[derive(Drop)]
+#[derive(Clone, Copy)]
 pub struct Lines {
     pub bytes: Bytes,
     // The line's number, how many bytes of it are kept, and whether it has more.

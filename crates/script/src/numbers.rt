@@ -4,7 +4,7 @@ ghost use Rattle.script.specs.Numbers.{digit_of, digits_from, fitting_of, is_hex
 
 use super::cells::{byte_at, wide};
 
-#[derive(Drop)]
+#[derive(Clone, Copy)]
 pub struct Value {
     pub good: bool,
     pub value: u32,

@@ -6,7 +6,7 @@ use super::words::{same, word};
 use std::num::wrapping_add_usize;
 
 // What a word stands for, or, where `wanted` is not 0, what was wanted at word `at`.
-#[derive(Drop)]
+#[derive(Clone, Copy)]
 pub struct Part {
     pub value: u32,
     pub wanted: u32,

@@ -10,7 +10,7 @@ pub const OVER: u32 = 1;
 
 pub const FAILED: u32 = 2;
 
-#[derive(Drop)]
+#[derive(Clone, Copy)]
 pub struct Bytes {
     pub fd: i32,
     pub state: u32,

@@ -15,7 +15,7 @@ use std::num::wrapping_add_usize;
 const FIXED: u32 = 192;
 
 // A payload that may be left out, and where it was looked for.
-#[derive(Drop)]
+#[derive(Clone, Copy)]
 struct Payload {
     nine: u32,
     value: u32,

@@ -9,7 +9,7 @@ use super::{complaints as wanted, sendings};
 use packet::Packet;
 
 // A chip is its x and y, or BY_NUMBER and its number.
-#[derive(Drop)]
+#[derive(Clone, Copy)]
 pub enum Statement {
     Nothing,
     Mesh {

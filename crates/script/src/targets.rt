@@ -10,7 +10,7 @@ use std::num::{wrapping_add_usize, wrapping_sub_usize};
 const MOST: usize = 2048;
 
 // A target, or, where `wanted` is not 0, what was wanted at word `at`.
-#[derive(Drop)]
+#[derive(Clone, Copy)]
 pub struct Target {
     // The chip, as a statement has it, and its processors as bits 0 to 19.
     pub x: u32,

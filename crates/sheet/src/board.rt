@@ -30,7 +30,7 @@ pub const NO_CHIP: u32 = 65535;
 const LEAST_BAD: u32 = 26;
 
 // Width 0 stands for no mesh.
-#[derive(Drop)]
+#[derive(Clone, Copy)]
 pub struct Board {
     pub width: u32,
     pub height: u32,

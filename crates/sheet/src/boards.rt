@@ -15,7 +15,7 @@ pub const BAD_ROUTE: u32 = 3;
 
 pub const TOO_MANY: u32 = 4;
 
-#[derive(Drop)]
+#[derive(Clone, Copy)]
 pub struct Rows {
     pub bytes: Bytes,
     pub chip: u32,

@@ -17,7 +17,7 @@ use std::num::{wrapping_add_u64, wrapping_add_usize};
 
 // The status: 2 for a file that cannot be read or understood, 1 for tables that the model refuses, 0 for all others. How many lines were
 // told, and what else there is to look at: the mesh, and whether the file floods.
-#[derive(Drop)]
+#[derive(Clone, Copy)]
 pub struct Findings {
     pub status: u32,
     pub odd: u64,

@@ -1,4 +1,6 @@
 // What FILE holds beside its calls: the mesh, and the tables of its chips.
+#![tactic(auto)]
+
 pub mod board;
 mod boards;
 pub mod checking;

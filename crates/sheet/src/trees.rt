@@ -25,7 +25,7 @@ const NOT_THERE: u32 = 2;
 
 const AGAIN: u32 = 3;
 
-#[derive(Drop)]
+#[derive(Clone, Copy)]
 struct Targets {
     // How many words of targets there are, the target that was read last, and its chip.
     count: usize,

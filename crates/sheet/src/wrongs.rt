@@ -10,7 +10,7 @@ use std::num::{wrapping_add_u32, wrapping_sub_u32};
 // No more lines are told to be wrong.
 pub const MOST: u32 = 10;
 
-#[derive(Drop)]
+#[derive(Clone, Copy)]
 pub struct Reading {
     pub lines: Lines,
     pub board: Board,

@@ -1,4 +1,6 @@
 // The steps of one pass: errors and stamping, the wanted set, the second leg, detours and drops.
+#![tactic(auto)]
+
 pub mod deciding;
 mod detour;
 pub mod errors;
@@ -7,7 +9,7 @@ pub mod wants;
 use packet::Packet;
 
 // What holds of a chip and its surroundings during a pass.
-#[derive(Drop)]
+#[derive(Clone, Copy)]
 pub struct Setting {
     pub width: u32,
     pub height: u32,
@@ -17,7 +19,7 @@ pub struct Setting {
 }
 
 // The wanted set of a packet, and whether a local MC packet found no row (1).
-#[derive(Drop)]
+#[derive(Clone, Copy)]
 pub struct Wanted {
     pub set: u32,
     pub missed: u32,
@@ -26,7 +28,7 @@ pub struct Wanted {
 // What a pass does: where the packet came from, the errors found, the packet after stamping, the wanted set, whether a local packet found
 // no row, the links that send the packet and those of them that carry a detour, the links dropped for, the second leg's link as a set,
 // where it is sent and where it is dropped, and the phase. Source and phase stand apart for speed (docs/DECISIONS.md).
-#[derive(Drop)]
+#[derive(Clone, Copy)]
 pub struct Outcome {
     pub source: u32,
     pub errors: u32,

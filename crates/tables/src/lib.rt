@@ -1,4 +1,6 @@
 // The tables that a caller lends: MC rows and the search through them, P2P codes, and what makes them acceptable.
+#![tactic(auto)]
+
 pub mod accept;
 pub mod codes;
 pub mod places;
@@ -7,7 +9,7 @@ pub mod size;
 
 // One row of an MC table, where a caller keeps its table in structs.
 #[repr(C)]
-#[derive(Drop)]
+#[derive(Clone, Copy)]
 pub struct Row {
     pub key: u32,
     pub mask: u32,
@@ -15,7 +17,7 @@ pub struct Row {
 }
 
 // What a search finds: the number of the first matching row, or nothing.
-#[derive(Drop)]
+#[derive(Clone, Copy)]
 pub enum Found {
     At(usize),
     Nothing,
@@ -23,7 +25,7 @@ pub enum Found {
 
 // What a search through row structs answers: whether a row matches, its number, its route; zeros where none does.
 #[repr(C)]
-#[derive(Drop)]
+#[derive(Clone, Copy)]
 pub struct RowFound {
     pub found: u32,
     pub row: u32,
@@ -31,7 +33,7 @@ pub struct RowFound {
 }
 
 // What a key's table says of it: the route of the first matching row, or that no row matches.
-#[derive(Drop)]
+#[derive(Clone, Copy)]
 pub enum Matched {
     Route(u32),
     Missed,

@@ -16,7 +16,7 @@ use sheet::trees::{TREE, grow, has_row};
 // The most rows of a chip that are made fewer.
 const MOST: u32 = 16384;
 
-#[derive(Drop)]
+#[derive(Clone, Copy)]
 pub struct Printing {
     pub lines: Lines,
     pub board: Board,

@@ -60,7 +60,7 @@ pub fn replay(
 }
 
 // What one record of a replay does: a refusal and its place, or the bytes of the record and the log records added.
-#[derive(Drop)]
+#[derive(Clone, Copy)]
 struct Done {
     refusal: u32,
     length: usize,

@@ -1,4 +1,6 @@
 // A multicast tree grown from a source chip to a list of chips with processor sets, and the rows that it needs.
+#![tactic(auto)]
+
 pub mod call;
 mod growing;
 mod rows;
@@ -8,28 +10,28 @@ mod ways;
 
 // What the call answers: the refusal, and how many rows are written, over all chips.
 #[repr(C)]
-#[derive(Drop)]
+#[derive(Clone, Copy)]
 pub struct Tree {
     pub refusal: u32,
     pub rows: u32,
 }
 
 // A way from a chip to another: signed steps east and north.
-#[derive(Drop)]
+#[derive(Clone, Copy)]
 struct Way {
     east: i32,
     north: i32,
 }
 
 // A way, and how many links it has.
-#[derive(Drop)]
+#[derive(Clone, Copy)]
 struct Counted {
     way: Way,
     links: u32,
 }
 
 // A way's links in order: diagonal ones up to `shared`, then those east or west up to `turn`, then those north or south up to `end`.
-#[derive(Drop)]
+#[derive(Clone, Copy)]
 struct Legs {
     shared: usize,
     turn: usize,
@@ -40,7 +42,7 @@ struct Legs {
 }
 
 // The part of a way that is still to be added: it leaves `chip`, which stands at x and y, by the link at place `at`.
-#[derive(Drop)]
+#[derive(Clone, Copy)]
 struct Rest {
     chip: u32,
     x: u32,

@@ -1,4 +1,6 @@
 // The C interface: thin exports over the crates below. include/yagbolshen.h declares them.
+#![tactic(auto)]
+
 ghost use Rattle.std.specs.Prelude.{◌≡◌, length};
 ghost use Rattle.packet.specs.Fields.{read_of};
 ghost use Rattle.packet.specs.Packing.{packed_of};

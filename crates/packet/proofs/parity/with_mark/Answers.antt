@@ -1,0 +1,5 @@
+use borrow.Author.Rules.{rules}
+use Rattle.packet.proofs.parity.with_mark.Goals as goal
+
+pub returns : goal.returns
+returns c = cc

@@ -1,0 +1,18 @@
+-- `accept::codes_fine` meets its contract. The loop's invariant: the test of all codes is that of what is joined so far, with that of the codes from
+-- eight times i on. The measure is what is left of the eights.
+use mathlib.Core.Path.{◌≡◌, refl, sym, ap, ◌∙◌}
+use mathlib.Core.Bool.{Bool, ◌&&◌}
+use Prim.Native.Nat.{◌+◌, ◌*◌, ◌/◌, ◌-◌, ◌≤◌}
+use native.Mathlib.Omega.{arith}
+use borrow.Author.Rules.{rules}
+use borrow.Author.Tests.{eq-eqb, ne_eqb}
+use lib.ListN.{length, drop}
+use Rattle.tables.specs.Accept.{all_codes}
+use Rattle.tables.proofs.EightCodes.{clear, clear_or}
+use Rattle.tables.proofs.accept.codes_fine.Given as goal
+
+abbrev pub invariant-loop-i : goal.invariant-loop-i
+invariant-loop-i l = (l.eights ≡ length l.codes / 8) × ((l.i ≤ l.eights) × (all_codes l.codes ≡ (clear l.initial.i && all_codes (drop (l.i * 8) l.codes))))
+
+abbrev pub decreases-loop-i : goal.decreases-loop-i
+decreases-loop-i l = l.eights - l.i

@@ -1,0 +1,18 @@
+-- `tables::accept::starts_fine` meets its contract. The loop's invariant: the test of all the starts is what is found so far, joined with the
+-- test of those from `i` on. The measure is what is left of the chips.
+use mathlib.Core.Path.{◌≡◌, refl}
+use mathlib.Core.Bool.{◌&&◌}
+use Prim.Native.Nat.{◌+◌, ◌-◌, ◌≤◌}
+use native.Mathlib.Omega.{arith}
+use borrow.Author.Rules.{rules}
+use borrow.Author.Tests.{ne_eqb}
+use lib.Dec.{eqb}
+use lib.ListN.{length, get_or, drop}
+use Rattle.tables.proofs.Starts.{climbs, starts_joined, starts_last}
+use Rattle.tables.proofs.accept.starts_fine.Given as goal
+
+abbrev pub invariant-loop-i : goal.invariant-loop-i
+invariant-loop-i l = (l.i ≤ l.chips) × ((eqb (get_or l.starts 0 0) 0 && climbs l.starts) ≡ (l.initial.i && climbs (drop l.i l.starts)))
+
+abbrev pub decreases-loop-i : goal.decreases-loop-i
+decreases-loop-i l = l.chips - l.i

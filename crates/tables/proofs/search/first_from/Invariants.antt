@@ -1,0 +1,15 @@
+-- `search::first_from` meets its contract. The loop's invariant: from row i on the search finds what it finds from row `from` on.
+-- The measure is what is left of the rows.
+use mathlib.Core.Path.{◌≡◌, refl, sym, ◌∙◌}
+use Prim.Native.Nat.{◌+◌, ◌*◌, ◌/◌, ◌-◌, ◌<◌, ◌≤◌}
+use native.Mathlib.Omega.{arith}
+use lib.ListN.{length}
+use Rattle.tables.specs.Rows.{found_from}
+use Rattle.tables.proofs.RowByRow.{from_here, search_on, from_end}
+use Rattle.tables.proofs.search.first_from.Given as goal
+
+abbrev pub invariant-loop-i : goal.invariant-loop-i
+invariant-loop-i l = (l.count ≡ length l.rows / 3) × ((l.i ≤ l.count) × (found_from l.key l.rows l.from ≡ found_from l.key l.rows l.i))
+
+abbrev pub decreases-loop-i : goal.decreases-loop-i
+decreases-loop-i l = l.count - l.i
