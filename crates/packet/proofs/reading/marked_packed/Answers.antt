@@ -11,15 +11,15 @@ use Rattle.packet.proofs.reading.marked_packed.Goals as goal
 pub returns-then-not-marked_in_range : goal.returns-then-not-marked_in_range
 unfolding packed_of
 returns-then-not-marked_in_range c = let kind = marked_kind c.args.f.kind c.requires.0 in
-    c.not_packed.ensures ∙ simp (kind.other, kind.another, and-false, sym c.marked_in_range.ensures ∙ not-true _ c.if-not-marked_in_range.true)
+    c.not_packed.ensures ∙ simp (kind.other, kind.another, and-false, sym c.marked_in_range.ensures ∙ c.if-not-marked_in_range.true)
 
 pub beside-four-requires : goal.beside-four-requires
-beside-four-requires c = omega (arith, marked_ranges c.args.f (sym c.marked_in_range.ensures ∙ not-false _ c.if-not-marked_in_range.false))
+beside-four-requires c = omega (arith, marked_ranges c.args.f (sym c.marked_in_range.ensures ∙ c.if-not-marked_in_range.false))
 
 pub control_byte-requires : goal.control_byte-requires
-control_byte-requires c = omega (arith, marked_ranges c.args.f (sym c.marked_in_range.ensures ∙ not-false _ c.if-not-marked_in_range.false), end_ranges c.args.f c.requires.1, ltb-true c.args.f.kind 4 (marked_kind c.args.f.kind c.requires.0).used)
+control_byte-requires c = omega (arith, marked_ranges c.args.f (sym c.marked_in_range.ensures ∙ c.if-not-marked_in_range.false), end_ranges c.args.f c.requires.1, ltb-true c.args.f.kind 4 (marked_kind c.args.f.kind c.requires.0).used)
 
 pub returns : goal.returns
 returns c = let kind = marked_kind c.args.f.kind c.requires.0 in
     c.bytes_of.ensures
-    ∙ rw c.packet_with.ensures (packs_as c.args.f (simp (kind.other, kind.another, kind.used, c.requires.1, sym c.marked_in_range.ensures ∙ not-false _ c.if-not-marked_in_range.false)) _ _ (simp (kind.other, kind.another) (omega arith)) (simp kind.other))
+    ∙ rw c.packet_with.ensures (packs_as c.args.f (simp (kind.other, kind.another, kind.used, c.requires.1, sym c.marked_in_range.ensures ∙ c.if-not-marked_in_range.false)) _ _ (simp (kind.other, kind.another) (omega arith)) (simp kind.other))

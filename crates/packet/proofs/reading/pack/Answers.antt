@@ -9,16 +9,16 @@ use Rattle.packet.proofs.reading.pack.Goals as goal
 
 pub returns-then-not-end_in_range : goal.returns-then-not-end_in_range
 unfolding packed_of
-returns-then-not-end_in_range c = c.not_packed.ensures ∙ simp (sym c.end_in_range.ensures ∙ not-true _ c.if-not-end_in_range.true, and-false)
+returns-then-not-end_in_range c = c.not_packed.ensures ∙ simp (sym c.end_in_range.ensures ∙ c.if-not-end_in_range.true, and-false)
 
 pub marked_packed-requires : goal.marked_packed-requires
-marked_packed-requires c = (c.in-0.is, sym c.end_in_range.ensures ∙ not-false _ c.if-not-end_in_range.false)
+marked_packed-requires c = (c.in-0.is, sym c.end_in_range.ensures ∙ c.if-not-end_in_range.false)
 
 pub p2p_packed-requires : goal.p2p_packed-requires
-p2p_packed-requires c = (c.in-1.is, sym c.end_in_range.ensures ∙ not-false _ c.if-not-end_in_range.false)
+p2p_packed-requires c = (c.in-1.is, sym c.end_in_range.ensures ∙ c.if-not-end_in_range.false)
 
 pub nn_packed-requires : goal.nn_packed-requires
-nn_packed-requires c = (c.in-2.is, sym c.end_in_range.ensures ∙ not-false _ c.if-not-end_in_range.false)
+nn_packed-requires c = (c.in-2.is, sym c.end_in_range.ensures ∙ c.if-not-end_in_range.false)
 
 pub returns-in_default : goal.returns-in_default
 unfolding packed_of

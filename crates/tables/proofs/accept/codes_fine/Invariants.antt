@@ -12,7 +12,7 @@ use Rattle.tables.proofs.EightCodes.{clear, clear_or}
 use Rattle.tables.proofs.accept.codes_fine.Given as goal
 
 abbrev pub invariant-loop-i : goal.invariant-loop-i
-invariant-loop-i l = (l.eights ≡ length l.codes / 8) × ((l.i ≤ l.eights) × (all_codes l.codes ≡ (clear l.initial.i && all_codes (drop (l.i * 8) l.codes))))
+invariant-loop-i l = (l.eights ≡ length l.codes / 8) × ((l.i ≤ l.eights) × (all_codes l.codes ≡ (clear l.joined && all_codes (drop (l.i * 8) l.codes))))
 
 abbrev pub decreases-loop-i : goal.decreases-loop-i
 decreases-loop-i l = l.eights - l.i

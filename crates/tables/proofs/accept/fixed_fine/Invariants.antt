@@ -12,7 +12,7 @@ use Rattle.tables.proofs.OneByOne.{fixed_joined, fixed_last}
 use Rattle.tables.proofs.accept.fixed_fine.Given as goal
 
 abbrev pub invariant-loop-i : goal.invariant-loop-i
-invariant-loop-i l = all_fixed l.fixed ≡ (ltb l.initial.i 67108864 && all_fixed (drop l.i l.fixed))
+invariant-loop-i l = all_fixed l.fixed ≡ (ltb l.joined 67108864 && all_fixed (drop l.i l.fixed))
 
 abbrev pub decreases-loop-i : goal.decreases-loop-i
 decreases-loop-i l = length l.fixed - l.i

@@ -11,7 +11,7 @@ use Rattle.tables.proofs.OneByOne.{codes_end}
 use Rattle.tables.proofs.accept.last_codes.Given as goal
 
 abbrev pub invariant-loop-i : goal.invariant-loop-i
-invariant-loop-i l = (clear l.so_far && all_codes (drop (length l.codes / 8 * 8) l.codes)) ≡ (clear l.initial.i && all_codes (drop l.i l.codes))
+invariant-loop-i l = (clear l.so_far && all_codes (drop (length l.codes / 8 * 8) l.codes)) ≡ (clear l.joined && all_codes (drop l.i l.codes))
 
 abbrev pub decreases-loop-i : goal.decreases-loop-i
 decreases-loop-i l = length l.codes - l.i

@@ -12,7 +12,7 @@ use Rattle.tables.proofs.OneByOne.{routes_joined, routes_last}
 use Rattle.tables.proofs.accept.last_routes.Given as goal
 
 abbrev pub invariant-loop-i : goal.invariant-loop-i
-invariant-loop-i l = (l.count ≡ length l.rows / 3) × ((ltb l.so_far 67108864 && all_routes (rows_of (drop (length l.rows / 3 / 8 * 8 * 3) l.rows))) ≡ (ltb l.initial.i 67108864 && all_routes (rows_of (drop (l.i * 3) l.rows))))
+invariant-loop-i l = (l.count ≡ length l.rows / 3) × ((ltb l.so_far 67108864 && all_routes (rows_of (drop (length l.rows / 3 / 8 * 8 * 3) l.rows))) ≡ (ltb l.joined 67108864 && all_routes (rows_of (drop (l.i * 3) l.rows))))
 
 abbrev pub decreases-loop-i : goal.decreases-loop-i
 decreases-loop-i l = l.count - l.i

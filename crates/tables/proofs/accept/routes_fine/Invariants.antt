@@ -14,7 +14,7 @@ use Rattle.tables.proofs.OneByOne.{or_on, two_on}
 use Rattle.tables.proofs.accept.routes_fine.Given as goal
 
 abbrev pub invariant-loop-i : goal.invariant-loop-i
-invariant-loop-i l = (l.eights ≡ length l.rows / 3 / 8) × ((l.i ≤ l.eights) × (all_routes (rows_of l.rows) ≡ (ltb l.other 67108864 && (ltb l.initial.i 67108864 && all_routes (rows_of (drop (l.i * 8 * 3) l.rows))))))
+invariant-loop-i l = (l.eights ≡ length l.rows / 3 / 8) × ((l.i ≤ l.eights) × (all_routes (rows_of l.rows) ≡ (ltb l.joined 67108864 && (ltb l.other 67108864 && all_routes (rows_of (drop (l.i * 8 * 3) l.rows))))))
 
 abbrev pub decreases-loop-i : goal.decreases-loop-i
 decreases-loop-i l = l.eights - l.i

@@ -12,7 +12,7 @@ use Rattle.tables.proofs.Starts.{climbs, starts_joined, starts_last}
 use Rattle.tables.proofs.accept.starts_fine.Given as goal
 
 abbrev pub invariant-loop-i : goal.invariant-loop-i
-invariant-loop-i l = (l.i ≤ l.chips) × ((eqb (get_or l.starts 0 0) 0 && climbs l.starts) ≡ (l.initial.i && climbs (drop l.i l.starts)))
+invariant-loop-i l = (l.i ≤ l.chips) × ((eqb (get_or l.starts 0 0) 0 && climbs l.starts) ≡ (l.fine && climbs (drop l.i l.starts)))
 
 abbrev pub decreases-loop-i : goal.decreases-loop-i
 decreases-loop-i l = l.chips - l.i
