@@ -7,15 +7,11 @@ use lib.Dec.{eqb}
 use borrow.Author.Tests.{eqb-true}
 use Rattle.packet.proofs.Small.{every, every₂, at₂}
 use Rattle.steps.specs.Detour.{plain_drop_set}
-use Rattle.steps.proofs.detour.plain_drop_set.Statement.{statement}
-use Rattle.steps.proofs.detour.plain_drop_set.Tie as tie
+use Rattle.steps.proofs.detour.plain_drop_set.Goals as goal
 
 right : ℕ → ℕ → Bool
 right w r = eqb (bit_xor w (bit_and w r)) (plain_drop_set w r)
 
-returns : tie.Need-returns
+pub returns : goal.returns
 unfolding every every₂ right
 returns c = eqb-true _ _ (at₂ 64 64 right refl c.args.wanted c.args.ready c.requires.0 c.requires.1)
-
-pub plain_drop_set_spec : {M : Type 1} → statement M
-plain_drop_set_spec = tie.close (tie.spec returns)
