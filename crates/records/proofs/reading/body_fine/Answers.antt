@@ -1,4 +1,3 @@
-use borrow.Author.Rules.{rules}
 use mathlib.Core.Path.{◌∙◌, sym}
 use Rattle.records.proofs.Bodies.{of_injection, of_round, of_state, of_no_state, of_read, of_none, of_short}
 use Rattle.records.proofs.reading.body_fine.Goals as goal

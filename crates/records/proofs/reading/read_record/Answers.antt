@@ -1,4 +1,3 @@
-use borrow.Author.Rules.{rules}
 use mathlib.Core.Path.{◌∙◌, sym}
 use Rattle.records.proofs.ReadRecords.{reads, read_refused, read_found}
 use Rattle.records.proofs.reading.read_record.Goals as goal

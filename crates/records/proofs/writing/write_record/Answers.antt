@@ -1,4 +1,3 @@
-use borrow.Author.Rules.{rules}
 use mathlib.Core.Path.{◌∙◌, sym, ap}
 use mathlib.Core.Bool.{◌&&◌}
 use mathlib.Core.List.{◌++◌}
@@ -6,7 +5,6 @@ use Prim.Native.Nat.{ℕ}
 use native.Mathlib.Omega.{arith}
 use lib.ListN.{take, drop}
 use Rattle.records.specs.declared.Written.{Written}
-use borrow.Author.Tests.{not-true, not-false}
 use Rattle.records.proofs.Keepables.{kept, record_small}
 use Rattle.records.proofs.WriteRecords.{not_kept, no_room, kept_there}
 use Rattle.records.proofs.writing.write_record.Goals as goal
