@@ -1,0 +1,5 @@
+use borrow.Author.Rules.{rules}
+use Rattle.steps.proofs.errors.wrong_length.Goals as goal
+
+pub returns : goal.returns
+returns c = simp c.carries_of.ensures
