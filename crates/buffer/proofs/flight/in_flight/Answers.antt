@@ -4,22 +4,8 @@ use Rattle.buffer.specs.OnePass.{chip_words}
 use Rattle.buffer.specs.Held.{chip_flight}
 use Rattle.buffer.proofs.HoldsMesh.{Chips, chips_held, few_held}
 use Rattle.buffer.proofs.Flights.{Summed, summed_first, summed_next, summed_last}
-use Rattle.buffer.proofs.flight.in_flight.Reads as reads
-use Rattle.buffer.proofs.flight.in_flight.Lts as lts
-use Rattle.buffer.proofs.flight.on_chip.Reads as on-chip-reads
 use Rattle.links.specs.Offsets.{header_long, chip_long}
 use Rattle.buffer.proofs.flight.in_flight.Goals as goal
-
--- the sum after one chip more
-next : (c : lts.After-on-chip (on-chip-reads.Asked, on-chip-reads.Learnt) reads.Pre reads.Post invariant-loop decreases-loop)
-    → Summed c.before.before.before.before.before.args.mesh.now c.before.before.before.before.before.args.count
-    (c.before.before.before.loop.i + 1) (c.before.before.before.loop.sum + c.on_chip_lem.result)
-next c =
-    let at = c.before.before.before.loop in
-    let start = c.before.before.before.before.before in
-    let one : c.on_chip_lem.result ≡ chip_flight (chip_words at.i start.args.mesh.now) =
-    rw (add-sub_cancel_left (header_long + at.i * chip_long) chip_long) at c.on_chip_lem.ensures in
-    summed_next start.args.mesh.now start.args.count at.i at.sum start.requires.1 at.invariant.1.1 start.requires.0 _ (omega arith) one
 
 pub loop-i-init : goal.loop-i-init
 loop-i-init c = let l = c.args.mesh.now in
@@ -52,7 +38,11 @@ on_chip-sum-requires c = let i = c.loop-i.i in
     rw (add-sub_cancel_left (header_long + i * chip_long) chip_long) (few_held c.args.mesh.now c.requires.0 i (omega (arith, c.requires.1)))
 
 pub overflow_add-sum : goal.overflow_add-sum
-overflow_add-sum c = omega (arith, (next c).few)
+overflow_add-sum c =
+    let at = c.loop-i in
+    let one : c.on_chip-sum.result ≡ chip_flight (chip_words at.i c.args.mesh.now) = rw (add-sub_cancel_left (header_long + at.i * chip_long) chip_long) at c.on_chip-sum.ensures in
+    let next = summed_next c.args.mesh.now c.args.count at.i at.sum c.requires.1 at.invariant.1.1 c.requires.0 _ (omega arith) one in
+    omega (arith, next.few)
 
 pub overflow_add-i : goal.overflow_add-i
 overflow_add-i c = omega arith
@@ -61,7 +51,11 @@ pub loop-i-smaller : goal.loop-i-smaller
 loop-i-smaller c = omega arith
 
 pub loop-i-preserved : goal.loop-i-preserved
-loop-i-preserved c = (c.loop-i.invariant.0, (omega arith, next c))
+loop-i-preserved c =
+    let at = c.loop-i in
+    let one : c.on_chip-sum.result ≡ chip_flight (chip_words at.i c.args.mesh.now) = rw (add-sub_cancel_left (header_long + at.i * chip_long) chip_long) at c.on_chip-sum.ensures in
+    let next = summed_next c.args.mesh.now c.args.count at.i at.sum c.requires.1 at.invariant.1.1 c.requires.0 _ (omega arith) one in
+    (c.loop-i.invariant.0, (omega arith, next))
 
 pub returns : goal.returns
 returns c = let at = c.loop-i in

@@ -6,9 +6,6 @@ use Rattle.buffer.specs.OnePass.{chip_words}
 use Rattle.buffer.specs.Held.{chip_flight}
 use Rattle.buffer.proofs.HoldsMesh.{Chips, chips_held, few_held}
 use Rattle.buffer.proofs.Flights.{Summed, summed_first, summed_next, summed_last}
-use Rattle.buffer.proofs.flight.in_flight.Reads as reads
-use Rattle.buffer.proofs.flight.in_flight.Lts as lts
-use Rattle.buffer.proofs.flight.on_chip.Reads as on-chip-reads
 use Rattle.links.specs.Offsets.{header_long, chip_long}
 use Rattle.buffer.proofs.flight.in_flight.Given as goal
 

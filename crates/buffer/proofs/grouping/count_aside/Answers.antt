@@ -5,20 +5,7 @@ use Rattle.buffer.proofs.FineSteps.{head_size}
 use Rattle.buffer.proofs.Headers.{head_range}
 use Rattle.buffer.proofs.GroupsBuilt.{place_counted}
 use Rattle.buffer.proofs.AsideCounted.{counted_none, counted_next}
-use Rattle.buffer.proofs.grouping.count_aside.Reads as reads
-use Rattle.buffer.proofs.grouping.count_aside.Lts as lts
-use Rattle.links.proofs.across.aside_place.Reads as aside-place-reads
 use Rattle.buffer.proofs.grouping.count_aside.Goals as goal
-
--- the place whose word is how many packets a link set aside
-place : (c : lts.After-aside-place (aside-place-reads.Asked, aside-place-reads.Learnt) reads.Pre reads.Post invariant-loop decreases-loop)
-    → let s = c.before.before.before.before.before.before.args in
-    (get_or s.mesh.now c.aside-place.result 0 ≡ length (aside_by s.mesh.now s.chip c.before.before.loop.source))
-    × ((get_or s.mesh.now c.aside-place.result 0 ≤ 8) × (c.aside-place.result + 25 ≤ length s.mesh.now))
-place c =
-    let s = c.before.before.before.before.before.before in
-    place_counted s.args.mesh.now s.args.chip s.requires c.before.before.loop.source c.before.loop-test.true c.aside-place.result
-    (c.aside-place.ensures s.args.chip refl refl)
 
 pub bounds-mesh-0 : goal.bounds-mesh-0
 bounds-mesh-0 c = omega (arith, c.requires.long)
@@ -46,16 +33,24 @@ aside_place-requires c = let wide = (head_range c.args.mesh.now c.requires.head)
     (head_size c.args.mesh.now c.requires.head, (mod-lt c.args.chip wide, ((div-lt_iff_lt-mul wide).1 c.requires.there, c.loop-source-test.true)))
 
 pub offset_bounds-mesh-aside_place : goal.offset_bounds-mesh-aside_place
-offset_bounds-mesh-aside_place c = omega (arith, place c)
+offset_bounds-mesh-aside_place c =
+    let here = place_counted c.args.mesh.now c.args.chip c.requires c.loop-source.source c.loop-source-test.true c.aside_place.result (c.aside_place.ensures c.args.chip refl refl) in
+    omega (arith, here)
 
 pub bounds-mesh-aside_place : goal.bounds-mesh-aside_place
-bounds-mesh-aside_place c = omega (arith, place c.before)
+bounds-mesh-aside_place c =
+    let here = place_counted c.args.mesh.now c.args.chip c.requires c.loop-source.source c.loop-source-test.true c.aside_place.result (c.aside_place.ensures c.args.chip refl refl) in
+    omega (arith, here)
 
 pub overflow_cast-count : goal.overflow_cast-count
-overflow_cast-count c = omega (arith, place c.before)
+overflow_cast-count c =
+    let here = place_counted c.args.mesh.now c.args.chip c.requires c.loop-source.source c.loop-source-test.true c.aside_place.result (c.aside_place.ensures c.args.chip refl refl) in
+    omega (arith, here)
 
 pub overflow_add-count : goal.overflow_add-count
-overflow_add-count c = omega (arith, place c.before, c.loop-source.invariant)
+overflow_add-count c =
+    let here = place_counted c.args.mesh.now c.args.chip c.requires c.loop-source.source c.loop-source-test.true c.aside_place.result (c.aside_place.ensures c.args.chip refl refl) in
+    omega (arith, here, c.loop-source.invariant)
 
 pub overflow_add-source : goal.overflow_add-source
 overflow_add-source c = omega arith
@@ -65,7 +60,7 @@ loop-source-smaller c = omega arith
 
 pub loop-source-preserved : goal.loop-source-preserved
 loop-source-preserved c = let at = c.loop-source in
-    let here = place c.before in
+    let here = place_counted c.args.mesh.now c.args.chip c.requires c.loop-source.source c.loop-source-test.true c.aside_place.result (c.aside_place.ensures c.args.chip refl refl) in
     (omega arith, (omega (arith, here, at.invariant), counted_next c.args.mesh.now c.args.chip at.source at.count _ at.invariant.1.1 here.0))
 
 pub returns : goal.returns

@@ -6,9 +6,6 @@ use Rattle.buffer.proofs.FineSteps.{head_size}
 use Rattle.buffer.proofs.Headers.{head_range}
 use Rattle.buffer.proofs.GroupsBuilt.{place_counted}
 use Rattle.buffer.proofs.AsideCounted.{counted_none, counted_next}
-use Rattle.buffer.proofs.grouping.count_aside.Reads as reads
-use Rattle.buffer.proofs.grouping.count_aside.Lts as lts
-use Rattle.links.proofs.across.aside_place.Reads as aside-place-reads
 use Rattle.buffer.proofs.grouping.count_aside.Given as goal
 
 abbrev pub invariant-loop-source : goal.invariant-loop-source

@@ -54,7 +54,7 @@ loop-source-preserved c = let at = c.loop-source in
       (
         omega (arith, at.invariant.1.0, by.ensures.1),
         (
-          by.auto.1.1.1.1.0 ∙ at.invariant.1.1.0,
+          by.auto.keys ∙ at.invariant.1.1.0,
           rw add-one (more_aside a.mesh.now a.chip at.source _ _ (by.ensures.0 ∙ ap (λ (l : List ℕ). l ++ keys_of (aside_by a.mesh.now a.chip at.source)) at.invariant.1.1.1) refl),
         ),
       ),

@@ -10,4 +10,4 @@ write_record-requires c = let fits = logged.record_fits _ _ _ _ c.requires.0 in 
 
 pub returns : goal.returns
 returns c = let o = c.pass_at-o in
-    logged.passed_one _ _ _ _ c.requires.0 _ _ _ _ o.result o.ensures.0 o.ensures.1 c.write_record.ensures
+    logged.passed_one _ _ _ _ c.requires.0 _ _ _ _ o.result o.ensures.value o.ensures.mesh_step c.write_record.ensures

@@ -40,4 +40,7 @@ returns c = let a = c.args in
     let fine : Checked a.p a.source (chip_tables a.rows.now a.codes.now a.fixed) (setting_in l a.chip) = checked_at l a.chip a.source a.p (chip_tables a.rows.now a.codes.now a.fixed) r (source_near a.source r.from) in
     let same : c.outcome_of-o.result ≡ outcome_of a.p a.source (chip_tables a.rows.now a.codes.now a.fixed) (setting_in l a.chip) =
     c.outcome_of-o.ensures ∙ ap (λ (n : ℕ). outcome_of a.p a.source (chip_tables a.rows.now a.codes.now a.fixed) (record { width = get_or l width_at 0; height = get_or l height_at 0; monitor = get_or l monitor_at 0; phase = get_or l phase_at 0; ready = n })) set in
-    (same, rw (add-sub_cancel_left at chip_long) (mesh_step l c.after.new.chip a.chip c.outcome_of-o.result r.fits r.there (rw (add-sub_cancel_left at chip_long) at c.after.ensures)))
+    record {
+      value = same;
+      mesh_step = rw (add-sub_cancel_left at chip_long) (mesh_step l c.after.new.chip a.chip c.outcome_of-o.result r.fits r.there (rw (add-sub_cancel_left at chip_long) at c.after.ensures));
+    }

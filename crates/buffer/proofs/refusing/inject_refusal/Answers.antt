@@ -4,13 +4,13 @@ use Rattle.buffer.proofs.HoldsMesh.{holds_size, words_enough}
 use Rattle.buffer.proofs.refusing.inject_refusal.Goals as goal
 
 pub bounds-mesh-0 : goal.bounds-mesh-0
-bounds-mesh-0 c = omega (arith, words_enough c.args.mesh.now (sym c.requires ∙ c.if-not-tested.false))
+bounds-mesh-0 c = omega (arith, words_enough c.args.mesh.now (sym c.requires ∙ not-false _ c.if-not-tested.false))
 
 pub bounds-mesh-1 : goal.bounds-mesh-1
-bounds-mesh-1 c = omega (arith, words_enough c.args.mesh.now (sym c.requires ∙ c.if-not-tested.false))
+bounds-mesh-1 c = omega (arith, words_enough c.args.mesh.now (sym c.requires ∙ not-false _ c.if-not-tested.false))
 
 pub chips-requires : goal.chips-requires
-chips-requires c = holds_size c.args.mesh.now (sym c.requires ∙ c.if-not-tested.false)
+chips-requires c = holds_size c.args.mesh.now (sym c.requires ∙ not-false _ c.if-not-tested.false)
 
 pub returns-then-chips-chip : goal.returns-then-chips-chip
 returns-then-chips-chip c = simp (not-false c.args.tested.holds c.if-not-tested.false, le-ltb _ _ (rw c.chips.ensures at c.if-chips-chip.true))

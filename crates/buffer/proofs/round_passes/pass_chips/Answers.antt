@@ -38,10 +38,10 @@ loop-chip-preserved c = let at = c.loop-chip in
     let alike = ap keys_of (arrivals.at_same _ _ _ _ _ _ _ at.chip a.count hi pre.1.0.0 at.invariant.1.0) in (
       omega arith,
       (
-        rw add-one (arrivals.chips_step _ _ _ _ _ _ _ at.chip a.count hi pre.1.0.0 at.invariant.1.0 _ _ _ passed.ensures.0),
+        rw add-one (arrivals.chips_step _ _ _ _ _ _ _ at.chip a.count hi pre.1.0.0 at.invariant.1.0 _ _ _ passed.ensures.passed),
         (
-          passed.auto.1.1.1.1.1.1.1.1.0 ∙ at.invariant.1.1.0,
-          rw add-one (passed.ensures.1 ∙ room_next a.rows.now a.starts.now a.codes.now a.fixed.now (length a.room.now) (λ chip. keys_of (aside_from a.mesh.now chip)) at.chip _ a.room.now at.room alike at.invariant.1.1.1),
+          passed.auto.room ∙ at.invariant.1.1.0,
+          rw add-one (passed.ensures.room_after ∙ room_next a.rows.now a.starts.now a.codes.now a.fixed.now (length a.room.now) (λ chip. keys_of (aside_from a.mesh.now chip)) at.chip _ a.room.now at.room alike at.invariant.1.1.1),
         ),
       ),
     )
@@ -56,4 +56,4 @@ pub shape_of-room : goal.shape_of-room
 shape_of-room c = c.loop-chip.invariant.1.1.0
 
 pub returns : goal.returns
-returns c = let e : c.loop-chip.chip ≡ c.args.count = omega arith in (rw e at c.loop-chip.invariant.1.0, rw e at c.loop-chip.invariant.1.1.1)
+returns c = let e : c.loop-chip.chip ≡ c.args.count = omega arith in record { passed = rw e at c.loop-chip.invariant.1.0; room_after = rw e at c.loop-chip.invariant.1.1.1 }

@@ -14,7 +14,7 @@ use Rattle.buffer.proofs.round_passes.pass_chips.Given as goal
 abbrev pub invariant-loop-chip : goal.invariant-loop-chip
 invariant-loop-chip l = (l.chip ≤ l.count)
     × (Passed (pass_at (tables_of l.rows l.starts l.codes l.fixed 0) same) (up_to (aside_from l.initial.mesh) l.chip) l.initial.mesh l.initial.log 0 l.mesh l.log l.n
-    × ((length l.room ≡ length l.initial.room) × (l.room ≡ room_upto (tables_of l.rows l.starts l.codes l.fixed (length l.initial.room)) (λ l.chip. keys_of (aside_from l.initial.mesh l.chip)) l.chip l.initial.room)))
+    × ((length l.room ≡ length l.initial.room) × (l.room ≡ room_upto (tables_of l.rows l.starts l.codes l.fixed (length l.initial.room)) (λ chip. keys_of (aside_from l.initial.mesh chip)) l.chip l.initial.room)))
 
 abbrev pub decreases-loop-chip : goal.decreases-loop-chip
 decreases-loop-chip l = l.count - l.chip

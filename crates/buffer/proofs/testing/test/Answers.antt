@@ -31,7 +31,7 @@ returns-then-holds c = let a = c.args in
     let h = sym c.holds.ensures ∙ c.if-holds.true in
     let t = tables_of a.rows.now a.starts.now a.codes.now a.fixed.now a.room in
     let number = c.tables_refusal-tables.ensures ∙ ap (λ (n : ℕ). first_of (tables_refusals t n)) c.chips-all.ensures in
-    let place = c.IsPlace-in.ensures ∙ ap₂ (place_in t) c.chips-all.ensures number in
+    let place = c.place_in-place.ensures ∙ ap₂ (place_in t) c.chips-all.ensures number in
     simp h (λ i. record { holds = true; tables = number i; place = place i })
 
 pub returns-else-holds : goal.returns-else-holds
