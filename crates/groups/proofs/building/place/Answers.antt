@@ -1,11 +1,11 @@
-use Prim.Native.Nat.{ℕ, ◌+◌, ◌*◌, ◌<◌, ◌≤◌, ◌-◌, ◌/◌}
+use Prim.Native.Nat.{ℕ, ◌+◌, ◌*◌, ◌<◌, ◌≤◌, ◌/◌}
 use mathlib.Core.Path.{◌≡◌, refl, sym, ap, ◌∙◌, subst}
 use native.Mathlib.Omega.{arith}
 use lib.ListN.{length, get_or}
 use Rattle.tables.specs.Rows.{Entry, rows_of}
 use Rattle.tables.proofs.RowsByNumber.{rows_many, row_at}
 use Rattle.groups.specs.Groups.{top_of, room_for}
-use Rattle.groups.specs.Building.{Placed, Kept, PutFits, after_put}
+use Rattle.groups.specs.Building.{PutFits, after_put}
 use Rattle.groups.proofs.Placing.{kept_less, kept_none, kept_both}
 use Rattle.groups.proofs.RowByRow.{partly, partly_none, partly_all, kept_all, partly_more, fixed_fits, fixed_put, free_fits, free_put}
 use Rattle.groups.proofs.building.place.Goals as goal

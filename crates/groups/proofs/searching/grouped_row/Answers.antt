@@ -11,7 +11,6 @@ use Rattle.tables.specs.Rows.{matches, rows_of, first_match}
 use Rattle.tables.proofs.RowsByNumber.{rows_many}
 use Rattle.groups.specs.Groups.{top_of, group_of, GroupedFor}
 use Rattle.groups.proofs.Blocks.{block_end}
-use Rattle.groups.proofs.InOrder.{from_most}
 use Rattle.groups.proofs.GroupWords.{begin_of, number_there, number_row, found_here, search_on, search_begins, search_ends}
 use Rattle.groups.proofs.searching.grouped_row.Goals as goal
 
