@@ -5,11 +5,7 @@ use lib.Signed.{lt_z}
 use mir.Syntax.{w32}
 use mir.ValLaws.{to_z-of_z}
 use Rattle.tree.proofs.Signs.{below_zero}
-use Rattle.tree.proofs.walking.is_negative.Statement.{statement}
-use Rattle.tree.proofs.walking.is_negative.Tie as tie
+use Rattle.tree.proofs.walking.is_negative.Goals as goal
 
-returns : tie.Need-returns
+pub returns : goal.returns
 returns c = ap (λ (v : ℤ). lt_z v (pos 0)) (to_z-of_z w32 c.args.count c.ranges.count) ∙ below_zero c.args.count
-
-pub is_negative_spec : {M : Type 1} → statement M
-is_negative_spec = tie.close (tie.spec returns)
