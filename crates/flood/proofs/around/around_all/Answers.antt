@@ -1,5 +1,8 @@
 use mathlib.Core.Path.{◌≡◌, refl}
 use native.Mathlib.Omega.{arith}
+use mathlib.Core.Bool.{true}
+use mathlib.Core.List.{List}
+use Rattle.buffer.specs.Holding.{holds_mesh}
 use Prim.Native.Nat.{ℕ, ◌-◌, ◌/◌, ◌%◌, ◌≤◌, ◌<◌}
 use lib.ListN.{length, get_or, length-set}
 use Rattle.tables.proofs.Sizes.{chips_small}
@@ -19,8 +22,11 @@ pub chips-count-requires : goal.chips-count-requires
 chips-count-requires c = holds_size c.args.mesh.now c.requires
 
 -- at most 144 chips
+few : (mesh : List ℕ) → holds_mesh mesh ≡ true → {count : ℕ} → count ≡ chips_of mesh → count ≤ 144
+few mesh holds e = rw e (chips_small _ _ (holds_size mesh holds))
+
 pub overflow_mul-count : goal.overflow_mul-count
-overflow_mul-count c = omega (arith, few c)
+overflow_mul-count c = omega (arith, few c.args.mesh.now c.requires c.chips-count.ensures)
 
 pub loop-k-init : goal.loop-k-init
 loop-k-init c = (omega arith, (refl, λ j h. absurd (omega arith)))
@@ -30,10 +36,10 @@ lead_of-requires c = let near : c.loop-k.k / 6 < chips_of c.args.mesh.now = omeg
     (c.requires, (near, omega arith))
 
 pub bounds-around-k : goal.bounds-around-k
-bounds-around-k c = omega (arith, few c.before.before.before)
+bounds-around-k c = omega (arith, few c.args.mesh.now c.requires c.chips-count.ensures)
 
 pub overflow_add-k : goal.overflow_add-k
-overflow_add-k c = omega (arith, few c.before.before.before)
+overflow_add-k c = omega (arith, few c.args.mesh.now c.requires c.chips-count.ensures)
 
 pub loop-k-smaller : goal.loop-k-smaller
 loop-k-smaller c = omega arith
@@ -41,7 +47,7 @@ loop-k-smaller c = omega arith
 pub loop-k-preserved : goal.loop-k-preserved
 loop-k-preserved c = let at = c.loop-k in
     let mesh = c.args.mesh.now in
-    let here : at.k < length at.around = omega (arith, few c.before.before.before) in
+    let here : at.k < length at.around = omega (arith, few c.args.mesh.now c.requires c.chips-count.ensures) in
     (omega arith, (simp length-set at.invariant.1.0, set_next (λ (j : ℕ). lead_of (mesh_of mesh) (j / 6) (j % 6)) at.around at.k _ here c.lead_of.ensures at.invariant.1.1))
 
 pub returns : goal.returns

@@ -5,7 +5,9 @@ use Rattle.flood.proofs.FloodCall.{refused, accepted, answered}
 use Rattle.flood.proofs.flooding.flood.Goals as goal
 
 pub returns-then-refusal-ne0 : goal.returns-then-refusal-ne0
-returns-then-refusal-ne0 c = refused c.args.mesh.now c.args.codes.now _ c.flood_refusal-refusal.ensures c.if-refusal-ne0.true
+returns-then-refusal-ne0 c =
+    let h = refused c.args.mesh.now c.args.codes.now _ c.flood_refusal-refusal.ensures c.if-refusal-ne0.true in
+    record { value = h.0; codes_after = h.1 }
 
 pub around_all-around-requires : goal.around_all-around-requires
 around_all-around-requires c = (accepted c.args.mesh.now c.args.codes.now _ c.flood_refusal-refusal.ensures c.if-refusal-ne0.false).holds
@@ -26,5 +28,5 @@ write_codes-requires c = let a = accepted c.args.mesh.now c.args.codes.now _ c.f
 pub returns : goal.returns
 returns c = let l = c.args.mesh.now in
     let around = c.around_all-around in
-    answered l c.args.codes.now _ c.flood_refusal-refusal.ensures c.if-refusal-ne0.false _
-    (c.write_codes.ensures (mesh_of l) (rw c.chips.ensures around.ensures))
+    let h = answered l c.args.codes.now _ c.flood_refusal-refusal.ensures c.if-refusal-ne0.false _ (c.write_codes.ensures (mesh_of l) (rw c.chips.ensures around.ensures)) in
+    record { value = h.0; codes_after = h.1 }

@@ -11,6 +11,9 @@ record Place (all from to : ℕ) : Type 0 where
   below : from * all + to < all * all
   small : all * all ≤ 144 * 144
 
+place : (all from to : ℕ) → all ≤ 144 → to < all → from < all → Place all from to
+place all from to few to_low from_low = record { below = place_below all from to to_low from_low; small = mul-le-mul few few }
+
 pub loop-from-init : goal.loop-from-init
 loop-from-init c = (omega arith, none_yet _ _ _ _)
 
@@ -18,13 +21,13 @@ pub code_on-requires : goal.code_on-requires
 code_on-requires c = omega (arith, c.requires.1.0)
 
 pub overflow_mul-codes : goal.overflow_mul-codes
-overflow_mul-codes c = omega (arith, (place c).below, (place c).small)
+overflow_mul-codes c = omega (arith, (place c.args.all c.loop-from.from c.args.to c.requires.1.0 c.requires.1.1 c.loop-from-test.true).below, (place c.args.all c.loop-from.from c.args.to c.requires.1.0 c.requires.1.1 c.loop-from-test.true).small)
 
 pub overflow_add-codes : goal.overflow_add-codes
-overflow_add-codes c = omega (arith, (place c).below, (place c).small)
+overflow_add-codes c = omega (arith, (place c.args.all c.loop-from.from c.args.to c.requires.1.0 c.requires.1.1 c.loop-from-test.true).below, (place c.args.all c.loop-from.from c.args.to c.requires.1.0 c.requires.1.1 c.loop-from-test.true).small)
 
 pub bounds-codes-from : goal.bounds-codes-from
-bounds-codes-from c = omega (arith, c.requires.0, c.loop-from.invariant.1.long, (place c).below)
+bounds-codes-from c = omega (arith, c.requires.0, c.loop-from.invariant.1.long, (place c.args.all c.loop-from.from c.args.to c.requires.1.0 c.requires.1.1 c.loop-from-test.true).below)
 
 pub overflow_add-from : goal.overflow_add-from
 overflow_add-from c = omega (arith, c.requires.1.0)

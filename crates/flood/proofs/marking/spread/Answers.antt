@@ -1,10 +1,10 @@
 use mathlib.Core.Path.{◌≡◌, sym, ◌∙◌}
-use mathlib.Core.Logic.{⊎_elim}
 use native.Mathlib.Omega.{arith}
 use Prim.Native.Nat.{◌-◌, ◌≤◌, ◌<◌}
 use lib.ListN.{length, length-set}
 use Rattle.flood.proofs.Spreads.{SoFar, none_yet, not_next, next, whole_level}
 use Rattle.flood.proofs.marking.spread.Goals as goal
+use Rattle.flood.proofs.marking.spread.Goals.{then-is_next, else-is_next}
 
 pub loop-chip-init : goal.loop-chip-init
 loop-chip-init c = (omega arith, (c.requires.1, none_yet _ _ _))
@@ -26,10 +26,10 @@ loop-chip-preserved c = let at = c.loop-chip in
     let near : at.chip < length at.marks = omega (arith, c.requires.0) in
     let small : c.args.level ≤ 255 = omega (arith, c.ranges.level) in (
       omega arith,
-      ⊎_elim
-          (λ w. rw (w.1, w.2) ((simp length-set at.invariant.1.0, next _ _ _ _ _ _ at.invariant.1.1 near small (sym c.is_next.ensures ∙ w.0.taken))))
-          (λ w. rw (w.1, w.2) ((at.invariant.1.0, not_next _ _ _ _ _ _ at.invariant.1.1 (sym c.is_next.ensures ∙ w.0.left))))
-          c.if-is_next.branch,
+      elim c.if-is_next.branch [
+        | then-is_next w ↦ rw (w.marks-is, w.more-is) ((simp length-set at.invariant.1.0, next _ _ _ _ _ _ at.invariant.1.1 near small (sym c.is_next.ensures ∙ w.if-is_next.true)))
+        | else-is_next w ↦ rw (w.marks-is, w.more-is) ((at.invariant.1.0, not_next _ _ _ _ _ _ at.invariant.1.1 (sym c.is_next.ensures ∙ w.if-is_next.false)))
+      ],
     )
 
 pub returns : goal.returns
