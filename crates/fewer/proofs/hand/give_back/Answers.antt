@@ -35,7 +35,7 @@ loop-i-preserved c = let at = c.loop-i in
     c.give_one.ensures
     ∙ (λ k. take (at.i * 3) (at.invariant.1.1 k) ++ (row k).entry.key ∷ (row k).entry.mask ∷ (row k).entry.route ∷ drop (at.i * 3 + 3) (at.invariant.1.1 k))
     ∙ words_more rows l at.i here in
-    (omega arith, (c.left-1.given ∙ at.invariant.1.0, written))
+    (omega arith, (omega (arith, at.invariant.1.0), written))
 
 pub shape_of-left : goal.shape_of-left
 shape_of-left c = c.loop-i.invariant.1.0

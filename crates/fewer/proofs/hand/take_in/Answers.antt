@@ -33,7 +33,7 @@ loop-i-preserved c = let at = c.loop-i in
     let there : at.i < length (held_of at.held) = omega (arith, held_many at.held) in
     let row = c.numbered_row.ensures in
     let put = c.put.ensures ∙ ap (set (held_of at.held) at.i) row in
-    (refl, (omega arith, (c.held-1.given ∙ at.invariant.1.1.0, ap (take (at.i + 1)) put ∙ take_more rows (held_of at.held) at.i here there at.invariant.1.1.1)))
+    (refl, (omega arith, (omega (arith, at.invariant.1.1.0), ap (take (at.i + 1)) put ∙ take_more rows (held_of at.held) at.i here there at.invariant.1.1.1)))
 
 pub shape_of-held : goal.shape_of-held
 shape_of-held c = c.loop-i.invariant.1.1.0

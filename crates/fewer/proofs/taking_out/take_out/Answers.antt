@@ -22,12 +22,11 @@ pub loop-walk-smaller : goal.loop-walk-smaller
 loop-walk-smaller c = omega (arith, c.pass-walk.ensures.next_lt_next, c.loop-walk-test.true, c.loop-walk.invariant.1.same)
 
 pub loop-walk-preserved : goal.loop-walk-preserved
-loop-walk-preserved c = let s = c in
-    let now = c.loop-walk.invariant.0 in
+loop-walk-preserved c = let now = c.loop-walk.invariant.0 in
     let row = c.row_at-row in
-    let few : c.loop-walk.walk.kept ≡ min s.args.count c.loop-walk.walk.kept = omega (arith, now.behind, now.within, c.loop-walk.invariant.1.same) in
+    let few : c.loop-walk.walk.kept ≡ min c.args.count c.loop-walk.walk.kept = omega (arith, now.behind, now.within, c.loop-walk.invariant.1.same) in
     let told = subst (λ (n : ℕ). Tested (held_of c.loop-walk.held) (numbered_of row.result).entry 0 n c.stays-staying.result) few c.stays-staying.ensures in
-    let on = c.pass-walk.ensures.passes 0 s.args.count now row.ensures told in
+    let on = c.pass-walk.ensures.passes 0 c.args.count now row.ensures told in
     (on.0, went_on c.loop-walk.invariant.1 on.1)
 
 pub shape_of-held : goal.shape_of-held

@@ -7,16 +7,16 @@ use Rattle.fewer.proofs.WalkWords.{under_tested}
 use Rattle.fewer.proofs.taking_out.take_out_under.Goals as goal
 
 pub row_at-one-requires : goal.row_at-one-requires
-row_at-one-requires c = let s = c in omega (arith, s.requires.0.fits, s.requires.0.within)
+row_at-one-requires c = omega (arith, c.requires.0.fits, c.requires.0.within)
 
 pub overflow_add-walk : goal.overflow_add-walk
-overflow_add-walk c = let s = c in omega (arith, s.requires.0.within, s.requires.0.listed)
+overflow_add-walk c = omega (arith, c.requires.0.within, c.requires.0.listed)
 
 pub overflow_add-walk-2 : goal.overflow_add-walk-2
-overflow_add-walk-2 c = let s = c in omega (arith, s.requires.0.within, s.requires.0.listed)
+overflow_add-walk-2 c = omega (arith, c.requires.0.within, c.requires.0.listed)
 
 pub loop-walk-init : goal.loop-walk-init
-loop-walk-init c = let s = c in (s.requires.0, went_none s.args.held.now s.args.gone.now (record { kept = s.args.at + 1; next = s.args.at + 2; count = s.args.count }))
+loop-walk-init c = (c.requires.0, went_none c.args.held.now c.args.gone.now (record { kept = c.args.at + 1; next = c.args.at + 2; count = c.args.count }))
 
 pub row_at-row-requires : goal.row_at-row-requires
 row_at-row-requires c = omega (arith, c.loop-walk.invariant.0.fits, c.loop-walk-test.true)
@@ -30,10 +30,9 @@ loop-walk-smaller c = omega (arith, c.pass-walk.ensures.next_lt_next, c.loop-wal
 
 pub loop-walk-preserved : goal.loop-walk-preserved
 loop-walk-preserved c = let one = c.row_at-one in
-    let s = c in
     let row = c.row_at-row in
-    let told = under_tested s.args.at s.args.count s.args.held.now s.args.gone.now c.loop-walk.held c.loop-walk.gone c.loop-walk.walk c.loop-walk.invariant.0 c.loop-walk-test.true c.loop-walk.invariant.1 s.requires.1 (numbered_of one.result) (numbered_of row.result) one.ensures row.ensures c.covers-staying.result (sym c.covers-staying.ensures) in
-    let on = c.pass-walk.ensures.passes s.args.at (s.args.at + 1) c.loop-walk.invariant.0 row.ensures told in
+    let told = under_tested c.args.at c.args.count c.args.held.now c.args.gone.now c.loop-walk.held c.loop-walk.gone c.loop-walk.walk c.loop-walk.invariant.0 c.loop-walk-test.true c.loop-walk.invariant.1 c.requires.1 (numbered_of one.result) (numbered_of row.result) one.ensures row.ensures c.covers-staying.result (sym c.covers-staying.ensures) in
+    let on = c.pass-walk.ensures.passes c.args.at (c.args.at + 1) c.loop-walk.invariant.0 row.ensures told in
     (on.0, went_on c.loop-walk.invariant.1 on.1)
 
 pub shape_of-held : goal.shape_of-held
