@@ -1,5 +1,5 @@
 -- `byte_at` meets its contract: past the end there is the default, 0.
-use Rattle.std.proofs.Common.{sym, rules}
+use Rattle.std.proofs.Common.{sym}
 use lib.ListN.{get_or-eq_default}
 use Rattle.script.proofs.cells.byte_at.Goals as goal
 

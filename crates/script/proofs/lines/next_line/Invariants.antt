@@ -1,5 +1,4 @@
 -- The loop of `next_line` counts its turns down.
-use Rattle.std.proofs.Common.{rules}
 use Rattle.script.proofs.lines.next_line.Given as goal
 
 abbrev pub invariant-loop-turns : goal.invariant-loop-turns

@@ -1,5 +1,4 @@
 -- `link_named` meets its contract, by the word's length.
-use Rattle.std.proofs.Common.{rules}
 use Rattle.script.proofs.Letters.{one_letter, two_letters, no_letters}
 use Rattle.script.proofs.names.link_named.Goals as goal
 

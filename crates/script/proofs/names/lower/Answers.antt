@@ -1,5 +1,5 @@
 -- `lower` meets its contract: its tests are those of the definition.
-use Rattle.std.proofs.Common.{rules, le-ltb, lt-ltb}
+use Rattle.std.proofs.Common.{le-ltb, lt-ltb}
 use Rattle.script.proofs.names.lower.Goals as goal
 
 pub returns-then-b-lt65 : goal.returns-then-b-lt65

@@ -1,5 +1,5 @@
 -- `digit_of` meets its contract: its tests are those of the definition.
-use Rattle.std.proofs.Common.{ℕ, ◌-◌, ap, rules, le-ltb, lt-ltb}
+use Rattle.std.proofs.Common.{ℕ, ◌-◌, ap, le-ltb, lt-ltb}
 use Rattle.script.proofs.numbers.digit_of.Goals as goal
 
 pub returns-then-b-lt48 : goal.returns-then-b-lt48

@@ -1,5 +1,4 @@
-use Rattle.std.proofs.Common.{◌≡◌, ◌-◌, length, drop, sym, refl, ◌∙◌, arith, rules}
-use Rattle.script.specs.Numbers.{with_digits}
+use Rattle.std.proofs.Common.{sym, refl, ◌∙◌, arith}
 use Rattle.script.proofs.Digits.{one_taken, none_left}
 use Rattle.script.proofs.numbers.digits.Goals as goal
 

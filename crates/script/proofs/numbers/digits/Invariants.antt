@@ -1,7 +1,6 @@
 -- The loop of `digits` goes through the rest of the word: the number so far with the digits that are left is that of them all.
-use Rattle.std.proofs.Common.{◌≡◌, ◌-◌, length, drop, sym, refl, ◌∙◌, arith, rules}
+use Rattle.std.proofs.Common.{◌≡◌, ◌-◌, length, drop}
 use Rattle.script.specs.Numbers.{with_digits}
-use Rattle.script.proofs.Digits.{one_taken, none_left}
 use Rattle.script.proofs.numbers.digits.Given as goal
 
 abbrev pub invariant-loop-i : goal.invariant-loop-i

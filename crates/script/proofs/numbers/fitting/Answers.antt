@@ -1,5 +1,5 @@
 -- `fitting` meets its contract: the test of the code is that of the definition.
-use Rattle.std.proofs.Common.{rules, le-ltb, lt-ltb}
+use Rattle.std.proofs.Common.{le-ltb, lt-ltb}
 use Rattle.script.proofs.numbers.fitting.Goals as goal
 
 pub returns-then-value-lt4294967296 : goal.returns-then-value-lt4294967296

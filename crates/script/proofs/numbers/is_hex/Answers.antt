@@ -1,5 +1,4 @@
 -- `is_hex` meets its contract: the two bytes are those of the word.
-use Rattle.std.proofs.Common.{rules}
 use Rattle.script.proofs.numbers.is_hex.Goals as goal
 
 pub returns : goal.returns

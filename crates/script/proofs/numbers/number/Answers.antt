@@ -1,5 +1,4 @@
 -- `number` meets its contract: the digits are taken as `is_hex` says.
-use Rattle.std.proofs.Common.{rules}
 use Rattle.script.proofs.Digits.{number_by}
 use Rattle.script.proofs.numbers.number.Goals as goal
 

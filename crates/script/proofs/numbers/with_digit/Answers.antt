@@ -1,6 +1,5 @@
 -- `with_digit` meets its contract: in either base it is the definition's step.
 use borrow.Author.Tests.{not-true, not-false}
-use Rattle.std.proofs.Common.{rules}
 use Rattle.script.proofs.numbers.with_digit.Goals as goal
 
 pub returns-then-not-n : goal.returns-then-not-n

@@ -1,5 +1,5 @@
 -- The loop of `dash_at` ends at the end of the word at the latest.
-use Rattle.std.proofs.Common.{◌-◌, length, rules}
+use Rattle.std.proofs.Common.{◌-◌, length}
 use Rattle.script.proofs.routes.dash_at.Given as goal
 
 abbrev pub invariant-loop-i : goal.invariant-loop-i

@@ -1,5 +1,5 @@
 -- The loop of `route` stops at the number of words that a line has at most.
-use Rattle.std.proofs.Common.{◌-◌, rules}
+use Rattle.std.proofs.Common.{◌-◌}
 use Rattle.script.proofs.routes.route.Given as goal
 
 abbrev pub invariant-loop-at : goal.invariant-loop-at

@@ -1,5 +1,5 @@
 -- The loop of `comment_at` ends at the end of the line at the latest.
-use Rattle.std.proofs.Common.{◌-◌, length, rules}
+use Rattle.std.proofs.Common.{◌-◌, length}
 use Rattle.script.proofs.words.comment_at.Given as goal
 
 abbrev pub invariant-loop-i : goal.invariant-loop-i

@@ -1,5 +1,5 @@
 -- The loop of `past_word` ends at the end of the line at the latest.
-use Rattle.std.proofs.Common.{◌-◌, length, rules}
+use Rattle.std.proofs.Common.{◌-◌, length}
 use Rattle.script.proofs.words.past_word.Given as goal
 
 abbrev pub invariant-loop-i : goal.invariant-loop-i

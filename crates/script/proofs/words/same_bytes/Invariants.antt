@@ -1,5 +1,5 @@
 -- The loop of `same_bytes` goes through both words, which are as long: below i they are the same.
-use Rattle.std.proofs.Common.{◌≡◌, ℕ, ◌-◌, ◌<◌, ◌≤◌, List, length, get_or, refl, ap, arith, ext_get_or, rules, below_more}
+use Rattle.std.proofs.Common.{◌≡◌, ℕ, ◌-◌, ◌<◌, ◌≤◌, length, get_or}
 use Rattle.script.proofs.words.same_bytes.Given as goal
 
 abbrev pub invariant-loop-i : goal.invariant-loop-i

@@ -1,5 +1,4 @@
 -- The loop of `start_of` goes past as many words as are left.
-use Rattle.std.proofs.Common.{rules}
 use Rattle.script.proofs.words.start_of.Given as goal
 
 abbrev pub invariant-loop-left : goal.invariant-loop-left
