@@ -10,7 +10,7 @@ use borrow.Author.Tests.{eq-eqb, eqb-true, ltb-true}
 use Rattle.packet.specs.declared.Packet.{Packet}
 use Rattle.packet.specs.Control.{kind_of, mark_of, stamp_of, carries_of, mark_in, stamp_in, parity_in}
 use Rattle.packet.specs.Parity.{ones_of, is_odd, with_control, set_right, with_mark, with_stamp}
-use Rattle.packet.proofs.Small.{every, at, every₂, at₂}
+use Rattle.packet.proofs.Small.{every, every₂, at₂}
 
 ones_parity : (c b : ℕ) → ones (parity_in c b) ≡ b % 2 + ones (c / 2)
 ones_parity c b =

@@ -62,6 +62,9 @@ first_of c n rest (stop m t) e = record { read = cc; call = cc; behind = cc }
 reads_back : (s : List ℕ) (bytes : Bytes s) (tr : Trace) (cs : List Call) → trace_of s ≡ tr → ReadsAs tr cs → (s ≡ written_trace cs) × All Writable cs
 unfolding written_trace All
 reads_back s bytes over [] e none = (empty_of (begins s) e, tt)
+reads_back s bytes over (d ∷ cs) e x = elim x [ ]
+reads_back s bytes (refused n) cs e x = elim x [ ]
+reads_back s bytes (then c n rest) [] e x = elim x [ ]
 reads_back s bytes (then c n rest) (d ∷ cs) e (more later) =
     let first = first_of c n rest (begins s) e in
     let k = (record_read s).length in

@@ -1,4 +1,3 @@
-use borrow.Author.Rules.{rules}
 use Rattle.packet.proofs.Packing.{byte_is}
 use Rattle.packet.proofs.bytes.nine.Goals as goal
 

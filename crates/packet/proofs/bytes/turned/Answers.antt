@@ -1,6 +1,5 @@
 use Prim.Native.Nat.{◌/◌, ◌%◌, ◌<◌}
 use native.Mathlib.Omega.{arith}
-use borrow.Author.Rules.{rules}
 use Rattle.packet.proofs.Packing.{digit_0, digit_1, digit_2, digit_3}
 use Rattle.packet.proofs.bytes.turned.Goals as goal
 

@@ -1,4 +1,3 @@
-use borrow.Author.Rules.{rules}
 use native.Mathlib.Nat.{mod-eq_of_lt, lt_of_le_of_lt, le-add_right}
 use lib.Bits.{or_shifted}
 use Rattle.packet.proofs.control.beside.Goals as goal

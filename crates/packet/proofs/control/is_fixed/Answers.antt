@@ -1,4 +1,3 @@
-use borrow.Author.Rules.{rules}
 use Rattle.packet.proofs.control.is_fixed.Goals as goal
 
 pub returns : goal.returns

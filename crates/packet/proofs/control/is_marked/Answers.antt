@@ -1,4 +1,3 @@
-use borrow.Author.Rules.{rules}
 use Rattle.packet.specs.Types.{is_marked}
 use Rattle.packet.proofs.control.is_marked.Goals as goal
 

@@ -1,4 +1,3 @@
-use borrow.Author.Rules.{rules}
 use Rattle.packet.specs.Types.{is_stamped}
 use Rattle.packet.proofs.control.is_stamped.Goals as goal
 

@@ -1,4 +1,3 @@
-use borrow.Author.Rules.{rules}
 use Rattle.packet.proofs.parity.with_mark.Goals as goal
 
 pub returns : goal.returns

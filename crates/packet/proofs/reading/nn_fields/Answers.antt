@@ -1,4 +1,3 @@
-use borrow.Author.Rules.{rules}
 use Rattle.packet.proofs.reading.nn_fields.Goals as goal
 
 pub returns : goal.returns

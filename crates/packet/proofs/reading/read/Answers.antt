@@ -1,4 +1,3 @@
-use borrow.Author.Rules.{rules}
 use mathlib.Core.Path.{◌∙◌, ap}
 use Rattle.packet.specs.Fields.{read_from, read_of}
 use Rattle.packet.proofs.reading.read.Goals as goal

@@ -1,0 +1,5 @@
+use borrow.Author.Rules.{rules}
+use Rattle.router.proofs.call.rows_lent.Goals as goal
+
+pub returns : goal.returns
+returns c = simp (c.rows_fine.ensures, c.route_fine.ensures)

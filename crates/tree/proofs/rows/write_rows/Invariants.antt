@@ -1,0 +1,18 @@
+-- `rows::write_rows` meets its contract. The loop's invariant: the rows and starts of the chips before this one are written, and what follows is as it was. The measure is what is left of the chips.
+use Prim.Native.Nat.{ℕ, ◌+◌, ◌-◌, ◌≤◌}
+use mathlib.Core.Path.{◌≡◌, refl, sym, ap, ◌∙◌}
+use mathlib.Core.List.{List, ◌++◌}
+use native.Mathlib.Omega.{arith}
+use mathlib.Core.Bool.{cond}
+use lib.ListN.{length, drop, set, length-set}
+use Rattle.lists.specs.Lists.{up_to}
+use Rattle.tree.specs.Rows.{entered_at, route_at, has_row, start_of, rows_below, starts_below}
+use Rattle.tree.specs.Walking.{grown_of, with_row}
+use Rattle.tree.proofs.RowByRow.{few_rows_lem, start_more, rows_more, starts_more, starts_whole}
+use Rattle.tree.proofs.rows.write_rows.Given as goal
+
+abbrev pub invariant-loop-chip : goal.invariant-loop-chip
+invariant-loop-chip l = (l.chip ≤ l.all) × ((l.count ≡ start_of (grown_of l.entered l.routes) l.chip) × ((length l.rows ≡ length l.initial.rows) × ((l.rows ≡ rows_below (grown_of l.entered l.routes) l.key l.mask l.chip ++ drop (length (rows_below (grown_of l.entered l.routes) l.key l.mask l.chip)) l.initial.rows) × ((length l.starts ≡ length l.initial.starts) × (l.starts ≡ starts_below (grown_of l.entered l.routes) l.chip ++ drop l.chip l.initial.starts)))))
+
+abbrev pub decreases-loop-chip : goal.decreases-loop-chip
+decreases-loop-chip l = l.all - l.chip
