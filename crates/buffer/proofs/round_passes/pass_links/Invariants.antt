@@ -1,0 +1,14 @@
+use Rattle.std.proofs.Common.{◌≡◌, ℕ, ◌-◌, ◌<◌, ◌≤◌, length, sym, refl, ◌∙◌, subst, mod-lt, div-lt_iff_lt-mul, add-one, arith}
+use Rattle.tables.specs.Tables.{chip_tables}
+use Rattle.lists.specs.Lists.{up_to}
+use Rattle.buffer.specs.PassesInTurn.{aside_by, pass_by, Passed}
+use Rattle.buffer.proofs.FineSteps.{head_size}
+use Rattle.buffer.proofs.Headers.{head_range}
+use Rattle.buffer.proofs.Arrivals as arrivals
+use Rattle.buffer.proofs.round_passes.pass_links.Given as goal
+
+abbrev pub invariant-loop-source : goal.invariant-loop-source
+invariant-loop-source l = (l.source ≤ 6) × Passed (pass_by (chip_tables l.rows l.codes l.fixed)) (up_to (aside_by l.initial.mesh l.chip) l.source) l.initial.mesh l.initial.log l.n l.mesh l.log l.done
+
+abbrev pub decreases-loop-source : goal.decreases-loop-source
+decreases-loop-source l = 6 - l.source
