@@ -1,5 +1,5 @@
 -- No rule of the model, but what the steps of the code promise each other of the rows in hand: four words each, key, mask, route and the number that the row first had.
-use Rattle.std.specs.Prelude.{ℕ, ◌+◌, ◌-◌, ◌*◌, ◌≤◌, ◌<◌, min, ◌≡◌, Bool, true, false, List, [], ◌∷◌, ◌++◌, ◌⊎◌, length, get_or, take, drop}
+use Rattle.std.specs.Prelude.{ℕ, ◌-◌, ◌*◌, ◌≤◌, ◌<◌, min, ◌≡◌, Bool, true, false, List, [], ◌∷◌, ◌++◌, ◌⊎◌, length, get_or, take, drop}
 use Rattle.tables.specs.Rows.{Entry}
 use Rattle.fewer.specs.declared.Held.{Held}
 use Rattle.fewer.specs.declared.Pairs.{Pairs}

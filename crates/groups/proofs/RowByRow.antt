@@ -36,15 +36,16 @@ module _ (tops : List ℕ) (rows : List Entry) (few : length rows ≤ 1024) (i :
 
   module _ (fits : room_for (length rows) ≤ length room) where
     -- into the one group of its top byte
-    module _ (p : Placed tops rows (sofar rows i) room) (f : fixes_top (get_or rows i blank_entry) ≡ true) (g : ℕ) (top : top_of (get_or rows i blank_entry).key ≡ g) (small : g < 256) where
+    module _ (p : Placed tops rows (sofar rows i) room) (g : ℕ) (small : g < 256) where
       more : sofar rows i g < length rows
       more = omega (arith, sofar_most rows i g (omega arith))
 
       pub fixed_fits : PutFits room (length rows) g
       fixed_fits = put_fits tops rows (sofar rows i) room p g small more few fits
 
-      pub fixed_put : Placed tops rows (sofar rows (i + 1)) (after_put room (length rows) g i) × Kept tops (length rows) (sofar rows (i + 1)) room (after_put room (length rows) g i)
-      fixed_put =
+      pub fixed_put : fixes_top (get_or rows i blank_entry) ≡ true → top_of (get_or rows i blank_entry).key ≡ g
+          → Placed tops rows (sofar rows (i + 1)) (after_put room (length rows) g i) × Kept tops (length rows) (sofar rows (i + 1)) room (after_put room (length rows) g i)
+      fixed_put f top =
           put_placed tops rows (sofar rows i) room p g small more few fits i
           (next_there rows g i h (fixed_here rows g i h f top)).1
           (sofar rows (i + 1))
@@ -53,7 +54,7 @@ module _ (tops : List ℕ) (rows : List Entry) (few : length rows ≤ 1024) (i :
           (λ k. omega (arith, sofar_most rows i k (omega arith)))
 
     -- into the k-th of those that are listed
-    module _ (l : Listed tops) (k : ℕ) (within : k < length tops) (p : Placed tops rows (partly tops rows i k) room) (f : fixes_top (get_or rows i blank_entry) ≡ false) where
+    module _ (l : Listed tops) (k : ℕ) (within : k < length tops) (p : Placed tops rows (partly tops rows i k) room) where
       before : partly tops rows i k (get_or tops k 0) ≡ sofar rows i (get_or tops k 0)
       before = simp (l.once k within)
 
@@ -76,9 +77,10 @@ module _ (tops : List ℕ) (rows : List Entry) (few : length rows ≤ 1024) (i :
       pub free_fits : PutFits room (length rows) (get_or tops k 0)
       free_fits = put_fits tops rows (partly tops rows i k) room p (get_or tops k 0) (l.small k within) less few fits
 
-      pub free_put : Placed tops rows (partly tops rows i (k + 1)) (after_put room (length rows) (get_or tops k 0) i)
+      pub free_put : fixes_top (get_or rows i blank_entry) ≡ false
+          → Placed tops rows (partly tops rows i (k + 1)) (after_put room (length rows) (get_or tops k 0) i)
           × Kept tops (length rows) (partly tops rows i (k + 1)) room (after_put room (length rows) (get_or tops k 0) i)
-      free_put =
+      free_put f =
           let g : ℕ = get_or tops k 0 in
           put_placed tops rows (partly tops rows i k) room p g (l.small k within) less few fits i
           (ap (λ (m : ℕ). get_or (group_of rows g) m 0) before ∙ (next_there rows g i h (free_here rows g i h f)).1)

@@ -1,14 +1,15 @@
 -- The account of one pass: weight in and extra branches are delivered, ended in error, dropped, swallowed or sent. What carries it: link by
 -- link the weights are computed for every wanted and ready set, and a wanted set's bits are its processors' and its links'.
 use Rattle.std.proofs.Common.{◌≡◌, ℕ, zero, suc, ◌+◌, ◌-◌, ◌/◌, ◌%◌, ◌^◌, ◌<◌, ◌≤◌, Bool, true, false, cond, ◌&&◌, eqb, ltb, sym, refl, ap, ◌∙◌, mod-lt, div-add-mod', arith, lit<, ltb-true, lt-ltb, eqb-true}
-use mathlib.Core.Bool.{and-true, and-false, and-eq-true_iff}
+use mathlib.Core.Bool.{and-true, and-false, and-eq-true_iff, true≢false}
 use lib.Count.{ones, ones_in, ones_cat, ones_step}
 use lib.Arith.{bin_ind}
 use borrow.Author.Tests.{eqb-false}
 use Rattle.packet.proofs.Small.{every, at, every₂, at₂}
 use Rattle.packet.specs.declared.Packet.{Packet}
 use Rattle.packet.specs.Control.{mark_of}
-use Rattle.packet.specs.Types.{is_marked}
+use Rattle.packet.specs.Types.{is_marked, is_mc}
+use Rattle.packet.proofs.Types.{mc_marked}
 use Rattle.packet.proofs.Folded.{ones_zero}
 use Rattle.steps.specs.declared.Outcome.{Outcome}
 use Rattle.steps.specs.declared.Wanted.{Wanted}
@@ -82,6 +83,14 @@ pub record Consistent (e : ℕ) (q : Packet) (s : ℕ) (w : Wanted) : Type 0 whe
   pub emergency : e ≡ 0 → is_marked q.control ≡ true → mark_of q.control ≡ 2 → w.set ≡ 0
   pub arrived : e ≡ 0 → is_marked q.control ≡ true → mark_of q.control ≡ 1 → s < 6
 
+-- a packet that has no mark is no MC packet
+no_mc : (c : ℕ) → is_marked c ≡ false → is_mc c ≡ false
+no_mc c f = go (is_mc c) refl
+  where
+    go : (b : Bool) → is_mc c ≡ b → is_mc c ≡ false
+    go true e = absurd (true≢false (sym (mc_marked c e) ∙ f))
+    go false e = e
+
 module _ (e : ℕ) (q : Packet) (s phase : ℕ) (w : Wanted) (ready : ℕ) (hr : ready < 64) where
   -- every branch to a link is sent, carried or dropped
   links_close : link_weight (links_of w.set) (decided e q s phase w ready).sent (decided e q s phase w ready).carried + ones (decided e q s phase w ready).dropped ≡ ones (links_of w.set)
@@ -139,9 +148,9 @@ module _ (e : ℕ) (q : Packet) (s phase : ℕ) (w : Wanted) (ready : ℕ) (hr :
       go true fb false fc true fd g fg =
           let m : mark_of q.control ≡ 2 = eqb-true _ _ fd in
           let none : ones w.set ≡ 0 = ap ones (h.emergency z fb m) ∙ ones_zero in
-          close 1 1 0 (simp (fg, fb, fc) (pick g)) (simp (z, fb, fc, fd)) (simp (z, fb, fd, and-false)) (omega arith)
-      go true fb false fc false fd g fg = close 1 0 (cond (eqb w.set 0) 1 0) (simp (fg, fb, fc) (pick g)) (simp (z, fb, fc, fd)) (simp (z, fb, fd, and-true)) (omega (arith, spare))
-      go false fb c fc d fd g fg = close 1 0 (cond (eqb w.set 0) 1 0) (simp (fg, fb) (pick g)) (simp (z, fb)) (simp (z, fb, and-true)) (omega (arith, spare))
+          close 1 1 0 (simp (fg, fb, fc, and-false) (pick g)) (simp (z, fb, fc, fd)) (simp (z, fb, fd, and-false)) (omega arith)
+      go true fb false fc false fd g fg = close 1 0 (cond (eqb w.set 0) 1 0) (simp (fg, fb, fc, and-false) (pick g)) (simp (z, fb, fc, fd)) (simp (z, fb, fd, and-true)) (omega (arith, spare))
+      go false fb c fc d fd g fg = close 1 0 (cond (eqb w.set 0) 1 0) (simp (fg, fb, no_mc q.control fb) (pick g)) (simp (z, fb)) (simp (z, fb, and-true)) (omega (arith, spare))
 
   pub account_decided : Consistent e q s w
       → weight_in q s + extra (decided e q s phase w ready)

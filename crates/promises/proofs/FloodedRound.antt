@@ -46,7 +46,7 @@ module _ (w : Trip) (t : Tables) (r : ℕ) where
   others_pass j es g [] sound codes h none s = subst (Stage w j g.mesh) (sym (append-nil es)) s
   others_pass j es g (a ∷ later) sound codes h none s =
       subst (Stage w j (foldl (pass_at t turned) (pass_at t turned g a) later).mesh) (append_assoc es (packet_passed (passage t r g.mesh a) ∷ []) (passages t r (pass_at t turned g a) later))
-      (others_pass j _ (pass_at t turned g a) later (sound_pass t turned g a sound codes h.0) codes h.1 (omega arith) (other_passes j es g a sound h.0 (of_others n a.flight (omega arith)) s))
+      (others_pass j (es ++ packet_passed (passage t r g.mesh a) ∷ []) (pass_at t turned g a) later (sound_pass t turned g a sound codes h.0) codes h.1 (omega arith) (other_passes j es g a sound h.0 (of_others n a.flight (omega arith)) s))
 
   -- ---- one pass is its own
 
@@ -62,7 +62,7 @@ module _ (w : Trip) (t : Tables) (r : ℕ) where
     own_passes es g [] sound codes alike h due room before alone one = absurd (omega arith)
     own_passes es g (a ∷ later) sound codes alike h due room before alone one =
         subst (Stage w (suc j) (foldl (pass_at t turned) (pass_at t turned g a) later).mesh) (append_assoc es (packet_passed (passage t r g.mesh a) ∷ []) (passages t r (pass_at t turned g a) later))
-        (go (ℕ_discrete a.flight.tag.injection n) (λ x y z. own_passes _ (pass_at t turned g a) later (sound_pass t turned g a sound codes h.0) codes (alike_pass t turned g a alike) h.1 due.1 room.1 x y z))
+        (go (ℕ_discrete a.flight.tag.injection n) (λ x y z. own_passes (es ++ packet_passed (passage t r g.mesh a) ∷ []) (pass_at t turned g a) later (sound_pass t turned g a sound codes h.0) codes (alike_pass t turned g a alike) h.1 due.1 room.1 x y z))
       where
         e : Event
         e = packet_passed (passage t r g.mesh a)

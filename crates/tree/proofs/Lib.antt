@@ -6,6 +6,7 @@ pub mod ComputedWays
 pub mod Counts
 pub mod Displaced
 pub mod FewestLinks
+pub mod FourWays
 pub mod FreshWay
 pub mod LeastOfAll
 pub mod LinkByLink

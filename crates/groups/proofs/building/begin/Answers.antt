@@ -1,4 +1,4 @@
-use Prim.Native.Nat.{ℕ, ◌≤◌, ◌-◌}
+use Prim.Native.Nat.{ℕ}
 use mathlib.Core.Path.{◌≡◌, refl, ap, ◌∙◌}
 use mathlib.Core.List.{List, ◌++◌}
 use native.Mathlib.Omega.{arith}
@@ -12,9 +12,6 @@ loop-g-init c = (omega arith, (refl, refl))
 
 pub bounds-marks-g : goal.bounds-marks-g
 bounds-marks-g c = omega arith
-
-pub overflow_cast-room : goal.overflow_cast-room
-overflow_cast-room c = omega (arith, c.shared_slice_known-1.given c.loop-g.g)
 
 pub offset_bounds-room-g : goal.offset_bounds-room-g
 offset_bounds-room-g c = omega (arith, c.requires)

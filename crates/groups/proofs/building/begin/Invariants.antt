@@ -1,11 +1,8 @@
 -- `building::begin` meets its contract. The loop's invariant: the words before the g-th are the marks. The measure is what is left of the marks.
-use Prim.Native.Nat.{ℕ, ◌≤◌, ◌-◌}
-use mathlib.Core.Path.{◌≡◌, refl, ap, ◌∙◌}
-use mathlib.Core.List.{List, ◌++◌}
-use native.Mathlib.Omega.{arith}
-use lib.ListN.{length, take, drop, length-set}
-use lib.Seq.{take-length}
-use Rattle.groups.proofs.Copying.{one_copied}
+use Prim.Native.Nat.{◌≤◌, ◌-◌}
+use mathlib.Core.Path.{◌≡◌}
+use mathlib.Core.List.{◌++◌}
+use lib.ListN.{length, take, drop}
 use Rattle.groups.proofs.building.begin.Given as goal
 
 abbrev pub invariant-loop-g : goal.invariant-loop-g

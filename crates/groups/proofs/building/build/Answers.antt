@@ -1,11 +1,11 @@
-use Prim.Native.Nat.{ℕ, ◌+◌, ◌<◌, ◌≤◌, ◌/◌, ◌-◌}
+use Prim.Native.Nat.{ℕ, ◌+◌, ◌<◌}
 use mathlib.Core.Path.{◌≡◌, refl, sym, ◌∙◌}
 use native.Mathlib.Omega.{arith}
 use lib.ListN.{length}
 use Rattle.tables.specs.Rows.{rows_of}
 use Rattle.tables.proofs.RowsByNumber.{rows_many}
 use Rattle.groups.specs.Groups.{group_of, is_in}
-use Rattle.groups.specs.Building.{sofar, Placed, Kept}
+use Rattle.groups.specs.Building.{sofar}
 use Rattle.groups.proofs.InOrder.{sofar_all, sofar_more}
 use Rattle.groups.proofs.Listing.{bit_asked}
 use Rattle.groups.proofs.Placing.{said_so, kept_less, kept_none, kept_both}

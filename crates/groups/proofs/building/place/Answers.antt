@@ -1,57 +1,41 @@
-use Prim.Native.Nat.{ℕ, ◌+◌, ◌*◌, ◌<◌, ◌≤◌, ◌-◌, ◌/◌}
+use Prim.Native.Nat.{ℕ, ◌+◌, ◌*◌, ◌<◌, ◌≤◌, ◌/◌}
 use mathlib.Core.Path.{◌≡◌, refl, sym, ap, ◌∙◌, subst}
 use native.Mathlib.Omega.{arith}
 use lib.ListN.{length, get_or}
 use Rattle.tables.specs.Rows.{Entry, rows_of}
 use Rattle.tables.proofs.RowsByNumber.{rows_many, row_at}
-use Rattle.groups.specs.Groups.{top_of}
-use Rattle.groups.specs.Building.{Placed, Kept, PutFits, after_put}
+use Rattle.groups.specs.Groups.{top_of, room_for}
+use Rattle.groups.specs.Building.{PutFits, after_put}
 use Rattle.groups.proofs.Placing.{kept_less, kept_none, kept_both}
 use Rattle.groups.proofs.RowByRow.{partly, partly_none, partly_all, kept_all, partly_more, fixed_fits, fixed_put, free_fits, free_put}
 use Rattle.groups.proofs.building.place.Goals as goal
 
-pub overflow_cast-number : goal.overflow_cast-number
-overflow_cast-number c = omega (arith, c.requires)
-
-pub fixes_top-requires : goal.fixes_top-requires
-fixes_top-requires c = omega (arith, c.requires)
-
-pub overflow_mul-i : goal.overflow_mul-i
-overflow_mul-i c = omega (arith, c.requires)
-
-pub offset_bounds-rows-i : goal.offset_bounds-rows-i
-offset_bounds-rows-i c = omega (arith, c.requires)
-
-pub bounds-rows-i : goal.bounds-rows-i
-bounds-rows-i c = omega (arith, c.requires)
-
-pub top_of-requires : goal.top_of-requires
-top_of-requires c = tt
-
 pub put-requires : goal.put-requires
-put-requires c = let words = c.args.rows.now in
-    let room = c.args.room.now in
-    let top = ap (λ (e : Entry). top_of e.key) (row_at words c.args.i (omega (arith, c.requires))) ∙ sym c.top_of.ensures.0 in
-    subst (λ (n : ℕ). PutFits room n c.top_of.result) (rows_many words)
-    (fixed_fits c.args.tops.now (rows_of words) (omega (arith, c.requires, rows_many words)) c.args.i (omega (arith, c.requires, rows_many words)) room (omega (arith, c.requires, rows_many words))
-    c.requires.i_in_bounds.1.1
-    (sym c.fixes_top.ensures ∙ c.if-fixes_top.true)
-    c.top_of.result top c.top_of.ensures.1)
+put-requires c =
+    let words = c.args.rows.now in
+    let few : length (rows_of words) ≤ 1024 = omega (arith, c.requires, rows_many words) in
+    let here : c.args.i < length (rows_of words) = omega (arith, c.requires, rows_many words) in
+    let fits : room_for (length (rows_of words)) ≤ length c.args.room.now = omega (arith, c.requires, rows_many words) in
+    subst (λ (n : ℕ). PutFits c.args.room.now n c.top_of.result) (rows_many words)
+    (fixed_fits c.args.tops.now (rows_of words) few c.args.i here c.args.room.now fits c.requires.i_in_bounds.1.1 c.top_of.result c.top_of.ensures.1)
 
 pub returns-then-fixes_top : goal.returns-then-fixes_top
-returns-then-fixes_top c = let words = c.args.rows.now in
+returns-then-fixes_top c =
+    let words = c.args.rows.now in
     let room = c.args.room.now in
+    let few : length (rows_of words) ≤ 1024 = omega (arith, c.requires, rows_many words) in
+    let here : c.args.i < length (rows_of words) = omega (arith, c.requires, rows_many words) in
+    let fits : room_for (length (rows_of words)) ≤ length room = omega (arith, c.requires, rows_many words) in
     let top = ap (λ (e : Entry). top_of e.key) (row_at words c.args.i (omega (arith, c.requires))) ∙ sym c.top_of.ensures.0 in
     let last = c.put.ensures ∙ ap (λ (n : ℕ). after_put room n c.top_of.result c.args.i) (sym (rows_many words)) in
     let found =
-    fixed_put c.args.tops.now (rows_of words) (omega (arith, c.requires, rows_many words)) c.args.i (omega (arith, c.requires, rows_many words)) room (omega (arith, c.requires, rows_many words))
-    c.requires.i_in_bounds.1.1
-    (sym c.fixes_top.ensures ∙ c.if-fixes_top.true)
-    c.top_of.result top c.top_of.ensures.1 in
+    fixed_put c.args.tops.now (rows_of words) few c.args.i here room fits c.requires.i_in_bounds.1.1 c.top_of.result c.top_of.ensures.1
+    (sym c.fixes_top.ensures ∙ c.if-fixes_top.true) top in
     record { placed = rw last found.0; kept = rw last found.1 }
 
 pub loop-k-init : goal.loop-k-init
-loop-k-init c = let words = c.args.rows.now in
+loop-k-init c =
+    let words = c.args.rows.now in
     let rows = rows_of words in
     let tops = c.args.tops.now in
     let room = c.args.room.now in (
@@ -65,34 +49,20 @@ loop-k-init c = let words = c.args.rows.now in
       ),
     )
 
-pub offset_bounds-tops-k : goal.offset_bounds-tops-k
-offset_bounds-tops-k c = omega arith
-
-pub bounds-tops-k : goal.bounds-tops-k
-bounds-tops-k c = omega arith
-
-pub wide-requires : goal.wide-requires
-wide-requires c = tt
-
 pub put-requires-in-loop-k : goal.put-requires-in-loop-k
-put-requires-in-loop-k c = let words = c.args.rows.now in
+put-requires-in-loop-k c =
+    let words = c.args.rows.now in
     let tops = c.args.tops.now in
     let room = c.loop-k.room in
     subst (λ (g : ℕ). PutFits room (length words / 3) g) (sym c.wide.ensures)
     (subst (λ (n : ℕ). PutFits room n (get_or tops c.loop-k.k 0)) (rows_many words)
     (free_fits tops (rows_of words) (omega (arith, c.requires, rows_many words)) c.args.i (omega (arith, c.requires, rows_many words)) room
     (omega (arith, c.requires, c.loop-k.invariant.1.0, rows_many words))
-    c.requires.i_in_bounds.1.0 c.loop-k.k (omega arith) c.loop-k.invariant.1.1.0
-    (sym c.fixes_top.ensures ∙ c.if-fixes_top.false)))
-
-pub overflow_add-k : goal.overflow_add-k
-overflow_add-k c = omega arith
-
-pub loop-k-smaller : goal.loop-k-smaller
-loop-k-smaller c = omega arith
+    c.requires.i_in_bounds.1.0 c.loop-k.k (omega arith) c.loop-k.invariant.1.1.0))
 
 pub loop-k-preserved : goal.loop-k-preserved
-loop-k-preserved c = let words = c.args.rows.now in
+loop-k-preserved c =
+    let words = c.args.rows.now in
     let rows = rows_of words in
     let tops = c.args.tops.now in
     let room = c.loop-k.room in
@@ -106,7 +76,7 @@ loop-k-preserved c = let words = c.args.rows.now in
     let put = free_put tops rows few i here room fits c.requires.i_in_bounds.1.0 k within c.loop-k.invariant.1.1.0 free in
     let last = c.put-in-loop-k.ensures ∙ (λ j. after_put room (sym (rows_many words) j) (c.wide.ensures j) i) in
     let kept = kept_less tops (length rows) (partly tops rows i k) (partly tops rows i (k + 1)) c.args.room.now room
-    (λ g h e. partly_more tops rows few i here room fits c.requires.i_in_bounds.1.0 k within c.loop-k.invariant.1.1.0 free g)
+    (λ g h e. partly_more tops rows few i here room fits c.requires.i_in_bounds.1.0 k within c.loop-k.invariant.1.1.0 g)
     c.loop-k.invariant.1.1.1 in (
       omega arith,
       (
@@ -122,7 +92,8 @@ pub shape_of-room : goal.shape_of-room
 shape_of-room c = c.loop-k.invariant.1.0
 
 pub returns : goal.returns
-returns c = let words = c.args.rows.now in
+returns c =
+    let words = c.args.rows.now in
     let rows = rows_of words in
     let tops = c.args.tops.now in
     let i = c.args.i in

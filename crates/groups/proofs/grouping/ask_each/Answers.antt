@@ -1,9 +1,7 @@
-use Prim.Native.Nat.{◌≤◌, ◌-◌}
 use mathlib.Core.Path.{◌≡◌, refl, sym, ◌∙◌}
 use native.Mathlib.Omega.{arith}
-use lib.ListN.{length, take}
+use lib.ListN.{length}
 use lib.Seq.{take-length, length-take-le}
-use Rattle.groups.specs.Asking.{Asking}
 use Rattle.groups.proofs.Asks.{asking_long, asking_one}
 use Rattle.groups.proofs.grouping.ask_each.Goals as goal
 
@@ -31,7 +29,7 @@ loop-i-preserved c = let keys = c.args.keys.now in
     let i = c.loop-i.i in
     let next =
     asking_one keys c.loop-i.marks c.loop-i.tops c.loop-i.count i c.loop-i.invariant.1.1 (omega arith)
-    (omega (arith, c.shared_slice_known-in-loop-i-1.given i))
+    (omega (arith, c.type_inv.keys i))
     (omega (arith, c.requires.0, c.loop-i.invariant.1.0)) in (
       omega arith,
       (

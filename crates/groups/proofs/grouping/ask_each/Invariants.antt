@@ -1,11 +1,8 @@
 -- `grouping::ask_each` meets its contract. The loop's invariant: the keys before the i-th have asked. The measure is what is left of the keys.
 use Prim.Native.Nat.{◌≤◌, ◌-◌}
-use mathlib.Core.Path.{◌≡◌, refl, sym, ◌∙◌}
-use native.Mathlib.Omega.{arith}
+use mathlib.Core.Path.{◌≡◌}
 use lib.ListN.{length, take}
-use lib.Seq.{take-length, length-take-le}
 use Rattle.groups.specs.Asking.{Asking}
-use Rattle.groups.proofs.Asks.{asking_long, asking_one}
 use Rattle.groups.proofs.grouping.ask_each.Given as goal
 
 abbrev pub invariant-loop-i : goal.invariant-loop-i

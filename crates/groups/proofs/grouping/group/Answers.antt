@@ -7,7 +7,6 @@ use Rattle.tables.proofs.RowsByNumber.{rows_many}
 use Rattle.groups.specs.Pays.{worth}
 use Rattle.groups.proofs.Sampling.{worth_few}
 use Rattle.groups.proofs.GroupsLeft.{not_worth, worth_it}
-use borrow.Author.Rules.{rules}
 use Rattle.groups.proofs.grouping.group.Goals as goal
 
 pub returns-then-not-worth : goal.returns-then-not-worth

@@ -6,7 +6,6 @@ use lib.Seq.{length-take-le}
 use Rattle.tables.specs.Rows.{rows_of}
 use Rattle.groups.proofs.Asks.{asking_none}
 use Rattle.groups.proofs.GroupsLeft.{left_by}
-use borrow.Author.Rules.{rules}
 use Rattle.groups.proofs.grouping.group_asked.Goals as goal
 
 pub ask_each-count-requires : goal.ask_each-count-requires

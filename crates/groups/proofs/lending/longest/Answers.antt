@@ -1,8 +1,6 @@
-use Prim.Native.Nat.{◌-◌, ◌≤◌}
 use mathlib.Core.Path.{◌≡◌, sym, ap, ap₂, ◌∙◌}
 use native.Mathlib.Omega.{arith}
 use native.Mathlib.Numerals.{add-one}
-use borrow.Author.Rules.{rules}
 use Rattle.groups.specs.Room.{larger, longest}
 use Rattle.groups.proofs.Longest.{longest_none, longest_next}
 use Rattle.groups.proofs.lending.longest.Goals as goal

@@ -1,11 +1,7 @@
 -- `lending::longest` meets its contract. The loop's invariant: the most rows of the chips before c are known.
 use Prim.Native.Nat.{◌-◌, ◌≤◌}
-use mathlib.Core.Path.{◌≡◌, sym, ap, ap₂, ◌∙◌}
-use native.Mathlib.Omega.{arith}
-use native.Mathlib.Numerals.{add-one}
-use borrow.Author.Rules.{rules}
-use Rattle.groups.specs.Room.{larger, longest}
-use Rattle.groups.proofs.Longest.{longest_none, longest_next}
+use mathlib.Core.Path.{◌≡◌}
+use Rattle.groups.specs.Room.{longest}
 use Rattle.groups.proofs.lending.longest.Given as goal
 
 abbrev pub invariant-loop-c : goal.invariant-loop-c

@@ -1,6 +1,5 @@
 use mathlib.Core.Path.{ap, ◌∙◌}
 use Rattle.groups.specs.Room.{room_short}
-use borrow.Author.Rules.{rules}
 use Rattle.groups.proofs.lending.room_short.Goals as goal
 
 pub returns-then-room-eq0 : goal.returns-then-room-eq0

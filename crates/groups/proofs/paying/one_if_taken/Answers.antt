@@ -1,7 +1,6 @@
 -- `paying::one_if_taken` meets its contract.
 use mathlib.Core.Path.{sym, ◌∙◌}
 use mathlib.Core.Bool.{true, false}
-use borrow.Author.Rules.{rules}
 use borrow.Author.Tests.{eq-eqb, ne_eqb}
 use Rattle.groups.proofs.Sampling.{taken_by_mark}
 use Rattle.groups.proofs.paying.one_if_taken.Goals as goal

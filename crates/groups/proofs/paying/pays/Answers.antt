@@ -8,7 +8,6 @@ use lib.ListN.{length}
 use Rattle.tables.specs.Rows.{rows_of}
 use Rattle.tables.proofs.RowsByNumber.{rows_many}
 use Rattle.groups.proofs.Sampling.{taken_few, none_spared}
-use borrow.Author.Rules.{rules}
 use Rattle.groups.proofs.paying.pays.Goals as goal
 
 pub overflow_mul-less : goal.overflow_mul-less

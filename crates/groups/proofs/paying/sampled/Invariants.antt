@@ -1,12 +1,9 @@
 -- `paying::sampled` meets its contract. The loop's invariant: those before the k-th are counted. The measure is what is left of them.
-use Prim.Native.Nat.{◌+◌, ◌≤◌, ◌/◌, ◌-◌}
-use mathlib.Core.Path.{◌≡◌, refl, sym, ap, ◌∙◌}
-use native.Mathlib.Omega.{arith}
+use Prim.Native.Nat.{◌≤◌, ◌/◌, ◌-◌}
+use mathlib.Core.Path.{◌≡◌}
 use lib.ListN.{length}
 use Rattle.tables.specs.Rows.{rows_of}
-use Rattle.tables.proofs.RowsByNumber.{rows_many}
 use Rattle.groups.specs.Pays.{taken_of}
-use Rattle.groups.proofs.Sampling.{taken_none, taken_next, taken_most}
 use Rattle.groups.proofs.paying.sampled.Given as goal
 
 abbrev pub invariant-loop-k : goal.invariant-loop-k

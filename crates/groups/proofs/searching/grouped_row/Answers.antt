@@ -11,7 +11,6 @@ use Rattle.tables.specs.Rows.{matches, rows_of, first_match}
 use Rattle.tables.proofs.RowsByNumber.{rows_many}
 use Rattle.groups.specs.Groups.{top_of, group_of, GroupedFor}
 use Rattle.groups.proofs.Blocks.{block_end}
-use Rattle.groups.proofs.InOrder.{from_most}
 use Rattle.groups.proofs.GroupWords.{begin_of, number_there, number_row, found_here, search_on, search_begins, search_ends}
 use Rattle.groups.proofs.searching.grouped_row.Goals as goal
 
@@ -41,13 +40,6 @@ overflow_add-end c = omega (arith, ends (length c.args.rows.now / 3) c.top_of-g.
 
 pub bounds-room-g : goal.bounds-room-g
 bounds-room-g c = omega (arith, c.top_of-g.ensures.1, (c.requires.1 (omega (arith, c.top_of-g.ensures))).long)
-
-pub overflow_add-end-2 : goal.overflow_add-end-2
-overflow_add-end-2 c =
-    let a = c.args in
-    let top = c.top_of-g in
-    let holds = c.requires.1 (omega (arith, top.ensures)) in
-    omega (arith, many a.rows.now a.room.now a.key top.result c.wide.result top.ensures.0 holds c.wide.ensures, rows_many a.rows.now, from_most (top_of a.key) 0 (rows_of a.rows.now), ends (length a.rows.now / 3) top.result c.requires.0 top.ensures.1)
 
 pub overflow_mul-k : goal.overflow_mul-k
 overflow_mul-k c = omega (arith, ends (length c.args.rows.now / 3) c.top_of-g.result c.requires.0 c.top_of-g.ensures.1)

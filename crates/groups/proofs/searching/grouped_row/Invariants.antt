@@ -1,17 +1,10 @@
 -- `searching::grouped_row` meets its contract. The loop's invariant: what is left of the group finds what the whole table finds. The measure is how much is left.
-use Prim.Native.Nat.{ℕ, suc, ◌+◌, ◌*◌, ◌<◌, ◌≤◌, ◌-◌, ◌/◌}
-use mathlib.Core.Path.{◌≡◌, sym, ap, ◌∙◌}
-use mathlib.Core.List.{List}
-use native.Mathlib.Omega.{arith}
-use borrow.Author.Tests.{lt-ltb, le-ltb}
-use lib.ListN.{length, get_or}
-use Rattle.tables.specs.declared.Found.TheVariants.{At}
-use Rattle.tables.specs.Rows.{matches, rows_of, first_match}
-use Rattle.tables.proofs.RowsByNumber.{rows_many}
+use Prim.Native.Nat.{◌+◌, ◌≤◌, ◌-◌}
+use mathlib.Core.Path.{◌≡◌}
+use lib.ListN.{length}
+use Rattle.tables.specs.Rows.{rows_of, first_match}
 use Rattle.groups.specs.Groups.{top_of, group_of, first_in}
-use Rattle.groups.proofs.Blocks.{block_end}
-use Rattle.groups.proofs.InOrder.{from_most}
-use Rattle.groups.proofs.GroupWords.{begin_of, left_at, number_there, number_row, found_here, search_on, search_begins, search_ends}
+use Rattle.groups.proofs.GroupWords.{begin_of, left_at}
 use Rattle.groups.proofs.searching.grouped_row.Given as goal
 
 abbrev pub invariant-loop-k : goal.invariant-loop-k

@@ -4,7 +4,6 @@ use mathlib.Core.Path.{sym, ap, ◌∙◌}
 use lib.Dec.{eqb}
 use Rattle.tables.proofs.RowsByNumber.{row_at}
 use Rattle.groups.specs.Groups.{fixes_top}
-use borrow.Author.Rules.{rules}
 use Rattle.groups.proofs.top.fixes_top.Goals as goal
 
 pub returns : goal.returns

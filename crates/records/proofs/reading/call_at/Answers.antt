@@ -19,14 +19,8 @@ chip_at-requires c = omega (arith, (fine_change c.args.trace.now c.requires.1 c.
 pub bounds-trace-6 : goal.bounds-trace-6
 bounds-trace-6 c = omega (arith, (fine_change c.args.trace.now c.requires.1 c.in-3.is).0, c.requires.0.whole)
 
-pub overflow_cast-trace : goal.overflow_cast-trace
-overflow_cast-trace c = omega (arith, c.shared_slice_known-in-3-1.given 6)
-
 pub bounds-trace-7 : goal.bounds-trace-7
 bounds-trace-7 c = omega (arith, (fine_change c.args.trace.now c.requires.1 c.in-3.is).0, c.requires.0.whole)
-
-pub overflow_cast-trace-in-3 : goal.overflow_cast-trace-in-3
-overflow_cast-trace-in-3 c = omega (arith, c.shared_slice_known-in-3-2-1.given 7)
 
 pub chip_at-requires-in_default : goal.chip_at-requires-in_default
 chip_at-requires-in_default c = omega (arith, (fine_read c.args.trace.now c.requires.1 c.in_default.in_default-own.rest.0.0.1 c.in_default.in_default-own.rest.0.1 c.in_default.in_default-own.rest.1).1, c.requires.0.whole)

@@ -1,13 +1,9 @@
 -- `growing::add_links` meets its contract. The loop's invariant: the tree with the whole part is this one with what is left of it; the chip is the one at x and y. The measure is what is left of the way.
-use Prim.Native.Nat.{◌+◌, ◌*◌, ◌-◌, ◌<◌}
-use mathlib.Core.Path.{◌≡◌, refl, sym, ◌∙◌}
-use native.Mathlib.Omega.{arith}
-use lib.ListN.{drop, length-set}
-use Rattle.tables.proofs.Sizes.{size, chips_small}
+use Prim.Native.Nat.{◌+◌, ◌*◌, ◌-◌}
+use mathlib.Core.Path.{◌≡◌}
+use lib.ListN.{drop}
 use Rattle.tree.specs.Growing.{added}
 use Rattle.tree.specs.Walking.{Stands, Marks, grown_of, links_by}
-use Rattle.tree.proofs.LinkByLink.{legs_in_order, legs_low, legs_links, one_added, all_added}
-use Rattle.tree.proofs.Standing.{chip_there, stands_next, leads_across}
 use Rattle.tree.proofs.growing.add_links.Given as goal
 
 abbrev pub invariant-loop-j : goal.invariant-loop-j

@@ -1,12 +1,10 @@
-use Prim.Native.Nat.{ℕ, ◌*◌, ◌-◌, ◌<◌}
-use mathlib.Core.Path.{◌≡◌, refl, sym, ap, ◌∙◌}
-use mathlib.Core.Bool.{true}
+use Prim.Native.Nat.{ℕ, ◌*◌, ◌<◌}
+use mathlib.Core.Path.{refl, sym, ap, ◌∙◌}
 use native.Mathlib.Omega.{arith}
 use lib.ListN.{length}
-use Rattle.tree.specs.Growing.{targets_of, grown_by, with_target, Grown}
-use Rattle.tree.specs.Call.{all_there, sets_fine}
-use Rattle.tree.specs.Walking.{Marks, grown_of, target_of}
-use Rattle.tree.proofs.TargetByTarget.{left, after, chip_here, there_chip, there_after, set_small, sets_after, grown_on, grown_end}
+use Rattle.tree.specs.Growing.{grown_by, with_target, Grown}
+use Rattle.tree.specs.Walking.{grown_of, target_of}
+use Rattle.tree.proofs.TargetByTarget.{after, chip_here, there_chip, there_after, set_small, sets_after, grown_on, grown_end}
 use Rattle.tree.proofs.growing.grow.Goals as goal
 
 pub count_of-count-requires : goal.count_of-count-requires
@@ -36,7 +34,7 @@ add_target-requires c = let at = c.loop-k in
     let here : at.k * 2 < length ws = omega (arith, c.count_of-count.ensures) in
     let chip = there_chip ws at.k (c.args.height * c.args.width) here at.invariant.1.0 in
     let set : c.set_at.result < 1048576 = omega (arith, c.set_at.ensures, set_small ws at.k here at.invariant.1.1.0) in
-    ((c.requires.height_value.0, (c.requires.height_value.1, (chip, set))), at.invariant.0)
+    record { height_value = (c.requires.height_value.0, (c.requires.height_value.1, (chip, set))); marks = at.invariant.0 }
 
 pub overflow_add-k : goal.overflow_add-k
 overflow_add-k c = omega (arith, c.count_of-count.ensures)

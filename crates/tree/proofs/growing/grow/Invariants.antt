@@ -1,13 +1,11 @@
 -- `growing::grow` meets its contract. The loop's invariant: the tree with all targets is this one with those from target k on, which are fine. The measure is what is left of the targets.
-use Prim.Native.Nat.{ℕ, ◌*◌, ◌-◌, ◌<◌}
-use mathlib.Core.Path.{◌≡◌, refl, sym, ap, ◌∙◌}
+use Prim.Native.Nat.{◌*◌, ◌-◌}
+use mathlib.Core.Path.{◌≡◌}
 use mathlib.Core.Bool.{true}
-use native.Mathlib.Omega.{arith}
-use lib.ListN.{length}
-use Rattle.tree.specs.Growing.{targets_of, grown_by, with_target, Grown}
+use Rattle.tree.specs.Growing.{targets_of, grown_by}
 use Rattle.tree.specs.Call.{all_there, sets_fine}
-use Rattle.tree.specs.Walking.{Marks, grown_of, target_of}
-use Rattle.tree.proofs.TargetByTarget.{left, after, chip_here, there_chip, there_after, set_small, sets_after, grown_on, grown_end}
+use Rattle.tree.specs.Walking.{Marks, grown_of}
+use Rattle.tree.proofs.TargetByTarget.{left}
 use Rattle.tree.proofs.growing.grow.Given as goal
 
 abbrev pub invariant-loop-k : goal.invariant-loop-k

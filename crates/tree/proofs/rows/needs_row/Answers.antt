@@ -1,6 +1,5 @@
 -- `rows::needs_row` meets its contract.
 use borrow.Author.Tests.{lt-ltb, le-ltb}
-use borrow.Author.Rules.{rules}
 use Rattle.tree.proofs.rows.needs_row.Goals as goal
 
 pub returns-then-entered-lt-SOURCE : goal.returns-then-entered-lt-SOURCE

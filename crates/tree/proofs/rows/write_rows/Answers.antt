@@ -1,4 +1,4 @@
-use Prim.Native.Nat.{ℕ, ◌+◌, ◌-◌, ◌≤◌}
+use Prim.Native.Nat.{ℕ, ◌+◌}
 use mathlib.Core.Path.{◌≡◌, refl, sym, ap, ◌∙◌}
 use mathlib.Core.List.{List, ◌++◌}
 use native.Mathlib.Omega.{arith}
@@ -48,8 +48,8 @@ loop-chip-preserved c = let at = c.loop-chip in
     let a = c.args in
     let t = grown_of a.entered.now a.routes.now in
     let row = c.write_row-count in
-    let count = row.ensures.0 ∙ ap (λ (n : ℕ). n + cond (has_row t at.chip) 1 0) at.invariant.1.0 ∙ sym (start_more t at.chip) in
-    let rows = row.ensures.1 ∙ (λ i. with_row a.key a.mask (entered_at t at.chip) (route_at t at.chip) (at.invariant.1.0 i) (at.invariant.1.1.1.0 i)) ∙ rows_more t a.key a.mask at.chip a.rows.now in
+    let count = row.ensures.value ∙ ap (λ (n : ℕ). n + cond (has_row t at.chip) 1 0) at.invariant.1.0 ∙ sym (start_more t at.chip) in
+    let rows = row.ensures.rows_after ∙ (λ i. with_row a.key a.mask (entered_at t at.chip) (route_at t at.chip) (at.invariant.1.0 i) (at.invariant.1.1.1.0 i)) ∙ rows_more t a.key a.mask at.chip a.rows.now in
     let starts = ap (λ (l : List ℕ). set l at.chip at.count) at.invariant.1.1.1.1.1 ∙ starts_more t at.chip a.starts.now at.count (omega (arith, c.requires.1.1, c.loop-chip-test.true)) at.invariant.1.0 in
     (omega (arith, c.loop-chip-test.true), (count, (c.rows-1.given ∙ at.invariant.1.1.0, (rows, (simp length-set at.invariant.1.1.1.1.0, starts)))))
 
@@ -77,4 +77,4 @@ returns c = let at = c.loop-chip in
     let count = at.invariant.1.0 ∙ ap (start_of t) all in
     let rows = at.invariant.1.1.1.0 ∙ ap (λ (n : ℕ). rows_below t a.key a.mask n ++ drop (length (rows_below t a.key a.mask n)) a.rows.now) all in
     let starts = ap (λ (l : List ℕ). set l a.all at.count) (at.invariant.1.1.1.1.1 ∙ ap (λ (n : ℕ). starts_below t n ++ drop n a.starts.now) all) ∙ starts_more t a.all a.starts.now at.count (omega (arith, c.requires.1.1)) count ∙ starts_whole t (a.all + 1) a.starts.now c.requires.1.1 in
-    (count, (rows, starts))
+    record { value = count; rows_after = rows; starts_after = starts }

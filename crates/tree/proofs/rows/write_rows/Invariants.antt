@@ -1,14 +1,10 @@
 -- `rows::write_rows` meets its contract. The loop's invariant: the rows and starts of the chips before this one are written, and what follows is as it was. The measure is what is left of the chips.
-use Prim.Native.Nat.{ℕ, ◌+◌, ◌-◌, ◌≤◌}
-use mathlib.Core.Path.{◌≡◌, refl, sym, ap, ◌∙◌}
-use mathlib.Core.List.{List, ◌++◌}
-use native.Mathlib.Omega.{arith}
-use mathlib.Core.Bool.{cond}
-use lib.ListN.{length, drop, set, length-set}
-use Rattle.lists.specs.Lists.{up_to}
-use Rattle.tree.specs.Rows.{entered_at, route_at, has_row, start_of, rows_below, starts_below}
-use Rattle.tree.specs.Walking.{grown_of, with_row}
-use Rattle.tree.proofs.RowByRow.{few_rows_lem, start_more, rows_more, starts_more, starts_whole}
+use Prim.Native.Nat.{◌-◌, ◌≤◌}
+use mathlib.Core.Path.{◌≡◌}
+use mathlib.Core.List.{◌++◌}
+use lib.ListN.{length, drop}
+use Rattle.tree.specs.Rows.{start_of, rows_below, starts_below}
+use Rattle.tree.specs.Walking.{grown_of}
 use Rattle.tree.proofs.rows.write_rows.Given as goal
 
 abbrev pub invariant-loop-chip : goal.invariant-loop-chip

@@ -1,9 +1,6 @@
-use Prim.Native.Nat.{◌-◌}
-use mathlib.Core.Path.{◌≡◌, refl, sym, ◌∙◌}
+use mathlib.Core.Path.{refl, sym, ◌∙◌}
 use native.Mathlib.Omega.{arith}
-use Rattle.tree.specs.Growing.{targets_of}
-use Rattle.tree.specs.Call.{all_there}
-use Rattle.tree.proofs.TargetByTarget.{left, there_on, there_not, there_end}
+use Rattle.tree.proofs.TargetByTarget.{there_on, there_not, there_end}
 use Rattle.tree.proofs.targets.all_there.Goals as goal
 
 pub count_of-count-requires : goal.count_of-count-requires

@@ -1,10 +1,9 @@
 -- `targets::all_there` meets its contract. The loop's invariant: whether all chips are there is whether those from target k on are. The measure is what is left of the targets.
 use Prim.Native.Nat.{◌-◌}
-use mathlib.Core.Path.{◌≡◌, refl, sym, ◌∙◌}
-use native.Mathlib.Omega.{arith}
+use mathlib.Core.Path.{◌≡◌}
 use Rattle.tree.specs.Growing.{targets_of}
 use Rattle.tree.specs.Call.{all_there}
-use Rattle.tree.proofs.TargetByTarget.{left, there_on, there_not, there_end}
+use Rattle.tree.proofs.TargetByTarget.{left}
 use Rattle.tree.proofs.targets.all_there.Given as goal
 
 abbrev pub invariant-loop-k : goal.invariant-loop-k

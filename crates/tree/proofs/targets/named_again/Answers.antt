@@ -1,12 +1,9 @@
-use Prim.Native.Nat.{◌*◌, ◌-◌, ◌<◌}
-use mathlib.Core.Path.{◌≡◌, refl, sym, ◌∙◌}
-use mathlib.Core.Bool.{true}
-use mathlib.Core.List.{[]}
+use Prim.Native.Nat.{◌*◌, ◌<◌}
+use mathlib.Core.Path.{refl, sym, ◌∙◌}
 use native.Mathlib.Omega.{arith}
 use lib.ListN.{length, length-set, get_or-replicate}
-use Rattle.tree.specs.Growing.{targets_of}
-use Rattle.tree.specs.Call.{all_there, is_in, named_again}
-use Rattle.tree.proofs.TargetByTarget.{chips_before, left, Named, there_chip, there_after, again_yes, again_on, again_end, named_more, one_is, one_is_not}
+use Rattle.tree.specs.Call.{is_in}
+use Rattle.tree.proofs.TargetByTarget.{chips_before, there_chip, there_after, again_yes, again_on, again_end, named_more, one_is, one_is_not}
 use Rattle.tree.proofs.targets.named_again.Goals as goal
 
 pub count_of-count-requires : goal.count_of-count-requires

@@ -1,14 +1,13 @@
 -- `targets::named_again` meets its contract. The loop's invariant: a chip has its mark exactly if it was named, and whether one is named again is whether one from target k on is. The measure is what is
 -- left of the targets.
-use Prim.Native.Nat.{◌*◌, ◌-◌, ◌<◌}
-use mathlib.Core.Path.{◌≡◌, refl, sym, ◌∙◌}
+use Prim.Native.Nat.{◌-◌}
+use mathlib.Core.Path.{◌≡◌}
 use mathlib.Core.Bool.{true}
 use mathlib.Core.List.{[]}
-use native.Mathlib.Omega.{arith}
-use lib.ListN.{length, length-set, get_or-replicate}
+use lib.ListN.{length}
 use Rattle.tree.specs.Growing.{targets_of}
-use Rattle.tree.specs.Call.{all_there, is_in, named_again}
-use Rattle.tree.proofs.TargetByTarget.{chips_before, left, Named, there_chip, there_after, again_yes, again_on, again_end, named_more, one_is, one_is_not}
+use Rattle.tree.specs.Call.{all_there, named_again}
+use Rattle.tree.proofs.TargetByTarget.{chips_before, left, Named}
 use Rattle.tree.proofs.targets.named_again.Given as goal
 
 abbrev pub invariant-loop-k : goal.invariant-loop-k

@@ -1,10 +1,7 @@
-use Prim.Native.Nat.{◌-◌}
-use mathlib.Core.Path.{◌≡◌, refl, sym, ap, ◌∙◌}
+use mathlib.Core.Path.{refl, sym, ap, ◌∙◌}
 use native.Mathlib.Omega.{arith}
-use borrow.Author.Tests.{not-true, not-false}
-use Rattle.tree.specs.Growing.{targets_of}
-use Rattle.tree.specs.Call.{set_fine, sets_fine}
-use Rattle.tree.proofs.TargetByTarget.{left, sets_on, sets_not, sets_end}
+use Rattle.tree.specs.Call.{set_fine}
+use Rattle.tree.proofs.TargetByTarget.{sets_on, sets_not, sets_end}
 use Rattle.tree.proofs.targets.sets_fine.Goals as goal
 
 pub count_of-count-requires : goal.count_of-count-requires

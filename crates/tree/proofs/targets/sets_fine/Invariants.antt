@@ -1,11 +1,9 @@
 -- `targets::sets_fine` meets its contract. The loop's invariant: whether all sets are fine is whether those from target k on are. The measure is what is left of the targets.
 use Prim.Native.Nat.{◌-◌}
-use mathlib.Core.Path.{◌≡◌, refl, sym, ap, ◌∙◌}
-use native.Mathlib.Omega.{arith}
-use borrow.Author.Tests.{not-true, not-false}
+use mathlib.Core.Path.{◌≡◌}
 use Rattle.tree.specs.Growing.{targets_of}
-use Rattle.tree.specs.Call.{set_fine, sets_fine}
-use Rattle.tree.proofs.TargetByTarget.{left, sets_on, sets_not, sets_end}
+use Rattle.tree.specs.Call.{sets_fine}
+use Rattle.tree.proofs.TargetByTarget.{left}
 use Rattle.tree.proofs.targets.sets_fine.Given as goal
 
 abbrev pub invariant-loop-k : goal.invariant-loop-k

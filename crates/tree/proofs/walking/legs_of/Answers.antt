@@ -6,7 +6,6 @@ use mathlib.Core.Bool.{not}
 use lib.IntN.{ℤ, nat_abs}
 use lib.Signed.{non_neg}
 use Rattle.tree.proofs.Signs.{read_small, both_back, both_on, back_on, on_back}
-use borrow.Author.Rules.{rules}
 use Rattle.tree.proofs.walking.legs_of.Goals as goal
 
 pub overflow_add-result : goal.overflow_add-result

@@ -7,7 +7,6 @@ use mir.Syntax.{w32, w64}
 use mir.Val.{Fits}
 use mir.ValLaws.{to_z-of_z}
 use Rattle.tree.proofs.Signs.{neg_size, negation_fits, negation_read, below_zero, negated_up, not_below, size_fits}
-use borrow.Author.Rules.{rules}
 use Rattle.tree.proofs.walking.magnitude.Goals as goal
 
 pub overflow_sub-result : goal.overflow_sub-result

@@ -1,7 +1,6 @@
 -- `ways::forward` meets its contract.
 use native.Mathlib.Omega.{arith}
 use native.Mathlib.Nat.{mod-lt}
-use borrow.Author.Rules.{rules}
 use Rattle.tree.proofs.ways.forward.Goals as goal
 
 pub returns : goal.returns

@@ -1,7 +1,6 @@
 -- `ways::negative` meets its contract.
 use lib.IntN.{pos}
 use Rattle.tree.proofs.Signs.{read_count, negation_fits, negation_read}
-use borrow.Author.Rules.{rules}
 use Rattle.tree.proofs.ways.negative.Goals as goal
 
 pub overflow_sub-result : goal.overflow_sub-result

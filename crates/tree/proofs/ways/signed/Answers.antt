@@ -1,6 +1,5 @@
 -- `ways::signed` meets its contract.
 use Rattle.tree.proofs.Signs.{read_count}
-use borrow.Author.Rules.{rules}
 use Rattle.tree.proofs.ways.signed.Goals as goal
 
 pub returns : goal.returns

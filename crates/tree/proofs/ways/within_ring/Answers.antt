@@ -1,7 +1,6 @@
 -- `ways::within_ring` meets its contract.
 use mathlib.Core.Path.{sym}
 use native.Mathlib.Nat.{mod-eq_of_lt}
-use borrow.Author.Rules.{rules}
 use Rattle.tree.proofs.ways.within_ring.Goals as goal
 
 pub returns-then-steps-size : goal.returns-then-steps-size

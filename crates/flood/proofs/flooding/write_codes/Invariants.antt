@@ -1,0 +1,17 @@
+use mathlib.Core.Path.{◌≡◌, ◌∙◌}
+use native.Mathlib.Omega.{arith}
+use native.Mathlib.Nat.{mod-lt}
+use Prim.Native.Nat.{ℕ, ◌*◌, ◌-◌, ◌/◌, ◌%◌, ◌≤◌, ◌<◌}
+use lib.ListN.{length, get_or}
+use Rattle.mesh.specs.Mesh.{Mesh}
+use Rattle.flood.specs.Codes.{code_of}
+use Rattle.flood.specs.Marks.{Around, code_on}
+use Rattle.flood.proofs.ChipAfterChip.{column_more, codes_whole, some_row}
+use Rattle.flood.proofs.Spreads.{codes_on}
+use Rattle.flood.proofs.flooding.write_codes.Given as goal
+
+abbrev pub invariant-loop-to : goal.invariant-loop-to
+invariant-loop-to l = (l.to ≤ l.all) × ((length l.codes ≡ l.all * l.all) × ((m : Mesh (Unit {0})) → Around m l.all l.around → (k : ℕ) → k < l.all * l.all → k % l.all < l.to → get_or l.codes k 0 ≡ code_of m (k / l.all) (k % l.all)))
+
+abbrev pub decreases-loop-to : goal.decreases-loop-to
+decreases-loop-to l = l.all - l.to

@@ -1,0 +1,13 @@
+use native.Mathlib.Omega.{arith}
+use native.Mathlib.Nat.{mul-le-mul}
+use Prim.Native.Nat.{ℕ, ◌+◌, ◌*◌, ◌-◌, ◌≤◌, ◌<◌}
+use mathlib.Core.Path.{◌≡◌}
+use Rattle.flood.specs.Marks.{code_on}
+use Rattle.flood.proofs.Columns.{SoFar, none_yet, one_more, whole_column, place_below}
+use Rattle.flood.proofs.flooding.write_to.Given as goal
+
+abbrev pub invariant-loop-from : goal.invariant-loop-from
+invariant-loop-from l = (l.from ≤ l.all) × SoFar l.all l.to l.from (code_on l.around l.marks) l.initial.codes l.codes
+
+abbrev pub decreases-loop-from : goal.decreases-loop-from
+decreases-loop-from l = l.all - l.from

@@ -1,0 +1,17 @@
+use mathlib.Core.Path.{◌≡◌, ◌∙◌}
+use Prim.Native.Nat.{◌-◌}
+use native.Mathlib.Omega.{arith}
+use lib.ListN.{length}
+use Rattle.mesh.specs.Lending.{tables_of}
+use Rattle.buffer.specs.Testing.{tested_of}
+use Rattle.trace.proofs.SoFar.{SoFar, begun, tested_still}
+use Rattle.trace.proofs.Replays.{log_kept, at_the_end, stopped_here, some_bytes, bytes_within, added_within, one_more}
+use Rattle.trace.proofs.RoomSoFar.{RoomSoFar, room_begun, room_at_the_end, room_stopped, room_more}
+use Rattle.trace.proofs.replaying.replay.Given as goal
+
+abbrev pub invariant-loop-at : goal.invariant-loop-at
+invariant-loop-at l = let t = tables_of l.rows l.starts l.codes l.fixed (length l.initial.room) in
+    ((l.tested ≡ tested_of l.initial.mesh t) × RoomSoFar t l.trace l.initial.mesh l.initial.log l.initial.room l.mesh l.log l.room l.at l.added) × SoFar t l.trace l.initial.mesh l.initial.log l.mesh l.log l.at l.added
+
+abbrev pub decreases-loop-at : goal.decreases-loop-at
+decreases-loop-at l = length l.trace - l.at
