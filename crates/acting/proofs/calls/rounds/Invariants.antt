@@ -1,5 +1,4 @@
 -- The loop of `rounds` counts the rounds that are left.
-use Rattle.std.proofs.Common.{rules}
 use Rattle.acting.proofs.calls.rounds.Given as goal
 
 abbrev pub decreases-loop-left : goal.decreases-loop-left

@@ -1,5 +1,4 @@
 -- The loop of `follow` counts the rounds that are left.
-use Rattle.std.proofs.Common.{rules}
 use Rattle.acting.proofs.following.follow.Given as goal
 
 abbrev pub decreases-loop-left : goal.decreases-loop-left

@@ -1,5 +1,4 @@
 -- The loop of `replay_trace` counts its turns down.
-use Rattle.std.proofs.Common.{rules}
 use Rattle.acting.proofs.replaying.replay_trace.Given as goal
 
 abbrev pub decreases-loop-turns : goal.decreases-loop-turns

@@ -1,5 +1,4 @@
 -- The loop of `run_file` counts its turns down.
-use Rattle.std.proofs.Common.{rules}
 use Rattle.acting.proofs.running.run_file.Given as goal
 
 abbrev pub decreases-loop-turns : goal.decreases-loop-turns
