@@ -1,6 +1,5 @@
 -- The loop of `show_packet` goes through the nine places of bytes.
 use Prim.Native.Nat.{◌-◌}
-use borrow.Author.Rules.{rules}
 use Rattle.lab.proofs.showing.show_packet.Given as goal
 
 abbrev pub decreases-loop-i : goal.decreases-loop-i

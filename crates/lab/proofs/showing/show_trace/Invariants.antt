@@ -1,5 +1,4 @@
 -- The loop of `show_trace` counts its turns down.
-use borrow.Author.Rules.{rules}
 use Rattle.lab.proofs.showing.show_trace.Given as goal
 
 abbrev pub decreases-loop-turns : goal.decreases-loop-turns
