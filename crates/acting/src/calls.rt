@@ -6,7 +6,6 @@ use buffer::looking::look_mesh;
 use buffer::moving::{inject, round};
 use kept::Registers;
 use kept::keeping::MOST_UNITS;
-use libc::STDOUT_FILENO;
 use mesh::Added;
 use packet::control::carries_of;
 use report::course::{Course, answered, answered_lent, going_on};
@@ -14,6 +13,8 @@ use report::telling::{place, small, tell_packet, text};
 use script::cells::between;
 use script::names::say_link;
 use sheet::board::{LOG, WORDS, x_of, y_of};
+use std::fs::File;
+use std::io;
 use std::num::wrapping_add_u64;
 
 // Room for the groups of 1,024 rows, which are a chip's most: 257 numbers and 256 for each row.
@@ -25,7 +26,9 @@ const MANY_PACKETS: u32 = 2048;
 
 // Injects the packet of so many bytes at a chip.
 pub fn send(
+    rt: &HostRuntime,
     before: Course,
+    trace: Option<&File>,
     chip: u32,
     bytes: [u8; 9],
     length: u32,
@@ -35,7 +38,7 @@ pub fn send(
     starts: &[u32],
     codes: &[u8],
     fixed: &[u32],
-) -> Course {
+) -> io::Result<Course> {
     let a = inject(
         mesh,
         log,
@@ -47,12 +50,12 @@ pub fn send(
         fixed,
         0,
     );
-    let mut c = answered_lent(before, a.refusal, a.place, rows, starts);
+    let mut c = answered_lent(rt, before, a.refusal, a.place, rows, starts)?;
     if a.refusal == 0 {
         c.injected = wrapping_add_u64(c.injected, 1);
     }
-    c = kept(c, a.refusal, injection(chip, bytes, length));
-    tell_deliveries(c, log, a.added, false)
+    c = kept(c, a.refusal, injection(chip, bytes, length), trace);
+    tell_deliveries(rt, c, log, a.added, false)
 }
 
 // The bytes of a packet, of the nine that it may have.
@@ -62,7 +65,9 @@ pub fn first_bytes(bytes: &[u8; 9], count: u32) -> &[u8] {
 
 // So many rounds, up to the first that is refused.
 pub fn rounds(
+    rt: &HostRuntime,
     before: Course,
+    trace: Option<&File>,
     count: u32,
     mesh: &mut [u32; WORDS],
     log: &mut [u32; LOG],
@@ -70,58 +75,62 @@ pub fn rounds(
     starts: &[u32],
     codes: &[u8],
     fixed: &[u32],
-) -> Course {
+) -> io::Result<Course> {
     let mut c = before;
     let mut left = count;
     while left > 0 {
-        c = one_round(c, mesh, log, rows, starts, codes, fixed);
+        c = one_round(rt, c, trace, mesh, log, rows, starts, codes, fixed)?;
         if c.refused != before.refused {
             break;
         }
         left -= 1;
     }
-    c
+    Ok(c)
 }
 
 // Rounds until nothing is in flight. No packet lives longer than twice the rounds in a phase and one more.
 pub fn until_quiet(
+    rt: &HostRuntime,
     before: Course,
+    trace: Option<&File>,
     mesh: &mut [u32; WORDS],
     log: &mut [u32; LOG],
     rows: &[u32],
     starts: &[u32],
     codes: &[u8],
     fixed: &[u32],
-) -> Course {
-    let c = rounds_until_quiet(before, mesh, log, rows, starts, codes, fixed);
+) -> io::Result<Course> {
+    let c = rounds_until_quiet(rt, before, trace, mesh, log, rows, starts, codes, fixed)?;
     if (c.refused == before.refused) & !is_quiet(mesh) {
-        text(b"packets are still in flight\n");
+        text(rt, b"packets are still in flight\n")?;
     }
-    c
+    Ok(c)
 }
 
 fn rounds_until_quiet(
+    rt: &HostRuntime,
     before: Course,
+    trace: Option<&File>,
     mesh: &mut [u32; WORDS],
     log: &mut [u32; LOG],
     rows: &[u32],
     starts: &[u32],
     codes: &[u8],
     fixed: &[u32],
-) -> Course {
+) -> io::Result<Course> {
     let mut c = before;
     let mut left = longest(before);
     while left > 0 {
         if is_quiet(mesh) {
             break;
         }
-        c = one_round(c, mesh, log, rows, starts, codes, fixed);
+        c = one_round(rt, c, trace, mesh, log, rows, starts, codes, fixed)?;
         if c.refused != before.refused {
             break;
         }
         left -= 1;
     }
-    c
+    Ok(c)
 }
 
 fn longest(c: Course) -> u64 {
@@ -168,94 +177,106 @@ fn round_in_room(
 }
 
 pub fn one_round(
+    rt: &HostRuntime,
     before: Course,
+    trace: Option<&File>,
     mesh: &mut [u32; WORDS],
     log: &mut [u32; LOG],
     rows: &[u32],
     starts: &[u32],
     codes: &[u8],
     fixed: &[u32],
-) -> Course {
+) -> io::Result<Course> {
     let a = lent_round(mesh, log, rows, starts, codes, fixed);
-    let mut c = answered_lent(going_on(before), a.refusal, a.place, rows, starts);
+    let mut c = answered_lent(rt, going_on(rt, before)?, a.refusal, a.place, rows, starts)?;
     if a.refusal == 0 {
         c.rounds = wrapping_add_u64(c.rounds, 1);
     }
-    c = kept(c, a.refusal, round_made());
-    tell_deliveries(c, log, a.added, true)
+    c = kept(c, a.refusal, round_made(), trace);
+    tell_deliveries(rt, c, log, a.added, true)
 }
 
 pub fn change_link(
+    rt: &HostRuntime,
     before: Course,
+    trace: Option<&File>,
     chip: u32,
     link: u32,
     up: bool,
     mesh: &mut [u32; WORDS],
-) -> Course {
+) -> io::Result<Course> {
     let refusal = set_link(mesh, chip, link, up);
-    let c = answered(before, refusal);
-    kept(c, refusal, link_change(chip, link, up))
+    let c = answered(rt, before, refusal)?;
+    Ok(kept(c, refusal, link_change(chip, link, up), trace))
 }
 
-pub fn registers(before: Course, chip: u32, mesh: &mut [u32; WORDS]) -> Course {
+pub fn registers(
+    rt: &HostRuntime,
+    before: Course,
+    trace: Option<&File>,
+    chip: u32,
+    mesh: &mut [u32; WORDS],
+) -> io::Result<Course> {
     let r = read_registers(mesh, chip);
-    let c = answered(before, r.refusal);
+    let c = answered(rt, before, r.refusal)?;
     if r.refusal == 0 {
         let b = c.board;
         let found = r.registers;
-        text(b"registers ");
-        place(x_of(b, chip), y_of(b, chip));
-        tell_registers(found);
+        text(rt, b"registers ")?;
+        place(rt, x_of(b, chip), y_of(b, chip))?;
+        tell_registers(rt, found)?;
     }
-    kept(c, r.refusal, registers_read(chip))
+    Ok(kept(c, r.refusal, registers_read(chip), trace))
 }
 
-fn tell_registers(r: Registers) {
+fn tell_registers(rt: &HostRuntime, r: Registers) -> io::Result<()> {
     if r.units == 0 {
-        text(b": empty\n");
-        return;
+        text(rt, b": empty\n")?;
+        return Ok(());
     }
-    text(b": dropped at link ");
-    say_link(STDOUT_FILENO, r.link);
+    text(rt, b": dropped at link ")?;
+    say_link(&mut rt.stdout(), r.link)?;
     if r.leg == 1 {
-        text(b" (second leg)");
+        text(rt, b" (second leg)")?;
     }
-    text(b" ");
-    tell_packet(r.control, r.word, r.payload, carries_of(r.control) == 1);
-    tell_source(r.source);
-    tell_phase(r.phase);
-    tell_units(r.units);
-    text(b"\n");
+    text(rt, b" ")?;
+    tell_packet(rt, r.control, r.word, r.payload, carries_of(r.control) == 1)?;
+    tell_source(rt, r.source)?;
+    tell_phase(rt, r.phase)?;
+    tell_units(rt, r.units)?;
+    text(rt, b"\n")
 }
 
-fn tell_source(source: u32) {
+fn tell_source(rt: &HostRuntime, source: u32) -> io::Result<()> {
     if source < 6 {
-        text(b", came in by link ");
-        say_link(STDOUT_FILENO, source);
+        text(rt, b", came in by link ")?;
+        say_link(&mut rt.stdout(), source)?;
     } else {
-        text(b", local");
+        text(rt, b", local")?;
     }
+    Ok(())
 }
 
-fn tell_phase(phase: u32) {
+fn tell_phase(rt: &HostRuntime, phase: u32) -> io::Result<()> {
     match phase {
-        0 => text(b", phase 00"),
-        1 => text(b", phase 01"),
-        2 => text(b", phase 10"),
-        _ => text(b", phase 11"),
+        0 => text(rt, b", phase 00"),
+        1 => text(rt, b", phase 01"),
+        2 => text(rt, b", phase 10"),
+        _ => text(rt, b", phase 11"),
     }
 }
 
 // The number stops at the most, and says no more from there on.
-fn tell_units(units: u32) {
-    text(b", ");
-    small(units);
+fn tell_units(rt: &HostRuntime, units: u32) -> io::Result<()> {
+    text(rt, b", ")?;
+    small(rt, units)?;
     if units == 1 {
-        text(b" unit");
+        text(rt, b" unit")?;
     } else {
-        text(b" units");
+        text(rt, b" units")?;
     }
     if units == MOST_UNITS {
-        text(b" or more");
+        text(rt, b" or more")?;
     }
+    Ok(())
 }

@@ -4,6 +4,7 @@ use report::course::Course;
 use report::telling::{number, place, small, tell_packet, text};
 use script::cells::word_at;
 use sheet::board::{LOG, x_of, y_of};
+use std::io;
 use std::num::wrapping_add_u64;
 
 // A log record.
@@ -18,22 +19,34 @@ struct Delivery {
 }
 
 // Tells all deliveries of a call. `came` says whether they came by a link, in a round.
-pub fn tell_deliveries(before: Course, log: &[u32; LOG], added: u32, came: bool) -> Course {
+pub fn tell_deliveries(
+    rt: &HostRuntime,
+    before: Course,
+    log: &[u32; LOG],
+    added: u32,
+    came: bool,
+) -> io::Result<Course> {
     let mut c = before;
     let mut i = 0;
     while i < added {
-        c = tell_one(c, log, i, came);
+        c = tell_one(rt, c, log, i, came)?;
         i += 1;
     }
-    c
+    Ok(c)
 }
 
-fn tell_one(before: Course, log: &[u32; LOG], i: u32, came: bool) -> Course {
+fn tell_one(
+    rt: &HostRuntime,
+    before: Course,
+    log: &[u32; LOG],
+    i: u32,
+    came: bool,
+) -> io::Result<Course> {
     let d = record_at(log, i);
-    tell_delivery(before, d);
+    tell_delivery(rt, before, d)?;
     let mut c = before;
     c.errors = wrapping_add_u64(c.errors, weight_in_error(d, came));
-    c
+    Ok(c)
 }
 
 fn record_at(log: &[u32; LOG], i: u32) -> Delivery {
@@ -48,18 +61,18 @@ fn record_at(log: &[u32; LOG], i: u32) -> Delivery {
     }
 }
 
-fn tell_delivery(c: Course, d: Delivery) {
+fn tell_delivery(rt: &HostRuntime, c: Course, d: Delivery) -> io::Result<()> {
     let b = c.board;
-    text(b"round ");
-    number(c.rounds);
-    text(b"  chip ");
-    place(x_of(b, d.chip), y_of(b, d.chip));
-    text(b" ");
-    tell_processors(d.processors);
-    text(b"  ");
-    tell_packet(d.control, d.word, d.payload, has_payload(d));
-    tell_errors(d.errors);
-    text(b"\n");
+    text(rt, b"round ")?;
+    number(rt, c.rounds)?;
+    text(rt, b"  chip ")?;
+    place(rt, x_of(b, d.chip), y_of(b, d.chip))?;
+    text(rt, b" ")?;
+    tell_processors(rt, d.processors)?;
+    text(rt, b"  ")?;
+    tell_packet(rt, d.control, d.word, d.payload, has_payload(d))?;
+    tell_errors(rt, d.errors)?;
+    text(rt, b"\n")
 }
 
 // A packet of nine bytes: bit 1 of its control byte says so, unless its length is in error.
@@ -83,43 +96,45 @@ fn weight_in_error(d: Delivery, came: bool) -> u64 {
     }
 }
 
-pub fn tell_processors(set: u32) {
+pub fn tell_processors(rt: &HostRuntime, set: u32) -> io::Result<()> {
     let mut k = 0;
     while k < 20 {
-        tell_processor(set, k);
+        tell_processor(rt, set, k)?;
         k += 1;
     }
+    Ok(())
 }
 
-fn tell_processor(set: u32, k: u32) {
+fn tell_processor(rt: &HostRuntime, set: u32, k: u32) -> io::Result<()> {
     if k < 32 {
         if (set >> k) & 1 == 1 {
-            text(b" p");
-            small(k);
+            text(rt, b" p")?;
+            small(rt, k)?;
         }
     }
+    Ok(())
 }
 
-pub fn tell_errors(errors: u32) {
+pub fn tell_errors(rt: &HostRuntime, errors: u32) -> io::Result<()> {
     if errors == 0 {
-        return;
+        return Ok(());
     }
-    text(b"  error: ");
-    tell_error(errors, 1, b"parity even");
-    tell_error(errors, 2, b"too old");
-    tell_error(errors, 4, b"wrong length");
-    tell_error(errors, 8, b"bad local");
+    text(rt, b"  error: ")?;
+    tell_error(rt, errors, 1, b"parity even")?;
+    tell_error(rt, errors, 2, b"too old")?;
+    tell_error(rt, errors, 4, b"wrong length")?;
+    tell_error(rt, errors, 8, b"bad local")
 }
 
 // One of the errors, behind a comma where a lower one stands before it.
-fn tell_error(errors: u32, flag: u32, name: &[u8]) {
+fn tell_error(rt: &HostRuntime, errors: u32, flag: u32, name: &[u8]) -> io::Result<()> {
     if errors & flag == 0 {
-        return;
+        return Ok(());
     }
     if flag > 0 {
         if errors & (flag - 1) != 0 {
-            text(b", ");
+            text(rt, b", ")?;
         }
     }
-    text(name);
+    text(rt, name)
 }

@@ -4,19 +4,25 @@ use report::course::{Course, answered};
 use report::telling::{number, place, text};
 use script::cells::{between, byte_at};
 use sheet::board::{Board, CODES, WORDS, chips, times, x_of, y_of};
+use std::io;
 use std::num::wrapping_add_u64;
 
 // The code that leads nowhere.
 const NOWHERE: u8 = 6;
 
-pub fn flooded(before: Course, mesh: &[u32; WORDS], codes: &mut [u8; CODES]) -> Course {
+pub fn flooded(
+    rt: &HostRuntime,
+    before: Course,
+    mesh: &[u32; WORDS],
+    codes: &mut [u8; CODES],
+) -> io::Result<Course> {
     let all = all_codes(before.board);
     let refusal = flood_first(mesh, codes, all);
-    let mut c = answered(before, refusal);
+    let mut c = answered(rt, before, refusal)?;
     if c.pairs {
-        c.unreached = wrapping_add_u64(c.unreached, tell_unreached(c, between(codes, 0, all)));
+        c.unreached = wrapping_add_u64(c.unreached, tell_unreached(rt, c, between(codes, 0, all))?);
     }
-    c
+    Ok(c)
 }
 
 // How many codes a mesh has.
@@ -33,34 +39,35 @@ fn flood_first(mesh: &[u32; WORDS], codes: &mut [u8], all: usize) -> u32 {
 }
 
 // How many pairs have no way. Where there are any, that is told, and the first.
-fn tell_unreached(c: Course, codes: &[u8]) -> u64 {
+fn tell_unreached(rt: &HostRuntime, c: Course, codes: &[u8]) -> io::Result<u64> {
     let n = unreached(codes);
     if n != 0 {
-        text(b"line ");
-        number(c.at);
-        text(b": flood: no way for ");
-        number(n);
-        text(b" pairs of chips, first from ");
-        tell_pair(c.board, first_unreached(codes));
-        text(b"\n");
+        text(rt, b"line ")?;
+        number(rt, c.at)?;
+        text(rt, b": flood: no way for ")?;
+        number(rt, n)?;
+        text(rt, b" pairs of chips, first from ")?;
+        tell_pair(rt, c.board, first_unreached(codes))?;
+        text(rt, b"\n")?;
     }
-    n
+    Ok(n)
 }
 
 // The chips that the code at a place is of and for.
-fn tell_pair(b: Board, at: usize) {
+fn tell_pair(rt: &HostRuntime, b: Board, at: usize) -> io::Result<()> {
     let all = chips(b);
     if all != 0 {
         if at < 20736 {
-            tell_place(b, at as u32 / all);
-            text(b" to ");
-            tell_place(b, at as u32 % all);
+            tell_place(rt, b, at as u32 / all)?;
+            text(rt, b" to ")?;
+            tell_place(rt, b, at as u32 % all)?;
         }
     }
+    Ok(())
 }
 
-fn tell_place(b: Board, chip: u32) {
-    place(x_of(b, chip), y_of(b, chip));
+fn tell_place(rt: &HostRuntime, b: Board, chip: u32) -> io::Result<()> {
+    place(rt, x_of(b, chip), y_of(b, chip))
 }
 
 fn unreached(codes: &[u8]) -> u64 {

@@ -9,10 +9,12 @@ use packet::bytes::bytes_of;
 use report::telling::{number, text};
 use sheet::board::{Board, LOG, WORDS, chips};
 use sheet::sides::{beyond, opposite};
+use std::io;
 use std::num::wrapping_add_u64;
 
 // Sends a packet from a chip, and tells each of its passes.
 pub fn follow_packet(
+    rt: &HostRuntime,
     b: Board,
     chip: u32,
     p: Packet,
@@ -22,10 +24,10 @@ pub fn follow_packet(
     starts: &[u32],
     codes: &[u8],
     fixed: &[u32],
-) {
+) -> io::Result<()> {
     let packed = bytes_of(p);
     let bytes = packed.bytes;
-    tell_pass(b, 0, chip, 7, p, 0, mesh, rows, starts, codes, fixed);
+    tell_pass(rt, b, 0, chip, 7, p, 0, mesh, rows, starts, codes, fixed)?;
     inject(
         mesh,
         log,
@@ -37,21 +39,24 @@ pub fn follow_packet(
         fixed,
         0,
     );
-    tell_end(follow(b, mesh, log, rows, starts, codes, fixed));
+    let rounds = follow(rt, b, mesh, log, rows, starts, codes, fixed)?;
+    tell_end(rt, rounds)
 }
 
-fn tell_end(rounds: u64) {
-    text(b"nothing is in flight after ");
-    number(rounds);
+fn tell_end(rt: &HostRuntime, rounds: u64) -> io::Result<()> {
+    text(rt, b"nothing is in flight after ")?;
+    number(rt, rounds)?;
     if rounds == 1 {
-        text(b" round\n");
+        text(rt, b" round\n")?;
     } else {
-        text(b" rounds\n");
+        text(rt, b" rounds\n")?;
     }
+    Ok(())
 }
 
 // Rounds until nothing is in flight: twice the rounds in a phase, and one more, are enough. Answers how many it took.
 fn follow(
+    rt: &HostRuntime,
     b: Board,
     mesh: &mut [u32; WORDS],
     log: &mut [u32; LOG],
@@ -59,7 +64,7 @@ fn follow(
     starts: &[u32],
     codes: &[u8],
     fixed: &[u32],
-) -> u64 {
+) -> io::Result<u64> {
     let mut number = 0;
     let mut left = b.phase as u64 * 2 + 1;
     while left > 0 {
@@ -67,14 +72,15 @@ fn follow(
             break;
         }
         number = wrapping_add_u64(number, 1);
-        tell_round(b, number, mesh, rows, starts, codes, fixed);
+        tell_round(rt, b, number, mesh, rows, starts, codes, fixed)?;
         lent_round(mesh, log, rows, starts, codes, fixed);
         left -= 1;
     }
-    number
+    Ok(number)
 }
 
 fn tell_round(
+    rt: &HostRuntime,
     b: Board,
     number: u64,
     mesh: &[u32; WORDS],
@@ -82,17 +88,19 @@ fn tell_round(
     starts: &[u32],
     codes: &[u8],
     fixed: &[u32],
-) {
+) -> io::Result<()> {
     let all = chips(b);
     let mut chip = 0;
     while chip < all {
-        tell_chip(b, number, chip, mesh, rows, starts, codes, fixed);
+        tell_chip(rt, b, number, chip, mesh, rows, starts, codes, fixed)?;
         chip += 1;
     }
+    Ok(())
 }
 
 // All that arrives at a chip: by arrival links 0 to 5, oldest first, eight packets a link at the most.
 fn tell_chip(
+    rt: &HostRuntime,
     b: Board,
     number: u64,
     chip: u32,
@@ -101,11 +109,12 @@ fn tell_chip(
     starts: &[u32],
     codes: &[u8],
     fixed: &[u32],
-) {
+) -> io::Result<()> {
     let mut spent = 0;
     let mut n = 0;
     while n < 48 {
         spent = tell_arrival(
+            rt,
             b,
             number,
             chip,
@@ -117,12 +126,14 @@ fn tell_chip(
             starts,
             codes,
             fixed,
-        );
+        )?;
         n += 1;
     }
+    Ok(())
 }
 
 fn tell_arrival(
+    rt: &HostRuntime,
     b: Board,
     number: u64,
     chip: u32,
@@ -134,14 +145,14 @@ fn tell_arrival(
     starts: &[u32],
     codes: &[u8],
     fixed: &[u32],
-) -> u32 {
+) -> io::Result<u32> {
     let f = flight_to(b, chip, source, place, mesh);
     if f.refusal != 0 {
-        return spent;
+        return Ok(spent);
     }
     let p = f.packet;
     tell_pass(
-        b, number, chip, source, p, spent, mesh, rows, starts, codes, fixed,
+        rt, b, number, chip, source, p, spent, mesh, rows, starts, codes, fixed,
     )
 }
 

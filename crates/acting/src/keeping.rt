@@ -3,30 +3,42 @@ use records::Call;
 use records::writing::write_record;
 use report::course::Course;
 use script::cells::between;
+use script::files::number_of;
+use std::fs::File;
+use std::io::Write;
 use steps::errors::flag_of;
 
 // A record is 15 bytes at the most.
 const ROOM: usize = 16;
 
 // Keeps a call that was accepted, where the run keeps a trace.
-pub fn kept(before: Course, refusal: u32, call: Call) -> Course {
-    if (refusal != 0) | (before.trace < 0) {
-        return before;
-    }
+pub fn kept(before: Course, refusal: u32, call: Call, trace: Option<&File>) -> Course {
     let mut c = before;
-    let mut room = [0u8; ROOM];
-    if !written(c.trace, call, &mut room) {
-        c.unkept = true;
+    if refusal != 0 {
+        return c;
+    }
+    if let Some(to) = trace {
+        let failure = written(to, call);
+        if let Err(number) = failure {
+            c.unkept = true;
+            c.failure = number;
+        }
     }
     c
 }
 
-fn written(fd: i32, call: Call, room: &mut [u8]) -> bool {
-    let w = write_record(room, call);
+// Answers the system's number for what failed, 0 where the record itself is refused.
+fn written(to: &File, call: Call) -> Result<(), i32> {
+    let mut room = [0u8; ROOM];
+    let w = write_record(&mut room, call);
     if w.refusal != 0 {
-        return false;
+        return Err(0);
     }
-    io::write_all(fd, between(room, 0, w.length))
+    let mut writer = to;
+    match writer.write_all(between(&room, 0, w.length)) {
+        Ok(()) => Ok(()),
+        Err(e) => Err(number_of(&e)),
+    }
 }
 
 pub fn injection(chip: u32, bytes: [u8; 9], length: u32) -> Call {

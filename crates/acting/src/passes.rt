@@ -3,7 +3,6 @@ use super::calls::first_bytes;
 use super::deliveries::{tell_errors, tell_processors};
 use super::spent::{after, has, ready_set};
 use buffer::looking::look_mesh;
-use libc::STDOUT_FILENO;
 use packet::Packet;
 use packet::bytes::bytes_of;
 use packet::control::{is_fixed, mark_of};
@@ -14,6 +13,7 @@ use script::cells::{between, word_at};
 use script::names::say_link;
 use sheet::board::{Board, WORDS, chips, times, x_of, y_of};
 use sheet::storing::rows_of;
+use std::io;
 use std::num::wrapping_add_usize;
 use steps::Setting;
 use tables::Found;
@@ -21,6 +21,7 @@ use tables::search::first_match;
 
 // Tells the pass of a packet at a chip, and answers what the chip has sent in this round after it.
 pub fn tell_pass(
+    rt: &HostRuntime,
     b: Board,
     round: u64,
     chip: u32,
@@ -32,7 +33,7 @@ pub fn tell_pass(
     starts: &[u32],
     codes: &[u8],
     fixed: &[u32],
-) -> u32 {
+) -> io::Result<u32> {
     let own = rows_of(chip, rows, starts);
     let o = pass_at(
         b,
@@ -45,10 +46,10 @@ pub fn tell_pass(
         codes,
         word_at(fixed, chip as usize),
     );
-    tell_place(b, round, chip, source);
-    tell_match(own, p, source, o.errors);
-    tell_outcome(o, mark_of(p.control));
-    after(spent, o.sent, o.leg_sent)
+    tell_place(rt, b, round, chip, source)?;
+    tell_match(rt, own, p, source, o.errors)?;
+    tell_outcome(rt, o, mark_of(p.control))?;
+    Ok(after(spent, o.sent, o.leg_sent))
 }
 
 // The pass as the one-router call makes it.
@@ -86,68 +87,76 @@ fn pass_at(
     )
 }
 
-fn tell_place(b: Board, round: u64, chip: u32, source: u32) {
-    text(b"round ");
-    number(round);
-    text(b"  chip ");
-    place(x_of(b, chip), y_of(b, chip));
+fn tell_place(rt: &HostRuntime, b: Board, round: u64, chip: u32, source: u32) -> io::Result<()> {
+    text(rt, b"round ")?;
+    number(rt, round)?;
+    text(rt, b"  chip ")?;
+    place(rt, x_of(b, chip), y_of(b, chip))?;
     if source < 6 {
-        text(b"  in by ");
-        say_link(STDOUT_FILENO, source);
+        text(rt, b"  in by ")?;
+        say_link(&mut rt.stdout(), source)?;
     } else {
-        text(b"  local");
+        text(rt, b"  local")?;
     }
+    Ok(())
 }
 
 // The row that takes the key, or what else decides. A packet in error asks no row, nor does one marked 10, nor a fixed-route packet.
-fn tell_match(rows: &[u32], p: Packet, source: u32, errors: u32) {
+fn tell_match(
+    rt: &HostRuntime,
+    rows: &[u32],
+    p: Packet,
+    source: u32,
+    errors: u32,
+) -> io::Result<()> {
     if errors != 0 {
-        tell_errors(errors);
-        return;
+        tell_errors(rt, errors)?;
+        return Ok(());
     }
     if mark_of(p.control) == 2 {
-        text(b"  on its detour");
-        return;
+        text(rt, b"  on its detour")?;
+        return Ok(());
     }
     if is_fixed(p.control) {
-        text(b"  fixed route");
-        return;
+        text(rt, b"  fixed route")?;
+        return Ok(());
     }
     match first_match(rows, p.word) {
-        Found::At(n) => tell_row(n),
-        Found::Nothing => tell_no_row(source),
+        Found::At(n) => tell_row(rt, n),
+        Found::Nothing => tell_no_row(rt, source),
     }
 }
 
-fn tell_row(n: usize) {
-    text(b"  row ");
-    number(n as u64);
+fn tell_row(rt: &HostRuntime, n: usize) -> io::Result<()> {
+    text(rt, b"  row ")?;
+    number(rt, n as u64)
 }
 
-fn tell_no_row(source: u32) {
+fn tell_no_row(rt: &HostRuntime, source: u32) -> io::Result<()> {
     if source < 6 {
-        text(b"  default");
+        text(rt, b"  default")?;
     } else {
-        text(b"  no row: to the monitor");
+        text(rt, b"  no row: to the monitor")?;
     }
+    Ok(())
 }
 
-fn tell_outcome(o: Pass, mark: u32) {
-    tell_sent(o);
+fn tell_outcome(rt: &HostRuntime, o: Pass, mark: u32) -> io::Result<()> {
+    tell_sent(rt, o)?;
     if o.leg_sent != 0 {
         let leg = o.leg;
-        tell_link(link_in(o.leg_sent), mark_of(leg.control));
+        tell_link(rt, link_in(o.leg_sent), mark_of(leg.control))?;
     }
-    tell_dropped(b"  dropped at", o.dropped);
-    tell_dropped(b"  second leg dropped at", o.leg_dropped);
+    tell_dropped(rt, b"  dropped at", o.dropped)?;
+    tell_dropped(rt, b"  second leg dropped at", o.leg_dropped)?;
     if is_swallowed(o, mark) {
-        text(b"  swallowed");
+        text(rt, b"  swallowed")?;
     }
     if o.processors != 0 {
-        text(b" ");
-        tell_processors(o.processors);
+        text(rt, b" ")?;
+        tell_processors(rt, o.processors)?;
     }
-    text(b"\n");
+    text(rt, b"\n")
 }
 
 // Whether the wanted set is swallowed. A packet in error has none, nor has one marked 10.
@@ -155,44 +164,46 @@ fn is_swallowed(o: Pass, mark: u32) -> bool {
     (o.errors == 0) & (mark != 2) & (o.wanted == 0)
 }
 
-fn tell_sent(o: Pass) {
+fn tell_sent(rt: &HostRuntime, o: Pass) -> io::Result<()> {
     let packets = o.packets;
     let set = o.sent;
     let mut i = 0;
     while i < 6 {
         let p = packets[i];
         if has(set, i as u32) {
-            tell_link(i as u32, mark_of(p.control));
+            tell_link(rt, i as u32, mark_of(p.control))?;
         }
         i += 1;
     }
+    Ok(())
 }
 
-fn tell_link(link: u32, mark: u32) {
-    text(b"  out by ");
-    say_link(STDOUT_FILENO, link);
+fn tell_link(rt: &HostRuntime, link: u32, mark: u32) -> io::Result<()> {
+    text(rt, b"  out by ")?;
+    say_link(&mut rt.stdout(), link)?;
     match mark {
-        0 => text(b": normal"),
-        1 => text(b": with a detour's copy"),
-        2 => text(b": detour"),
-        _ => text(b": second leg"),
+        0 => text(rt, b": normal"),
+        1 => text(rt, b": with a detour's copy"),
+        2 => text(rt, b": detour"),
+        _ => text(rt, b": second leg"),
     }
 }
 
-fn tell_dropped(name: &[u8], set: u32) {
+fn tell_dropped(rt: &HostRuntime, name: &[u8], set: u32) -> io::Result<()> {
     let mut i = 0;
     while i < 6 {
         if has(set, i) {
-            tell_lost(name, i);
+            tell_lost(rt, name, i)?;
         }
         i += 1;
     }
+    Ok(())
 }
 
-fn tell_lost(name: &[u8], link: u32) {
-    text(name);
-    text(b" ");
-    say_link(STDOUT_FILENO, link);
+fn tell_lost(rt: &HostRuntime, name: &[u8], link: u32) -> io::Result<()> {
+    text(rt, name)?;
+    text(rt, b" ")?;
+    say_link(&mut rt.stdout(), link)
 }
 
 // The link of a set of one.

@@ -10,6 +10,8 @@ use script::pieces::PIECE;
 use script::statements::{Statement, read_statement};
 use script::words::before_comment;
 use sheet::board::{CODES, LOG, WORDS, chip_at};
+use std::fs::File;
+use std::io;
 
 #[derive(Clone, Copy)]
 struct Run {
@@ -20,8 +22,10 @@ struct Run {
 
 // Makes the calls of FILE. What was read once is taken to be the same again.
 pub fn run_file(
-    fd: i32,
+    rt: &HostRuntime,
+    from: &File,
     before: Course,
+    trace: Option<&File>,
     mesh: &mut [u32; WORDS],
     log: &mut [u32; LOG],
     rows: &[u32],
@@ -30,21 +34,23 @@ pub fn run_file(
     fixed: &[u32],
     piece: &mut [u8; PIECE],
     line: &mut [u8; LINE],
-) -> Course {
-    let mut r = begun(fd, before);
+) -> io::Result<Course> {
+    let mut r = begun(before);
     let mut turns = u64::MAX;
     while turns > 0 {
         if !r.going {
             break;
         }
-        r = run_line(r, mesh, log, rows, starts, codes, fixed, piece, line);
+        r = run_line(
+            rt, r, from, trace, mesh, log, rows, starts, codes, fixed, piece, line,
+        )?;
         turns -= 1;
     }
-    r.course
+    Ok(r.course)
 }
 
-fn begun(fd: i32, course: Course) -> Run {
-    let lines = lines_of(fd);
+fn begun(course: Course) -> Run {
+    let lines = lines_of();
     Run {
         lines,
         course,
@@ -53,7 +59,10 @@ fn begun(fd: i32, course: Course) -> Run {
 }
 
 fn run_line(
+    rt: &HostRuntime,
     before: Run,
+    from: &File,
+    trace: Option<&File>,
     mesh: &mut [u32; WORDS],
     log: &mut [u32; LOG],
     rows: &[u32],
@@ -62,26 +71,28 @@ fn run_line(
     fixed: &[u32],
     piece: &mut [u8; PIECE],
     line: &mut [u8; LINE],
-) -> Run {
+) -> io::Result<Run> {
     let now = before.lines;
     let mut c = before.course;
-    let lines = next_line(now, piece, line);
+    let lines = next_line(now, from, piece, line);
     let going = lines.state == LINE_THERE;
     if going {
         c.at = lines.number;
         let s = read_statement(before_comment(between(line, 0, lines.length)));
-        c = called(c, s, mesh, log, rows, starts, codes, fixed);
+        c = called(rt, c, trace, s, mesh, log, rows, starts, codes, fixed)?;
     }
-    Run {
+    Ok(Run {
         lines,
         course: c,
         going,
-    }
+    })
 }
 
 // Makes the call that a statement asks for, if it asks for one.
 fn called(
+    rt: &HostRuntime,
     c: Course,
+    trace: Option<&File>,
     s: Statement,
     mesh: &mut [u32; WORDS],
     log: &mut [u32; LOG],
@@ -89,13 +100,15 @@ fn called(
     starts: &[u32],
     codes: &mut [u8; CODES],
     fixed: &[u32],
-) -> Course {
+) -> io::Result<Course> {
     if c.links {
-        return linked(c, s, mesh, codes);
+        return linked(rt, c, trace, s, mesh, codes);
     }
     match s {
         Statement::Send { x, y, packet } => sent(
+            rt,
             c,
+            trace,
             chip_at(c.board, x, y),
             packet,
             mesh,
@@ -106,7 +119,9 @@ fn called(
             fixed,
         ),
         Statement::Rounds(n) => calls::rounds(
+            rt,
             c,
+            trace,
             n,
             mesh,
             log,
@@ -116,7 +131,9 @@ fn called(
             fixed,
         ),
         Statement::UntilQuiet => calls::until_quiet(
+            rt,
             c,
+            trace,
             mesh,
             log,
             rows,
@@ -125,35 +142,54 @@ fn called(
             fixed,
         ),
         Statement::Link { x, y, link, up } => calls::change_link(
+            rt,
             c,
+            trace,
             chip_at(c.board, x, y),
             link,
             up,
             mesh,
         ),
-        Statement::Registers { x, y } => calls::registers(c, chip_at(c.board, x, y), mesh),
-        Statement::Flood => flooded(c, mesh, codes),
-        _ => c,
+        Statement::Registers { x, y } => calls::registers(
+            rt,
+            c,
+            trace,
+            chip_at(c.board, x, y),
+            mesh,
+        ),
+        Statement::Flood => flooded(rt, c, mesh, codes),
+        _ => Ok(c),
     }
 }
 
 // A link change or a flood alone, told where it is refused.
-fn linked(c: Course, s: Statement, mesh: &mut [u32; WORDS], codes: &mut [u8; CODES]) -> Course {
+fn linked(
+    rt: &HostRuntime,
+    c: Course,
+    trace: Option<&File>,
+    s: Statement,
+    mesh: &mut [u32; WORDS],
+    codes: &mut [u8; CODES],
+) -> io::Result<Course> {
     match s {
         Statement::Link { x, y, link, up } => calls::change_link(
+            rt,
             c,
+            trace,
             chip_at(c.board, x, y),
             link,
             up,
             mesh,
         ),
-        Statement::Flood => flooded(c, mesh, codes),
-        _ => c,
+        Statement::Flood => flooded(rt, c, mesh, codes),
+        _ => Ok(c),
     }
 }
 
 fn sent(
+    rt: &HostRuntime,
     c: Course,
+    trace: Option<&File>,
     chip: u32,
     p: Packet,
     mesh: &mut [u32; WORDS],
@@ -162,11 +198,13 @@ fn sent(
     starts: &[u32],
     codes: &[u8],
     fixed: &[u32],
-) -> Course {
+) -> io::Result<Course> {
     let packed = bytes_of(p);
     let bytes = packed.bytes;
     calls::send(
+        rt,
         c,
+        trace,
         chip,
         bytes,
         packed.length,

@@ -17,7 +17,6 @@ use Rattle.tables.specs.declared.Matched.{Matched}
 use Rattle.packet.specs.declared.Packet.{Packet}
 use Rattle.mesh.specs.Mesh.{Chip, fresh}
 use Rattle.links.specs.Offsets.{width_at, height_at, monitor_at, phase_at, chip_long, chip_place}
-use Rattle.links.specs.LinkWords.{still}
 use Rattle.links.specs.Link.{ready_links}
 use Rattle.buffer.specs.Layout.{chip_in, mesh_of, words_for, chips_of, words_of}
 use Rattle.mesh.specs.Lending.{Tables, tables_of, codes_at, tables_at}

@@ -1,5 +1,5 @@
 -- What a round sets aside: "all of it set aside first". A link's packets move to the places behind its own.
-use Rattle.std.specs.Prelude.{◌≡◌, ℕ, ◌*◌, ◌<◌, ◌≤◌, List, length, take, drop, set, slice_index, slice_set}
+use Rattle.std.specs.Prelude.{◌≡◌, ℕ, ◌*◌, ◌<◌, ◌≤◌, List, length, take, drop, slice_index, slice_set}
 use Rattle.std.proofs.Math.Seq.{paste}
 use Rattle.links.specs.Offsets.{header_long, state_at, held_at, places_at, place_long, aside_at, aside_places_at, chip_long, chip_place}
 use Rattle.links.specs.Words.{link_in, aside_in}

@@ -1,11 +1,12 @@
 // What stands at the end of a run: the chips that dropped, swallowed or missed, and the account over all chips.
 use buffer::looking::{look_flight, read_counter};
-use libc::STDOUT_FILENO;
 use packet::control::{is_marked, mark_of};
 use report::course::Course;
 use report::telling::{place, small, text};
 use script::say;
 use sheet::board::{WORDS, chips, x_of, y_of};
+use std::io;
+use std::io::Write;
 use std::num::{wrapping_add_u64, wrapping_sub_u64};
 
 pub const DELIVERED: u32 = 6;
@@ -25,38 +26,38 @@ pub struct Units {
     pub flying: u64,
 }
 
-pub fn tell_account(c: Course, mesh: &[u32; WORDS]) {
-    tell_all_losses(c, mesh);
-    say_account(STDOUT_FILENO, c, sum_units(c, mesh));
-    text(b"\n");
+pub fn tell_account(rt: &HostRuntime, c: Course, mesh: &[u32; WORDS]) -> io::Result<()> {
+    tell_all_losses(rt, c, mesh)?;
+    say_account(&mut rt.stdout(), c, sum_units(c, mesh))?;
+    text(rt, b"\n")
 }
 
 // The account in a line, without its end.
-pub fn say_account(fd: i32, c: Course, u: Units) {
+pub fn say_account<W: Write>(to: &mut W, c: Course, u: Units) -> io::Result<()> {
     let ends = wrapping_add_u64(
         wrapping_add_u64(u.delivered, c.errors),
         wrapping_add_u64(u.dropped, u.swallowed),
     );
     let all = wrapping_add_u64(ends, u.flying);
-    say::text(fd, b"account: ");
-    say::number(fd, c.injected);
-    say::text(fd, b" injected + ");
-    say::number(fd, wrapping_sub_u64(all, c.injected));
-    say::text(fd, b" branches = ");
-    say::number(fd, u.delivered);
-    say::text(fd, b" delivered + ");
-    say::number(fd, c.errors);
-    say::text(fd, b" in error + ");
-    say_rest(fd, u);
+    say::text(to, b"account: ")?;
+    say::number(to, c.injected)?;
+    say::text(to, b" injected + ")?;
+    say::number(to, wrapping_sub_u64(all, c.injected))?;
+    say::text(to, b" branches = ")?;
+    say::number(to, u.delivered)?;
+    say::text(to, b" delivered + ")?;
+    say::number(to, c.errors)?;
+    say::text(to, b" in error + ")?;
+    say_rest(to, u)
 }
 
-fn say_rest(fd: i32, u: Units) {
-    say::number(fd, u.dropped);
-    say::text(fd, b" dropped + ");
-    say::number(fd, u.swallowed);
-    say::text(fd, b" swallowed + ");
-    say::number(fd, u.flying);
-    say::text(fd, b" in flight");
+fn say_rest<W: Write>(to: &mut W, u: Units) -> io::Result<()> {
+    say::number(to, u.dropped)?;
+    say::text(to, b" dropped + ")?;
+    say::number(to, u.swallowed)?;
+    say::text(to, b" swallowed + ")?;
+    say::number(to, u.flying)?;
+    say::text(to, b" in flight")
 }
 
 pub fn sum_units(c: Course, mesh: &[u32; WORDS]) -> Units {
@@ -76,32 +77,33 @@ pub fn sum_units(c: Course, mesh: &[u32; WORDS]) -> Units {
 }
 
 // Each chip that lost something.
-fn tell_all_losses(c: Course, mesh: &[u32; WORDS]) {
+fn tell_all_losses(rt: &HostRuntime, c: Course, mesh: &[u32; WORDS]) -> io::Result<()> {
     let all = chips(c.board);
     let mut chip = 0;
     while chip < all {
-        tell_losses(c, mesh, chip);
+        tell_losses(rt, c, mesh, chip)?;
         chip += 1;
     }
+    Ok(())
 }
 
-fn tell_losses(c: Course, mesh: &[u32; WORDS], chip: u32) {
+fn tell_losses(rt: &HostRuntime, c: Course, mesh: &[u32; WORDS], chip: u32) -> io::Result<()> {
     let dropped = read_counter(mesh, chip, DROPPED).count;
     let swallowed = read_counter(mesh, chip, SWALLOWED).count;
     let missed = read_counter(mesh, chip, MISSED).count;
     if dropped | swallowed | missed == 0 {
-        return;
+        return Ok(());
     }
     let b = c.board;
-    text(b"chip ");
-    place(x_of(b, chip), y_of(b, chip));
-    text(b": dropped ");
-    small(dropped);
-    text(b", swallowed ");
-    small(swallowed);
-    text(b", local misses ");
-    small(missed);
-    text(b"\n");
+    text(rt, b"chip ")?;
+    place(rt, x_of(b, chip), y_of(b, chip))?;
+    text(rt, b": dropped ")?;
+    small(rt, dropped)?;
+    text(rt, b", swallowed ")?;
+    small(rt, swallowed)?;
+    text(rt, b", local misses ")?;
+    small(rt, missed)?;
+    text(rt, b"\n")
 }
 
 fn with_chip(u: Units, mesh: &[u32; WORDS], chip: u32) -> Units {

@@ -9,6 +9,8 @@ use report::course::Course;
 use script::say;
 use sheet::board::{Board, WORDS, chips, times, x_of, y_of};
 use sheet::sides::beyond;
+use std::fs::File;
+use std::io;
 use std::num::{wrapping_add_u32, wrapping_sub_u32};
 
 // From chip to chip, around all chips, and the least width of the legend.
@@ -30,18 +32,18 @@ const STUB: u32 = 60;
 
 const MIDST: u32 = 52;
 
-pub fn draw(fd: i32, c: Course, mesh: &[u32; WORDS]) {
+pub fn draw(to: &mut File, c: Course, mesh: &[u32; WORDS]) -> io::Result<()> {
     let b = c.board;
     let width = pitches(b.width);
     let below = pitches(b.height);
     svg::begin_picture(
-        fd,
+        to,
         wrapping_add_u32(width, left_of(b) * 2),
         wrapping_add_u32(below, 176),
-    );
-    draw_chips(fd, b, mesh);
-    draw_legend(fd, c, mesh, below);
-    svg::end_picture(fd);
+    )?;
+    draw_chips(to, b, mesh)?;
+    draw_legend(to, c, mesh, below)?;
+    svg::end_picture(to)
 }
 
 // What a narrow mesh leaves free on its left: the legend is wider.
@@ -63,92 +65,101 @@ fn pitches(n: u32) -> u32 {
     )
 }
 
-fn draw_chips(fd: i32, b: Board, mesh: &[u32; WORDS]) {
+fn draw_chips(to: &mut File, b: Board, mesh: &[u32; WORDS]) -> io::Result<()> {
     let all = chips(b);
     let mut chip = 0;
     while chip < all {
-        draw_chip(fd, b, mesh, chip);
+        draw_chip(to, b, mesh, chip)?;
         chip += 1;
     }
+    Ok(())
 }
 
-fn draw_chip(fd: i32, b: Board, mesh: &[u32; WORDS], chip: u32) {
+fn draw_chip(to: &mut File, b: Board, mesh: &[u32; WORDS], chip: u32) -> io::Result<()> {
     let x = wrapping_add_u32(middle(x_of(b, chip)), left_of(b));
     // North is up.
     let y = middle(wrapping_sub_u32(wrapping_sub_u32(b.height, 1), y_of(b, chip)));
-    draw_links(fd, b, mesh, chip, x, y);
-    draw_box(fd, b, mesh, chip, x, y);
-    draw_badges(fd, mesh, chip, wrapping_sub_u32(x, SIDE), y);
+    draw_links(to, b, mesh, chip, x, y)?;
+    draw_box(to, b, mesh, chip, x, y)?;
+    draw_badges(to, mesh, chip, wrapping_sub_u32(x, SIDE), y)
 }
 
 fn middle(n: u32) -> u32 {
     wrapping_add_u32(pitches(n), PITCH / 2 - EDGE)
 }
 
-fn draw_box(fd: i32, b: Board, mesh: &[u32; WORDS], chip: u32, x: u32, y: u32) {
+fn draw_box(
+    to: &mut File,
+    b: Board,
+    mesh: &[u32; WORDS],
+    chip: u32,
+    x: u32,
+    y: u32,
+) -> io::Result<()> {
     let delivered = counted(mesh, chip, DELIVERED);
     match delivered {
-        0 => draw_square(fd, b"s0", x, y),
-        1 => draw_square(fd, b"s1", x, y),
-        2..=9 => draw_square(fd, b"s2", x, y),
-        10..=99 => draw_square(fd, b"s3", x, y),
-        _ => draw_square(fd, b"s4", x, y),
+        0 => draw_square(to, b"s0", x, y)?,
+        1 => draw_square(to, b"s1", x, y)?,
+        2..=9 => draw_square(to, b"s2", x, y)?,
+        10..=99 => draw_square(to, b"s3", x, y)?,
+        _ => draw_square(to, b"s4", x, y)?,
     }
-    svg::begin_words(fd, b"name", x, wrapping_sub_u32(y, 20));
-    say::place(fd, x_of(b, chip), y_of(b, chip));
-    svg::end_words(fd);
+    svg::begin_words(to, b"name", x, wrapping_sub_u32(y, 20))?;
+    say::place(to, x_of(b, chip), y_of(b, chip))?;
+    svg::end_words(to)?;
     if delivered != 0 {
-        svg::begin_words(fd, b"count", x, wrapping_sub_u32(y, 3));
-        say_up_to(fd, delivered, 9999999);
-        svg::end_words(fd);
+        svg::begin_words(to, b"count", x, wrapping_sub_u32(y, 3))?;
+        say_up_to(to, delivered, 9999999)?;
+        svg::end_words(to)?;
     }
+    Ok(())
 }
 
-fn draw_square(fd: i32, class: &[u8], x: u32, y: u32) {
+fn draw_square(to: &mut File, class: &[u8], x: u32, y: u32) -> io::Result<()> {
     svg::rect(
-        fd,
+        to,
         class,
         wrapping_sub_u32(x, SIDE),
         wrapping_sub_u32(y, SIDE),
         SIDE * 2,
         SIDE * 2,
-    );
+    )
 }
 
 // What was lost at the chip whose left side and middle are given.
-fn draw_badges(fd: i32, mesh: &[u32; WORDS], chip: u32, x: u32, y: u32) {
+fn draw_badges(to: &mut File, mesh: &[u32; WORDS], chip: u32, x: u32, y: u32) -> io::Result<()> {
     draw_badge(
-        fd,
+        to,
         b"drop",
         counted(mesh, chip, DROPPED),
         x,
         wrapping_add_u32(y, 1),
-    );
+    )?;
     draw_badge(
-        fd,
+        to,
         b"swallow",
         counted(mesh, chip, SWALLOWED),
         x,
         wrapping_add_u32(y, 13),
-    );
-    draw_badge(fd, b"error", errors(mesh, chip), x, wrapping_add_u32(y, 25));
+    )?;
+    draw_badge(to, b"error", errors(mesh, chip), x, wrapping_add_u32(y, 25))
 }
 
-fn draw_badge(fd: i32, class: &[u8], count: u32, x: u32, y: u32) {
+fn draw_badge(to: &mut File, class: &[u8], count: u32, x: u32, y: u32) -> io::Result<()> {
     if count == 0 {
-        return;
+        return Ok(());
     }
-    svg::rect(fd, class, wrapping_add_u32(x, 3), y, SIDE * 2 - 6, 12);
+    svg::rect(to, class, wrapping_add_u32(x, 3), y, SIDE * 2 - 6, 12)?;
     svg::begin_words(
-        fd,
+        to,
         b"badge",
         wrapping_add_u32(x, SIDE),
         wrapping_add_u32(y, 10),
-    );
-    say::text(fd, class);
-    say::text(fd, b" ");
-    say_up_to(fd, count, 999);
-    svg::end_words(fd);
+    )?;
+    say::text(to, class)?;
+    say::text(to, b" ")?;
+    say_up_to(to, count, 999)?;
+    svg::end_words(to)
 }
 
 // How often the four errors were found.
@@ -164,89 +175,108 @@ fn counted(mesh: &[u32; WORDS], chip: u32, counter: u32) -> u32 {
 }
 
 // A number, or the most that is written and a plus.
-fn say_up_to(fd: i32, n: u32, most: u32) {
+fn say_up_to(to: &mut File, n: u32, most: u32) -> io::Result<()> {
     if n <= most {
-        say::small(fd, n);
+        say::small(to, n)?;
     } else {
-        say::small(fd, most);
-        say::text(fd, b"+");
+        say::small(to, most)?;
+        say::text(to, b"+")?;
     }
+    Ok(())
 }
 
-fn draw_links(fd: i32, b: Board, mesh: &[u32; WORDS], chip: u32, x: u32, y: u32) {
+fn draw_links(
+    to: &mut File,
+    b: Board,
+    mesh: &[u32; WORDS],
+    chip: u32,
+    x: u32,
+    y: u32,
+) -> io::Result<()> {
     let mut link = 0;
     while link < 6 {
-        draw_link(fd, b, mesh, chip, link, x, y);
+        draw_link(to, b, mesh, chip, link, x, y)?;
         link += 1;
     }
+    Ok(())
 }
 
-fn draw_link(fd: i32, b: Board, mesh: &[u32; WORDS], chip: u32, link: u32, x: u32, y: u32) {
+fn draw_link(
+    to: &mut File,
+    b: Board,
+    mesh: &[u32; WORDS],
+    chip: u32,
+    link: u32,
+    x: u32,
+    y: u32,
+) -> io::Result<()> {
     let l = look_link(mesh, chip, link);
     let round = leads_round(b, chip, link);
     let end = if round { STUB } else { FAR };
     if l.up == 0 {
-        draw_half(fd, b"down", link, x, y, end);
-        draw_held(fd, b"down dot", l.held, link, x, y);
+        draw_half(to, b"down", link, x, y, end)?;
+        draw_held(to, b"down dot", l.held, link, x, y)?;
     } else if l.held <= 6 {
-        draw_ready(fd, l.held, link, x, y, end);
+        draw_ready(to, l.held, link, x, y, end)?;
     } else {
-        draw_half(fd, b"full", link, x, y, end);
-        draw_held(fd, b"full dot", l.held, link, x, y);
+        draw_half(to, b"full", link, x, y, end)?;
+        draw_held(to, b"full dot", l.held, link, x, y)?;
     }
     if round {
-        let to = beyond(b, chip, link);
-        draw_name(fd, link, x_of(b, to), y_of(b, to), x, y);
+        let far = beyond(b, chip, link);
+        draw_name(to, link, x_of(b, far), y_of(b, far), x, y)?;
     }
+    Ok(())
 }
 
-fn draw_ready(fd: i32, held: u32, link: u32, x: u32, y: u32, end: u32) {
+fn draw_ready(to: &mut File, held: u32, link: u32, x: u32, y: u32, end: u32) -> io::Result<()> {
     if held == 0 {
-        draw_half(fd, b"up", link, x, y, end);
+        draw_half(to, b"up", link, x, y, end)?;
     } else {
-        draw_half(fd, b"holds", link, x, y, end);
-        draw_held(fd, b"holds dot", held, link, x, y);
+        draw_half(to, b"holds", link, x, y, end)?;
+        draw_held(to, b"holds dot", held, link, x, y)?;
     }
+    Ok(())
 }
 
-fn draw_half(fd: i32, class: &[u8], link: u32, x: u32, y: u32, end: u32) {
+fn draw_half(to: &mut File, class: &[u8], link: u32, x: u32, y: u32, end: u32) -> io::Result<()> {
     svg::line(
-        fd,
+        to,
         class,
         along_x(x, link, NEAR),
         along_y(y, link, NEAR),
         along_x(x, link, end),
         along_y(y, link, end),
-    );
+    )
 }
 
 // How many packets a link holds, if any.
-fn draw_held(fd: i32, class: &[u8], held: u32, link: u32, x: u32, y: u32) {
+fn draw_held(to: &mut File, class: &[u8], held: u32, link: u32, x: u32, y: u32) -> io::Result<()> {
     if held == 0 {
-        return;
+        return Ok(());
     }
     let at_x = along_x(x, link, MIDST);
     let at_y = along_y(y, link, MIDST);
-    svg::circle(fd, class, at_x, at_y, 9);
-    svg::begin_words(fd, b"held", at_x, wrapping_add_u32(at_y, 5));
-    say::small(fd, held);
-    svg::end_words(fd);
+    svg::circle(to, class, at_x, at_y, 9)?;
+    svg::begin_words(to, b"held", at_x, wrapping_add_u32(at_y, 5))?;
+    say::small(to, held)?;
+    svg::end_words(to)
 }
 
 // The chip that a link leads to round the edge, behind the end of its half-line.
-fn draw_name(fd: i32, link: u32, to_x: u32, to_y: u32, x: u32, y: u32) {
+fn draw_name(to: &mut File, link: u32, to_x: u32, to_y: u32, x: u32, y: u32) -> io::Result<()> {
     let at_x = along_x(x, link, STUB + 6);
     let at_y = along_y(y, link, STUB + 6);
     match link {
-        0 => svg::begin_words(fd, b"from", at_x, wrapping_add_u32(at_y, 4)),
-        1 => svg::begin_words(fd, b"from", at_x, at_y),
-        2 => svg::begin_words(fd, b"over", at_x, at_y),
-        3 => svg::begin_words(fd, b"to", at_x, wrapping_add_u32(at_y, 4)),
-        4 => svg::begin_words(fd, b"to", at_x, wrapping_add_u32(at_y, 9)),
-        _ => svg::begin_words(fd, b"over", at_x, wrapping_add_u32(at_y, 9)),
+        0 => svg::begin_words(to, b"from", at_x, wrapping_add_u32(at_y, 4))?,
+        1 => svg::begin_words(to, b"from", at_x, at_y)?,
+        2 => svg::begin_words(to, b"over", at_x, at_y)?,
+        3 => svg::begin_words(to, b"to", at_x, wrapping_add_u32(at_y, 4))?,
+        4 => svg::begin_words(to, b"to", at_x, wrapping_add_u32(at_y, 9))?,
+        _ => svg::begin_words(to, b"over", at_x, wrapping_add_u32(at_y, 9))?,
     }
-    say::place(fd, to_x, to_y);
-    svg::end_words(fd);
+    say::place(to, to_x, to_y)?;
+    svg::end_words(to)
 }
 
 fn leads_round(b: Board, chip: u32, link: u32) -> bool {

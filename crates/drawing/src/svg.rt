@@ -1,144 +1,153 @@
 // Parts of a picture in SVG 1.1. Places are whole numbers, counted from the upper left corner.
 use script::say::{small, text};
+use std::fs::File;
+use std::io;
 
-pub fn rect(fd: i32, class: &[u8], x: u32, y: u32, width: u32, height: u32) {
-    begin(fd, b"<rect class=\"", class);
-    number(fd, b" x=\"", x);
-    number(fd, b" y=\"", y);
-    number(fd, b" width=\"", width);
-    number(fd, b" height=\"", height);
-    text(fd, b"/>\n");
+pub fn rect(
+    to: &mut File,
+    class: &[u8],
+    x: u32,
+    y: u32,
+    width: u32,
+    height: u32,
+) -> io::Result<()> {
+    begin(to, b"<rect class=\"", class)?;
+    number(to, b" x=\"", x)?;
+    number(to, b" y=\"", y)?;
+    number(to, b" width=\"", width)?;
+    number(to, b" height=\"", height)?;
+    text(to, b"/>\n")
 }
 
-pub fn line(fd: i32, class: &[u8], x: u32, y: u32, to_x: u32, to_y: u32) {
-    begin(fd, b"<line class=\"", class);
-    number(fd, b" x1=\"", x);
-    number(fd, b" y1=\"", y);
-    number(fd, b" x2=\"", to_x);
-    number(fd, b" y2=\"", to_y);
-    text(fd, b"/>\n");
+pub fn line(to: &mut File, class: &[u8], x: u32, y: u32, to_x: u32, to_y: u32) -> io::Result<()> {
+    begin(to, b"<line class=\"", class)?;
+    number(to, b" x1=\"", x)?;
+    number(to, b" y1=\"", y)?;
+    number(to, b" x2=\"", to_x)?;
+    number(to, b" y2=\"", to_y)?;
+    text(to, b"/>\n")
 }
 
-pub fn circle(fd: i32, class: &[u8], x: u32, y: u32, radius: u32) {
-    begin(fd, b"<circle class=\"", class);
-    number(fd, b" cx=\"", x);
-    number(fd, b" cy=\"", y);
-    number(fd, b" r=\"", radius);
-    text(fd, b"/>\n");
+pub fn circle(to: &mut File, class: &[u8], x: u32, y: u32, radius: u32) -> io::Result<()> {
+    begin(to, b"<circle class=\"", class)?;
+    number(to, b" cx=\"", x)?;
+    number(to, b" cy=\"", y)?;
+    number(to, b" r=\"", radius)?;
+    text(to, b"/>\n")
 }
 
-pub fn words(fd: i32, class: &[u8], x: u32, y: u32, t: &[u8]) {
-    begin_words(fd, class, x, y);
-    text(fd, t);
-    end_words(fd);
+pub fn words(to: &mut File, class: &[u8], x: u32, y: u32, t: &[u8]) -> io::Result<()> {
+    begin_words(to, class, x, y)?;
+    text(to, t)?;
+    end_words(to)
 }
 
-pub fn begin_words(fd: i32, class: &[u8], x: u32, y: u32) {
-    begin(fd, b"<text class=\"", class);
-    number(fd, b" x=\"", x);
-    number(fd, b" y=\"", y);
-    text(fd, b">");
+pub fn begin_words(to: &mut File, class: &[u8], x: u32, y: u32) -> io::Result<()> {
+    begin(to, b"<text class=\"", class)?;
+    number(to, b" x=\"", x)?;
+    number(to, b" y=\"", y)?;
+    text(to, b">")
 }
 
-pub fn end_words(fd: i32) {
-    text(fd, b"</text>\n");
+pub fn end_words(to: &mut File) -> io::Result<()> {
+    text(to, b"</text>\n")
 }
 
 // A picture of a size, with the look of each class.
-pub fn begin_picture(fd: i32, width: u32, height: u32) {
-    text(fd, b"<?xml version=\"1.0\" encoding=\"UTF-8\"?>\n");
+pub fn begin_picture(to: &mut File, width: u32, height: u32) -> io::Result<()> {
+    text(to, b"<?xml version=\"1.0\" encoding=\"UTF-8\"?>\n")?;
     text(
-        fd,
+        to,
         b"<svg xmlns=\"http://www.w3.org/2000/svg\" version=\"1.1\"",
-    );
-    number(fd, b" width=\"", width);
-    number(fd, b" height=\"", height);
-    text(fd, b" viewBox=\"0 0 ");
-    small(fd, width);
-    number(fd, b" ", height);
-    text(fd, b">\n");
-    look(fd);
-    rect(fd, b"page", 0, 0, width, height);
+    )?;
+    number(to, b" width=\"", width)?;
+    number(to, b" height=\"", height)?;
+    text(to, b" viewBox=\"0 0 ")?;
+    small(to, width)?;
+    number(to, b" ", height)?;
+    text(to, b">\n")?;
+    look(to)?;
+    rect(to, b"page", 0, 0, width, height)
 }
 
-pub fn end_picture(fd: i32) {
-    text(fd, b"</svg>\n");
+pub fn end_picture(to: &mut File) -> io::Result<()> {
+    text(to, b"</svg>\n")
 }
 
-fn look(fd: i32) {
-    text(fd, b"<style type=\"text/css\">\n");
-    text(fd, b".page { fill: #ffffff }\n");
-    text(fd, b"text { font-family: sans-serif; fill: #1b2430 }\n");
-    look_of_chips(fd);
-    look_of_links(fd);
-    text(fd, b"</style>\n");
+fn look(to: &mut File) -> io::Result<()> {
+    text(to, b"<style type=\"text/css\">\n")?;
+    text(to, b".page { fill: #ffffff }\n")?;
+    text(to, b"text { font-family: sans-serif; fill: #1b2430 }\n")?;
+    look_of_chips(to)?;
+    look_of_links(to)?;
+    text(to, b"</style>\n")
 }
 
-fn look_of_chips(fd: i32) {
+fn look_of_chips(to: &mut File) -> io::Result<()> {
     text(
-        fd,
+        to,
         b".s0 { fill: #ffffff; stroke: #1b2430; stroke-width: 1.5 }\n",
-    );
+    )?;
     text(
-        fd,
+        to,
         b".s1 { fill: #e0f2e7; stroke: #1b2430; stroke-width: 1.5 }\n",
-    );
+    )?;
     text(
-        fd,
+        to,
         b".s2 { fill: #b3dec5; stroke: #1b2430; stroke-width: 1.5 }\n",
-    );
+    )?;
     text(
-        fd,
+        to,
         b".s3 { fill: #7cc69e; stroke: #1b2430; stroke-width: 1.5 }\n",
-    );
+    )?;
     text(
-        fd,
+        to,
         b".s4 { fill: #45a877; stroke: #1b2430; stroke-width: 1.5 }\n",
-    );
-    text(fd, b".drop { fill: #c62828 }\n");
-    text(fd, b".swallow { fill: #6a3fa0 }\n");
-    text(fd, b".error { fill: #9a5b00 }\n");
+    )?;
+    text(to, b".drop { fill: #c62828 }\n")?;
+    text(to, b".swallow { fill: #6a3fa0 }\n")?;
+    text(to, b".error { fill: #9a5b00 }\n")?;
     text(
-        fd,
+        to,
         b".name { font-size: 18px; font-weight: bold; text-anchor: middle }\n",
-    );
-    text(fd, b".count { font-size: 15px; text-anchor: middle }\n");
+    )?;
+    text(to, b".count { font-size: 15px; text-anchor: middle }\n")?;
     text(
-        fd,
+        to,
         b".badge { font-size: 11px; fill: #ffffff; text-anchor: middle }\n",
-    );
+    )
 }
 
-fn look_of_links(fd: i32) {
-    text(fd, b".up { stroke: #9aa5b1; stroke-width: 4 }\n");
-    text(fd, b".holds { stroke: #1f6fd0; stroke-width: 6 }\n");
-    text(fd, b".full { stroke: #e07b00; stroke-width: 8 }\n");
+fn look_of_links(to: &mut File) -> io::Result<()> {
+    text(to, b".up { stroke: #9aa5b1; stroke-width: 4 }\n")?;
+    text(to, b".holds { stroke: #1f6fd0; stroke-width: 6 }\n")?;
+    text(to, b".full { stroke: #e07b00; stroke-width: 8 }\n")?;
     text(
-        fd,
+        to,
         b".down { stroke: #c62828; stroke-width: 4; stroke-dasharray: 5 4 }\n",
-    );
-    text(fd, b".dot { fill: #ffffff; stroke-width: 2.5 }\n");
-    text(fd, b".held { font-size: 13px; text-anchor: middle }\n");
-    text(fd, b".from { font-size: 12px; fill: #55606e }\n");
+    )?;
+    text(to, b".dot { fill: #ffffff; stroke-width: 2.5 }\n")?;
+    text(to, b".held { font-size: 13px; text-anchor: middle }\n")?;
+    text(to, b".from { font-size: 12px; fill: #55606e }\n")?;
     text(
-        fd,
+        to,
         b".over { font-size: 12px; fill: #55606e; text-anchor: middle }\n",
-    );
+    )?;
     text(
-        fd,
+        to,
         b".to { font-size: 12px; fill: #55606e; text-anchor: end }\n",
-    );
-    text(fd, b".key { font-size: 13px }\n");
+    )?;
+    text(to, b".key { font-size: 13px }\n")
 }
 
-fn begin(fd: i32, element: &[u8], class: &[u8]) {
-    text(fd, element);
-    text(fd, class);
-    text(fd, b"\"");
+fn begin(to: &mut File, element: &[u8], class: &[u8]) -> io::Result<()> {
+    text(to, element)?;
+    text(to, class)?;
+    text(to, b"\"")
 }
 
-fn number(fd: i32, name: &[u8], n: u32) {
-    text(fd, name);
-    small(fd, n);
-    text(fd, b"\"");
+fn number(to: &mut File, name: &[u8], n: u32) -> io::Result<()> {
+    text(to, name)?;
+    small(to, n)?;
+    text(to, b"\"")
 }

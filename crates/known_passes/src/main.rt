@@ -4,19 +4,23 @@
 mod one_router;
 mod two_chips;
 
-use libc::STDOUT_FILENO;
+use std::io;
 
-fn main() {
-    say(b"13 ", one_router::case_13());
-    say(b"14 ", two_chips::case_14());
-    say(b"15 ", two_chips::link_fills() & one_router::rows_fit());
+fn main(rt: HostRuntime) -> io::Result<()> {
+    say(&rt, b"13 ", one_router::case_13())?;
+    say(&rt, b"14 ", two_chips::case_14())?;
+    say(
+        &rt,
+        b"15 ",
+        two_chips::link_fills() & one_router::rows_fit(),
+    )
 }
 
-fn say(number: &[u8], ok: bool) {
-    io::write_all(STDOUT_FILENO, number);
+fn say(rt: &HostRuntime, number: &[u8], ok: bool) -> io::Result<()> {
+    rt.write_all(number)?;
     if ok {
-        io::write_all(STDOUT_FILENO, b"ok\n");
+        rt.write_all(b"ok\n")
     } else {
-        io::write_all(STDOUT_FILENO, b"bad\n");
+        rt.write_all(b"bad\n")
     }
 }

@@ -9,9 +9,10 @@ mod showing;
 use script::lines::LINE;
 use script::pieces::PIECE;
 use sheet::board::{CHIPS, CODES, LOG, ROWS, STARTS, WORDS};
+use std::io;
 
 // All memory of the program stands here, but for the room that a round may be lent (`calls` of `acting`).
-fn main() {
+fn main(rt: HostRuntime) -> io::Result<()> {
     let mut rows = [0u32; ROWS];
     let mut starts = [0u32; STARTS];
     let mut codes = [6u8; CODES];
@@ -21,6 +22,7 @@ fn main() {
     let mut piece = [0u8; PIECE];
     let mut line = [0u8; LINE];
     commands::command(
+        &rt,
         &mut rows,
         &mut starts,
         &mut codes,
@@ -29,5 +31,5 @@ fn main() {
         &mut log,
         &mut piece,
         &mut line,
-    );
+    )
 }

@@ -1,5 +1,4 @@
 // A trace as lines that FILE could hold: kept again behind FILE's mesh and tables they give the same bytes.
-use libc::STDOUT_FILENO;
 use records::Call;
 use records::reading::read_record;
 use report::records::{RECORD, RECORD_THERE, Records, next_record, records_of};
@@ -8,6 +7,8 @@ use script::cells::between;
 use script::names::say_link;
 use script::pieces::{FAILED, PIECE};
 use script::say;
+use std::fs::File;
+use std::io;
 
 // As many rounds as a line takes are shown by one line.
 const MOST: u32 = 4294967295;
@@ -22,22 +23,22 @@ pub struct Show {
     pub going: bool,
 }
 
-pub fn show_trace(fd: i32, piece: &mut [u8; PIECE]) -> Show {
+pub fn show_trace(rt: &HostRuntime, from: &File, piece: &mut [u8; PIECE]) -> io::Result<Show> {
     let mut record = [0u8; RECORD];
-    let mut s = begun(fd);
+    let mut s = begun();
     let mut turns = u64::MAX;
     while turns > 0 {
         if !s.going {
             break;
         }
-        s = show_record(s, piece, &mut record);
+        s = show_record(rt, s, from, piece, &mut record)?;
         turns -= 1;
     }
-    shown_rounds(s)
+    shown_rounds(rt, s)
 }
 
-fn begun(fd: i32) -> Show {
-    let records = records_of(fd);
+fn begun() -> Show {
+    let records = records_of();
     Show {
         records,
         rounds: 0,
@@ -47,109 +48,117 @@ fn begun(fd: i32) -> Show {
     }
 }
 
-fn show_record(before: Show, piece: &mut [u8; PIECE], record: &mut [u8; RECORD]) -> Show {
+fn show_record(
+    rt: &HostRuntime,
+    before: Show,
+    from: &File,
+    piece: &mut [u8; PIECE],
+    record: &mut [u8; RECORD],
+) -> io::Result<Show> {
     let now = before.records;
-    let records = next_record(now, piece, record);
+    let records = next_record(now, from, piece, record);
     let mut s = before;
     s.records = records;
     s.unread = records.state == FAILED;
     s.going = records.state == RECORD_THERE;
     if s.going {
-        s = show_bytes(s, between(record, 0, records.length));
+        s = show_bytes(rt, s, between(record, 0, records.length))?;
     }
-    s
+    Ok(s)
 }
 
-fn show_bytes(before: Show, record: &[u8]) -> Show {
+fn show_bytes(rt: &HostRuntime, before: Show, record: &[u8]) -> io::Result<Show> {
     let r = read_record(record);
     if r.refusal == 0 {
         let call = r.call;
-        return show_call(before, call);
+        return show_call(rt, before, call);
     }
-    let mut s = shown_rounds(before);
+    let mut s = shown_rounds(rt, before)?;
     let records = s.records;
-    text(b"# ");
-    tell_refusal(records.at, true, r.refusal);
+    text(rt, b"# ")?;
+    tell_refusal(rt, records.at, true, r.refusal)?;
     s.refusal = r.refusal;
     s.going = false;
-    s
+    Ok(s)
 }
 
-fn show_call(before: Show, call: Call) -> Show {
+fn show_call(rt: &HostRuntime, before: Show, call: Call) -> io::Result<Show> {
     let kind = call.kind;
     if kind == 2 {
-        return with_round(before);
+        return with_round(rt, before);
     }
-    let s = shown_rounds(before);
+    let s = shown_rounds(rt, before)?;
     match kind {
-        1 => show_injection(call),
-        3 => show_link(call),
-        _ => show_chip(b"registers", call.chip),
+        1 => show_injection(rt, call)?,
+        3 => show_link(rt, call)?,
+        _ => show_chip(rt, b"registers", call.chip)?,
     }
-    text(b"\n");
-    s
+    text(rt, b"\n")?;
+    Ok(s)
 }
 
-fn with_round(before: Show) -> Show {
+fn with_round(rt: &HostRuntime, before: Show) -> io::Result<Show> {
     let mut s = before;
     if s.rounds == MOST {
-        s = shown_rounds(s);
+        s = shown_rounds(rt, s)?;
     }
     if s.rounds < MOST {
         s.rounds += 1;
     }
-    s
+    Ok(s)
 }
 
-fn shown_rounds(before: Show) -> Show {
+fn shown_rounds(rt: &HostRuntime, before: Show) -> io::Result<Show> {
     let mut s = before;
     if s.rounds != 0 {
-        text(b"rounds ");
-        small(s.rounds);
-        text(b"\n");
+        text(rt, b"rounds ")?;
+        small(rt, s.rounds)?;
+        text(rt, b"\n")?;
     }
     s.rounds = 0;
-    s
+    Ok(s)
 }
 
-fn show_injection(call: Call) {
+fn show_injection(rt: &HostRuntime, call: Call) -> io::Result<()> {
     let bytes = call.bytes;
-    show_chip(b"packet", call.chip);
-    show_packet(bytes, call.length);
+    show_chip(rt, b"packet", call.chip)?;
+    show_packet(rt, bytes, call.length)
 }
 
-fn show_packet(bytes: [u8; 9], length: u32) {
+fn show_packet(rt: &HostRuntime, bytes: [u8; 9], length: u32) -> io::Result<()> {
     let mut i = 0;
     while i < 9 {
         if i < length as usize {
-            show_byte(bytes[i]);
+            show_byte(rt, bytes[i])?;
         }
         i += 1;
     }
+    Ok(())
 }
 
-fn show_byte(b: u8) {
-    text(b" ");
-    say::byte(STDOUT_FILENO, b);
+fn show_byte(rt: &HostRuntime, b: u8) -> io::Result<()> {
+    text(rt, b" ")?;
+    say::byte(&mut rt.stdout(), b)
 }
 
 // A link that no chip has is shown as its number, though no line takes it.
-fn show_link(call: Call) {
+fn show_link(rt: &HostRuntime, call: Call) -> io::Result<()> {
     if call.up == 1 {
-        show_chip(b"up", call.chip);
+        show_chip(rt, b"up", call.chip)?;
     } else {
-        show_chip(b"down", call.chip);
+        show_chip(rt, b"down", call.chip)?;
     }
-    text(b" ");
+    text(rt, b" ")?;
     if call.link < 6 {
-        say_link(STDOUT_FILENO, call.link);
+        say_link(&mut rt.stdout(), call.link)?;
     } else {
-        small(call.link);
+        small(rt, call.link)?;
     }
+    Ok(())
 }
 
-fn show_chip(name: &[u8], chip: u32) {
-    text(name);
-    text(b" chip ");
-    number(chip as u64);
+fn show_chip(rt: &HostRuntime, name: &[u8], chip: u32) -> io::Result<()> {
+    text(rt, name)?;
+    text(rt, b" chip ")?;
+    number(rt, chip as u64)
 }

@@ -1,8 +1,8 @@
 -- What GrownTree assumes can be met: on a mesh of 2 by 1 with F = 1, a tree from chip 0 to processor 3 of chip 1, a packet with its key, and one round. All of it is computed.
 use mathlib.Core.Path.{◌≡◌, refl}
-use mathlib.Core.Bool.{true, false, false≢true}
+use mathlib.Core.Bool.{true, false≢true}
 use mathlib.Core.List.{List, [], ◌∷◌}
-use Prim.Native.Nat.{ℕ, zero, suc, ◌≤◌, ◌<◌}
+use Prim.Native.Nat.{ℕ, zero, suc, ◌<◌}
 use native.Mathlib.Omega.{arith}
 use lib.Count.{ones, ones_in}
 use lib.Dec.{lit≤}

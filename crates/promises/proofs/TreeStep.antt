@@ -1,6 +1,6 @@
 -- One pass by a grown tree in a mesh: of a copy of the injection, at a chip whose links are free. Each link of the chip's route then holds one copy and no other link of the chip does; all other links hold what they held; and the
 -- processors of the route have it.
-use Prim.Native.Nat.{ℕ, ◌+◌, ◌*◌, ◌/◌, ◌<◌}
+use Prim.Native.Nat.{ℕ, ◌*◌, ◌/◌, ◌<◌}
 use mathlib.Core.Path.{◌≡◌, refl, sym, ap, ◌∙◌, subst}
 use mathlib.Core.Bool.{Bool, true, false, cond, ◌&&◌}
 use mathlib.Core.List.{List, [], ◌∷◌, ◌++◌}

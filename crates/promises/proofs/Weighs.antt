@@ -20,7 +20,7 @@ use Rattle.kept.specs.Units.{weight, over_links, weight_sent}
 use Rattle.steps.proofs.Bounds.{outcome_sets}
 use Rattle.steps.proofs.SentPackets.{sent_marked, sent_plain, sent_leg, no_detour}
 use Rattle.steps.proofs.Sets.{has_none}
-use Rattle.links.specs.Link.{Flight, sent}
+use Rattle.links.specs.Link.{Flight}
 use Rattle.mesh.specs.Mesh.{Chip}
 use Rattle.mesh.specs.Steps.{chip_after}
 use Rattle.mesh.specs.Weights.{on_chip}

@@ -9,7 +9,7 @@ use Rattle.buffer.specs.Layout.{mesh_of}
 use Rattle.buffer.specs.Holding.{holds_mesh}
 use Rattle.records.specs.Traces.{trace_of}
 use Rattle.trace.specs.Replay.{replay_of, Replays, Replay, replaying, replayed_of}
-use Rattle.promises.specs.History.{Tag, State, begun, turned, tag_now, after}
+use Rattle.promises.specs.History.{Tag, State, begun, turned, tag_now}
 use native.Mathlib.Omega.{arith}
 use lib.Seq.{take_at}
 use Rattle.mesh.specs.Lending.{Tables}

@@ -3,42 +3,50 @@ use super::telling::{place, small, text};
 use script::cells::word_at;
 use sheet::board::{Board, bad_bit, x_of, y_of};
 use sheet::storing::word_of;
+use std::io;
 
 // Whether a refusal has a place.
 pub fn has_place(refusal: u32) -> bool {
     (refusal >= 15) & (refusal <= 18)
 }
 
-pub fn tell_place(b: Board, refusal: u32, at: u32, rows: &[u32], starts: &[u32]) {
+pub fn tell_place(
+    rt: &HostRuntime,
+    b: Board,
+    refusal: u32,
+    at: u32,
+    rows: &[u32],
+    starts: &[u32],
+) -> io::Result<()> {
     match refusal {
         15 => {
-            text(b"bad starts at position ");
-            small(at);
+            text(rt, b"bad starts at position ")?;
+            small(rt, at)?;
         }
         16 => {
-            tell_chip(b, at);
-            text(b": over 1,024 rows");
+            tell_chip(rt, b, at)?;
+            text(rt, b": over 1,024 rows")?;
         }
-        17 => tell_row(b, at, rows, starts),
+        17 => tell_row(rt, b, at, rows, starts)?,
         _ => {
-            text(b"fixed route of ");
-            tell_chip(b, at);
-            text(b": a bit above 25, or their number is wrong");
+            text(rt, b"fixed route of ")?;
+            tell_chip(rt, b, at)?;
+            text(rt, b": a bit above 25, or their number is wrong")?;
         }
     }
-    text(b"\n");
+    text(rt, b"\n")
 }
 
 // A row by its number over all chips: the chip that it belongs to, its number there, and the bit.
-fn tell_row(b: Board, at: u32, rows: &[u32], starts: &[u32]) {
+fn tell_row(rt: &HostRuntime, b: Board, at: u32, rows: &[u32], starts: &[u32]) -> io::Result<()> {
     let chip = chip_of(at, starts);
     let first = word_at(starts, chip as usize);
-    text(b"row ");
-    small(if first <= at { at - first } else { 0 });
-    text(b" of ");
-    tell_chip(b, chip);
-    text(b": route bit ");
-    small(bad_bit(word_at(rows, word_of(at as usize) + 2)));
+    text(rt, b"row ")?;
+    small(rt, if first <= at { at - first } else { 0 })?;
+    text(rt, b" of ")?;
+    tell_chip(rt, b, chip)?;
+    text(rt, b": route bit ")?;
+    small(rt, bad_bit(word_at(rows, word_of(at as usize) + 2)))
 }
 
 // The last chip whose rows start at or before a row.
@@ -54,7 +62,7 @@ fn chip_of(at: u32, starts: &[u32]) -> u32 {
     chip
 }
 
-fn tell_chip(b: Board, chip: u32) {
-    text(b"chip ");
-    place(x_of(b, chip), y_of(b, chip));
+fn tell_chip(rt: &HostRuntime, b: Board, chip: u32) -> io::Result<()> {
+    text(rt, b"chip ")?;
+    place(rt, x_of(b, chip), y_of(b, chip))
 }

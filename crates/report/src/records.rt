@@ -1,6 +1,7 @@
 // A trace, record by record: it is read in pieces, and one record is kept.
 use script::cells::{byte_at, put_byte, wide};
 use script::pieces::{Bytes, GOES_ON, OVER, PIECE, bytes_of, next_byte};
+use std::fs::File;
 use std::num::wrapping_add_u64;
 
 // Two bytes of length, and as many behind them as they can say.
@@ -18,8 +19,8 @@ pub struct Records {
     pub state: u32,
 }
 
-pub fn records_of(fd: i32) -> Records {
-    let bytes = bytes_of(fd);
+pub fn records_of() -> Records {
+    let bytes = bytes_of();
     Records {
         bytes,
         at: 0,
@@ -29,14 +30,19 @@ pub fn records_of(fd: i32) -> Records {
 }
 
 // The next record: as many bytes as it says that it has, or as are left of the trace.
-pub fn next_record(before: Records, piece: &mut [u8; PIECE], record: &mut [u8; RECORD]) -> Records {
+pub fn next_record(
+    before: Records,
+    from: &File,
+    piece: &mut [u8; PIECE],
+    record: &mut [u8; RECORD],
+) -> Records {
     let mut r = begun(before);
     let mut turns = u64::MAX;
     while turns > 0 {
         if r.state != GOES_ON {
             break;
         }
-        r = take_byte(r, piece, record);
+        r = take_byte(r, from, piece, record);
         turns -= 1;
     }
     r
@@ -50,14 +56,19 @@ fn begun(before: Records) -> Records {
     r
 }
 
-fn take_byte(before: Records, piece: &mut [u8; PIECE], record: &mut [u8; RECORD]) -> Records {
+fn take_byte(
+    before: Records,
+    from: &File,
+    piece: &mut [u8; PIECE],
+    record: &mut [u8; RECORD],
+) -> Records {
     let mut r = before;
     if whole(r.length, record) {
         r.state = RECORD_THERE;
         return r;
     }
     let now = r.bytes;
-    let bytes = next_byte(now, piece);
+    let bytes = next_byte(now, from, piece);
     r.bytes = bytes;
     if bytes.state != GOES_ON {
         return ended(r, bytes.state);

@@ -1,90 +1,97 @@
 // What is told of packets and refusals, on standard output.
-use libc::STDOUT_FILENO;
 use packet::control::kind_of;
 use script::say;
+use std::io;
 
-pub fn text(t: &[u8]) {
-    say::text(STDOUT_FILENO, t);
+pub fn text(rt: &HostRuntime, t: &[u8]) -> io::Result<()> {
+    say::text(&mut rt.stdout(), t)
 }
 
-pub fn number(n: u64) {
-    say::number(STDOUT_FILENO, n);
+pub fn number(rt: &HostRuntime, n: u64) -> io::Result<()> {
+    say::number(&mut rt.stdout(), n)
 }
 
-pub fn small(n: u32) {
-    say::small(STDOUT_FILENO, n);
+pub fn small(rt: &HostRuntime, n: u32) -> io::Result<()> {
+    say::small(&mut rt.stdout(), n)
 }
 
-pub fn place(x: u32, y: u32) {
-    say::place(STDOUT_FILENO, x, y);
+pub fn place(rt: &HostRuntime, x: u32, y: u32) -> io::Result<()> {
+    say::place(&mut rt.stdout(), x, y)
 }
 
 // A packet: its type, its key, IDs or word, and its payload if it has one.
-pub fn tell_packet(control: u32, word: u32, payload: u32, nine: bool) {
+pub fn tell_packet(
+    rt: &HostRuntime,
+    control: u32,
+    word: u32,
+    payload: u32,
+    nine: bool,
+) -> io::Result<()> {
     let kind = kind_of(control);
     match kind {
-        0 => tell_word(b"mc key ", word),
-        1 => tell_ids(word),
-        2 => tell_word(b"nn word ", word),
-        _ => tell_word(b"fixed key ", word),
+        0 => tell_word(rt, b"mc key ", word)?,
+        1 => tell_ids(rt, word)?,
+        2 => tell_word(rt, b"nn word ", word)?,
+        _ => tell_word(rt, b"fixed key ", word)?,
     }
     if nine {
-        tell_word(b" payload ", payload);
+        tell_word(rt, b" payload ", payload)?;
     }
+    Ok(())
 }
 
-fn tell_word(name: &[u8], word: u32) {
-    text(name);
-    say::hex(STDOUT_FILENO, word);
+fn tell_word(rt: &HostRuntime, name: &[u8], word: u32) -> io::Result<()> {
+    text(rt, name)?;
+    say::hex(&mut rt.stdout(), word)
 }
 
-fn tell_ids(word: u32) {
-    text(b"p2p from ");
-    place(word >> 24, (word >> 16) & 255);
-    text(b" to ");
-    place((word >> 8) & 255, word & 255);
+fn tell_ids(rt: &HostRuntime, word: u32) -> io::Result<()> {
+    text(rt, b"p2p from ")?;
+    place(rt, word >> 24, (word >> 16) & 255)?;
+    text(rt, b" to ")?;
+    place(rt, (word >> 8) & 255, word & 255)
 }
 
 // A refused call: its line or its record's first byte, the number, and the number in words.
-pub fn tell_refusal(at: u64, replayed: bool, refusal: u32) {
-    begin_refusal(at, replayed, refusal);
-    tell_reason(refusal);
-    text(b"\n");
+pub fn tell_refusal(rt: &HostRuntime, at: u64, replayed: bool, refusal: u32) -> io::Result<()> {
+    begin_refusal(rt, at, replayed, refusal)?;
+    tell_reason(rt, refusal)?;
+    text(rt, b"\n")
 }
 
 // Its line or byte and its number alone.
-pub fn begin_refusal(at: u64, replayed: bool, refusal: u32) {
+pub fn begin_refusal(rt: &HostRuntime, at: u64, replayed: bool, refusal: u32) -> io::Result<()> {
     if replayed {
-        text(b"record at byte ");
+        text(rt, b"record at byte ")?;
     } else {
-        text(b"line ");
+        text(rt, b"line ")?;
     }
-    number(at);
-    text(b": refused ");
-    small(refusal);
-    text(b": ");
+    number(rt, at)?;
+    text(rt, b": refused ")?;
+    small(rt, refusal)?;
+    text(rt, b": ")
 }
 
-pub fn tell_reason(refusal: u32) {
+pub fn tell_reason(rt: &HostRuntime, refusal: u32) -> io::Result<()> {
     match refusal {
-        2 => text(b"the packet's length is not 5 or 9"),
-        4 => text(b"an NN packet with T = 1"),
-        6 => text(b"a monitor above 19"),
-        7 => text(b"width, height or rounds in a phase out of range"),
-        8 => text(b"no mesh in the buffer"),
-        9 => text(b"no such chip, link or counter"),
-        10 => text(b"the log is too short"),
-        11 => text(b"codes of wrong number, or a code above 7"),
-        _ => tell_reason_of_trace(refusal),
+        2 => text(rt, b"the packet's length is not 5 or 9"),
+        4 => text(rt, b"an NN packet with T = 1"),
+        6 => text(rt, b"a monitor above 19"),
+        7 => text(rt, b"width, height or rounds in a phase out of range"),
+        8 => text(rt, b"no mesh in the buffer"),
+        9 => text(rt, b"no such chip, link or counter"),
+        10 => text(rt, b"the log is too short"),
+        11 => text(rt, b"codes of wrong number, or a code above 7"),
+        _ => tell_reason_of_trace(rt, refusal),
     }
 }
 
-fn tell_reason_of_trace(refusal: u32) {
+fn tell_reason_of_trace(rt: &HostRuntime, refusal: u32) -> io::Result<()> {
     match refusal {
-        12 => text(b"the record is cut short"),
-        13 => text(b"the record's version is not 1"),
-        14 => text(b"the record's kind, length or link state is none"),
-        27 => text(b"no room for the record"),
-        _ => text(b"of another kind"),
+        12 => text(rt, b"the record is cut short"),
+        13 => text(rt, b"the record's version is not 1"),
+        14 => text(rt, b"the record's kind, length or link state is none"),
+        27 => text(rt, b"no room for the record"),
+        _ => text(rt, b"of another kind"),
     }
 }

@@ -3,6 +3,7 @@
 
 pub mod cells;
 pub mod complaints;
+pub mod files;
 pub mod lines;
 pub mod names;
 pub mod numbers;

@@ -1,6 +1,7 @@
 // A file, line by line: of a line the first 4,096 bytes are kept.
 use super::cells::put_byte;
 use super::pieces::{Bytes, FAILED, GOES_ON, PIECE, bytes_of, next_byte};
+use std::fs::File;
 use std::num::wrapping_add_u64;
 
 pub const LINE: usize = 4096;
@@ -18,8 +19,8 @@ pub struct Lines {
     pub state: u32,
 }
 
-pub fn lines_of(fd: i32) -> Lines {
-    let bytes = bytes_of(fd);
+pub fn lines_of() -> Lines {
+    let bytes = bytes_of();
     Lines {
         bytes,
         number: 0,
@@ -30,14 +31,19 @@ pub fn lines_of(fd: i32) -> Lines {
 }
 
 // The next line, without its LF. Nothing says that a file ends: the turns are counted down from a number that no file uses up.
-pub fn next_line(before: Lines, piece: &mut [u8; PIECE], line: &mut [u8; LINE]) -> Lines {
+pub fn next_line(
+    before: Lines,
+    from: &File,
+    piece: &mut [u8; PIECE],
+    line: &mut [u8; LINE],
+) -> Lines {
     let mut l = begun(before);
     let mut turns = u64::MAX;
     while turns > 0 {
         if l.state != GOES_ON {
             break;
         }
-        l = take_byte(l, piece, line);
+        l = take_byte(l, from, piece, line);
         turns -= 1;
     }
     l
@@ -52,9 +58,9 @@ fn begun(before: Lines) -> Lines {
     l
 }
 
-fn take_byte(before: Lines, piece: &mut [u8; PIECE], line: &mut [u8; LINE]) -> Lines {
+fn take_byte(before: Lines, from: &File, piece: &mut [u8; PIECE], line: &mut [u8; LINE]) -> Lines {
     let now = before.bytes;
-    let bytes = next_byte(now, piece);
+    let bytes = next_byte(now, from, piece);
     let mut l = before;
     l.bytes = bytes;
     if bytes.state == GOES_ON {

@@ -5,6 +5,8 @@ ghost use Rattle.script.specs.Names.{link_named, link_of_letter, link_of_letters
 use super::cells::byte_at;
 use super::say::text;
 use super::words::same;
+use std::io;
+use std::io::Write;
 
 // The link that a word names, in letters of either case or as a number: 6 for any other word.
 pub fn link_named(w: &[u8]) -> u32
@@ -31,14 +33,14 @@ pub fn code_named(w: &[u8], six: &[u8], seven: &[u8]) -> u32 {
     if link < 6 { link } else { 8 }
 }
 
-pub fn say_link(fd: i32, link: u32) {
+pub fn say_link<W: Write>(to: &mut W, link: u32) -> io::Result<()> {
     match link {
-        0 => text(fd, b"E"),
-        1 => text(fd, b"NE"),
-        2 => text(fd, b"N"),
-        3 => text(fd, b"W"),
-        4 => text(fd, b"SW"),
-        _ => text(fd, b"S"),
+        0 => text(to, b"E"),
+        1 => text(to, b"NE"),
+        2 => text(to, b"N"),
+        3 => text(to, b"W"),
+        4 => text(to, b"SW"),
+        _ => text(to, b"S"),
     }
 }
 

@@ -1,31 +1,32 @@
 // What is written: texts and numbers.
+use std::io;
+use std::io::Write;
 
-pub fn text(fd: i32, t: &[u8]) {
-    io::write_all(fd, t);
+pub fn text<W: Write>(to: &mut W, t: &[u8]) -> io::Result<()> {
+    to.write_all(t)
 }
 
-pub fn number(fd: i32, n: u64) {
-    io::print_decimal(fd, n);
+pub fn number<W: Write>(to: &mut W, n: u64) -> io::Result<()> {
+    write!(to, "{n}")
 }
 
-pub fn small(fd: i32, n: u32) {
-    io::print_decimal(fd, n as u64);
+pub fn small<W: Write>(to: &mut W, n: u32) -> io::Result<()> {
+    write!(to, "{n}")
 }
 
 // A number of 32 bits as 0x and eight digits.
-pub fn hex(fd: i32, n: u32) {
-    io::write_all(fd, b"0x");
-    io::print_hex(fd, n as u64, 8);
+pub fn hex<W: Write>(to: &mut W, n: u32) -> io::Result<()> {
+    write!(to, "0x{n:08x}")
 }
 
 // A byte as two digits.
-pub fn byte(fd: i32, b: u8) {
-    io::print_hex(fd, b as u64, 2);
+pub fn byte<W: Write>(to: &mut W, b: u8) -> io::Result<()> {
+    write!(to, "{b:02x}")
 }
 
 // Two coordinates.
-pub fn place(fd: i32, x: u32, y: u32) {
-    small(fd, x);
-    io::write_all(fd, b" ");
-    small(fd, y);
+pub fn place<W: Write>(to: &mut W, x: u32, y: u32) -> io::Result<()> {
+    small(to, x)?;
+    text(to, b" ")?;
+    small(to, y)
 }

@@ -2,6 +2,7 @@
 use super::board::{ROWS, STARTS};
 use super::storing::keep_row;
 use script::pieces::{Bytes, FAILED, GOES_ON, PIECE, bytes_of, next_byte};
+use std::fs::File;
 use std::num::wrapping_add_u64;
 
 // What reading a file of rows came to.
@@ -30,22 +31,27 @@ pub struct Rows {
 }
 
 // Reads the rows of a chip from an open file.
-pub fn read_rows(fd: i32, chip: u32, rows: &mut [u32; ROWS], counts: &mut [u32; STARTS]) -> Rows {
+pub fn read_rows(
+    from: &File,
+    chip: u32,
+    rows: &mut [u32; ROWS],
+    counts: &mut [u32; STARTS],
+) -> Rows {
     let mut piece = [0u8; PIECE];
-    let mut r = begun(fd, chip);
+    let mut r = begun(chip);
     let mut turns = u64::MAX;
     while turns > 0 {
         if !r.going {
             break;
         }
-        r = take_byte(r, &mut piece, rows, counts);
+        r = take_byte(r, from, &mut piece, rows, counts);
         turns -= 1;
     }
     r
 }
 
-fn begun(fd: i32, chip: u32) -> Rows {
-    let bytes = bytes_of(fd);
+fn begun(chip: u32) -> Rows {
+    let bytes = bytes_of();
     Rows {
         bytes,
         chip,
@@ -61,12 +67,13 @@ fn begun(fd: i32, chip: u32) -> Rows {
 
 fn take_byte(
     before: Rows,
+    from: &File,
     piece: &mut [u8; PIECE],
     rows: &mut [u32; ROWS],
     counts: &mut [u32; STARTS],
 ) -> Rows {
     let now = before.bytes;
-    let bytes = next_byte(now, piece);
+    let bytes = next_byte(now, from, piece);
     let mut r = before;
     r.bytes = bytes;
     if bytes.state != GOES_ON {

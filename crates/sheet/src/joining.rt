@@ -4,57 +4,61 @@ use super::storing::{keep_row, word_of};
 use super::trees::{TREE, grow, has_row};
 use super::wrongs::{Reading, wrong_chip};
 use script::cells::{between, word_at};
+use script::files::{fail, number_of, open_read};
 use script::lines::{LINE, LINE_THERE, lines_of, next_line};
 use script::pieces::{FAILED, PIECE};
 use script::words::before_comment;
+use std::fs::File;
+use std::io;
 
 // Joins the rows of FILE's trees, where it has some and nothing is wrong with it.
 pub fn join_trees(
+    rt: &HostRuntime,
     before: Reading,
     file: &[u8],
     rows: &mut [u32; ROWS],
     counts: &mut [u32; STARTS],
     piece: &mut [u8; PIECE],
     line: &mut [u8; LINE],
-) -> Reading {
+) -> io::Result<Reading> {
     let mut r = before;
     let lines = r.lines;
     if !r.tree | (r.wrong != 0) | (lines.state == FAILED) {
-        return r;
+        return Ok(r);
     }
-    let fd = os::open_read(file);
-    if fd < 0 {
-        os::fail(file);
-        r.wrong = 1;
-        return r;
+    match open_read(rt, file) {
+        Ok(from) => join_lines(rt, r, &from, rows, counts, piece, line),
+        Err(e) => {
+            fail(rt, file, number_of(&e))?;
+            r.wrong = 1;
+            Ok(r)
+        }
     }
-    r = join_lines(r, fd, rows, counts, piece, line);
-    libc::close(fd);
-    r
 }
 
 fn join_lines(
+    rt: &HostRuntime,
     before: Reading,
-    fd: i32,
+    from: &File,
     rows: &mut [u32; ROWS],
     counts: &mut [u32; STARTS],
     piece: &mut [u8; PIECE],
     line: &mut [u8; LINE],
-) -> Reading {
-    let mut r = begun_again(before, fd);
+) -> io::Result<Reading> {
+    let mut r = begun_again(before);
     let mut turns = u64::MAX;
     while turns > 0 {
         if !r.going {
             break;
         }
-        r = join_line(r, rows, counts, piece, line);
+        r = join_line(rt, r, from, rows, counts, piece, line)?;
         turns -= 1;
     }
-    r
+    Ok(r)
 }
 
-fn begun_again(before: Reading, fd: i32) -> Reading {
-    let lines = lines_of(fd);
+fn begun_again(before: Reading) -> Reading {
+    let lines = lines_of();
     let mut r = before;
     r.lines = lines;
     r.going = true;
@@ -62,21 +66,24 @@ fn begun_again(before: Reading, fd: i32) -> Reading {
 }
 
 fn join_line(
+    rt: &HostRuntime,
     before: Reading,
+    from: &File,
     rows: &mut [u32; ROWS],
     counts: &mut [u32; STARTS],
     piece: &mut [u8; PIECE],
     line: &mut [u8; LINE],
-) -> Reading {
+) -> io::Result<Reading> {
     let now = before.lines;
-    let lines = next_line(now, piece, line);
+    let lines = next_line(now, from, piece, line);
     let mut r = before;
     r.lines = lines;
     r.going = lines.state == LINE_THERE;
     if !r.going {
-        return r;
+        return Ok(r);
     }
     join_tree(
+        rt,
         r,
         before_comment(between(line, 0, lines.length)),
         rows,
@@ -85,22 +92,24 @@ fn join_line(
 }
 
 fn join_tree(
+    rt: &HostRuntime,
     r: Reading,
     line: &[u8],
     rows: &mut [u32; ROWS],
     counts: &mut [u32; STARTS],
-) -> Reading {
+) -> io::Result<Reading> {
     let b = r.board;
     let mut own = [0u32; TREE];
     let mut starts = [0u32; STARTS];
     if !grow(b, line, &mut own, &mut starts) {
-        return r;
+        return Ok(r);
     }
     let chip = join_rows(r.counting, b, &own, &starts, rows, counts);
     if chips(b) <= chip {
-        return r;
+        return Ok(r);
     }
     wrong_chip(
+        rt,
         r,
         chip,
         b" has 1,024 rows already, and a router takes no more: the tree has a row there\n",

@@ -1,8 +1,17 @@
 // The path of a file that FILE names: relative to FILE's own folder.
 use script::cells::{between, byte_at, put_byte};
+use std::env::Env;
 use std::num::wrapping_add_usize;
 
 pub const PATH: usize = 4096;
+
+// Writes an argument of the program, and answers its length: 0 where there is none, or where it is longer than a path.
+pub fn argument(rt: &HostRuntime, n: usize, path: &mut [u8; PATH]) -> usize {
+    match rt.arg(n, path) {
+        Ok(length) => length,
+        Err(_) => 0,
+    }
+}
 
 // Writes the path of a file named in FILE, and answers its length.
 pub fn beside(file: &[u8], name: &[u8], path: &mut [u8; PATH]) -> usize {

@@ -5,6 +5,7 @@ use super::wrongs::{Reading, off_mesh, outside_mask, wrong_chip, wrong_word};
 use script::cells::{put_word, word_at};
 use script::statements::{Statement, read_statement};
 use script::targets::{Target, target_at};
+use std::io;
 use std::num::wrapping_add_usize;
 use tree::call::tree;
 
@@ -38,24 +39,33 @@ struct Targets {
 }
 
 // At FILE's first reading: the line is looked at, and its rows are left for the second.
-pub fn with_tree(before: Reading, x: u32, y: u32, key: u32, mask: u32, line: &[u8]) -> Reading {
+pub fn with_tree(
+    rt: &HostRuntime,
+    before: Reading,
+    x: u32,
+    y: u32,
+    key: u32,
+    mask: u32,
+    line: &[u8],
+) -> io::Result<Reading> {
     let mut r = before;
     r.tree = true;
     if chip_at(r.board, x, y) == NO_CHIP {
-        return off_mesh(r, x, y);
+        return off_mesh(rt, r, x, y);
     }
     if key & mask != key {
-        return outside_mask(r, key ^ (key & mask));
+        return outside_mask(rt, r, key ^ (key & mask));
     }
     let mut targets = [0u32; TARGETS];
     let t = targets_of(r.board, line, &mut targets);
     let last = t.last;
     let trouble = t.trouble;
     match trouble {
-        FINE => r,
-        WORD => wrong_word(r, line, last.wanted, last.at),
-        NOT_THERE => off_mesh(r, last.x, last.y),
+        FINE => Ok(r),
+        WORD => wrong_word(rt, r, line, last.wanted, last.at),
+        NOT_THERE => off_mesh(rt, r, last.x, last.y),
         _ => wrong_chip(
+            rt,
             r,
             t.chip,
             b" is named twice: it stands once, with all its processors\n",

@@ -8,5 +8,4 @@ pub mod RowsByNumber
 pub mod Sizes
 pub mod Starts
 pub mod StartsFound
-pub mod Walking
 pub mod WrongPlaces

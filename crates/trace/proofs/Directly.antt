@@ -15,7 +15,7 @@ use Rattle.mesh.specs.Steps.{same}
 use Rattle.buffer.specs.Leaving.{Moves}
 use Rattle.mesh.specs.Calls.{Left, logged_on}
 use Rattle.records.specs.declared.Call.{Call}
-use Rattle.records.specs.Traces.{Trace, refused, then}
+use Rattle.records.specs.Traces.{Trace, then}
 use Rattle.trace.specs.declared.Replayed.{Replayed}
 use Rattle.trace.specs.Replay.{made_left, Replay, stopped, behind, replaying}
 use Rattle.trace.specs.Directly.{Made, injected, rounded, changed, registers_handed_over, Directly, done, unread, stops, goes, AsDirectly, OneReplay}

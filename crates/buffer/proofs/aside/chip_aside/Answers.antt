@@ -1,4 +1,4 @@
-use Rattle.std.proofs.Common.{◌≡◌, ℕ, suc, ◌+◌, ◌-◌, ◌*◌, ◌<◌, ◌≤◌, List, get_or, sym, ◌∙◌, subst, add-one, arith}
+use Rattle.std.proofs.Common.{◌≡◌, ℕ, suc, ◌+◌, ◌*◌, ◌<◌, ◌≤◌, List, get_or, sym, ◌∙◌, subst, add-one, arith}
 use native.Mathlib.Nat.{add-sub_cancel_left}
 use Rattle.lists.specs.Lists.{put_back}
 use Rattle.buffer.specs.ChipWords.{link_words, ChangedBut, from}

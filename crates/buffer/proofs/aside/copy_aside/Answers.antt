@@ -1,7 +1,7 @@
-use Rattle.std.proofs.Common.{◌≡◌, ℕ, ◌+◌, ◌-◌, ◌*◌, ◌≤◌, List, length, get_or, drop, set, sym, ap, ◌∙◌, add-one, arith, length-drop, length-set, get_or-drop}
+use Rattle.std.proofs.Common.{◌≡◌, ℕ, ◌+◌, ◌*◌, ◌≤◌, List, get_or, drop, set, sym, ap, ◌∙◌, add-one, arith, length-drop, length-set, get_or-drop}
 use lib.Seq.{paste, paste-zero, paste-suc}
 use Rattle.buffer.proofs.Asides.{copied_before}
-use Rattle.links.specs.Offsets.{places_at, place_long, depth, aside_places_at, link_long}
+use Rattle.links.specs.Offsets.{places_at, place_long, depth, aside_places_at}
 use Rattle.buffer.proofs.aside.copy_aside.Goals as goal
 
 pub loop-i-init : goal.loop-i-init

@@ -1,7 +1,6 @@
-use Rattle.std.proofs.Common.{◌≡◌, ℕ, ◌+◌, ◌-◌, ◌*◌, ◌≤◌, List, length, get_or, drop, set, sym, ap, ◌∙◌, add-one, arith, length-drop, length-set, get_or-drop}
-use lib.Seq.{paste, paste-zero, paste-suc}
-use Rattle.buffer.proofs.Asides.{copied_before}
-use Rattle.links.specs.Offsets.{places_at, place_long, depth, aside_places_at, link_long}
+use Rattle.std.proofs.Common.{◌≡◌, ◌-◌, ◌≤◌, length, drop}
+use lib.Seq.{paste}
+use Rattle.links.specs.Offsets.{aside_places_at, link_long}
 use Rattle.buffer.proofs.aside.copy_aside.Given as goal
 
 abbrev pub invariant-loop-i : goal.invariant-loop-i

@@ -1,4 +1,4 @@
-use Rattle.std.proofs.Common.{refl, rules}
+use Rattle.std.proofs.Common.{refl}
 use Rattle.buffer.proofs.aside.link_aside.Goals as goal
 
 pub returns : goal.returns

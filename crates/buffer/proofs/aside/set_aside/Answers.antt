@@ -1,6 +1,5 @@
-use Rattle.std.proofs.Common.{◌≡◌, ◌+◌, ◌-◌, ◌*◌, ◌<◌, ◌≤◌, sym, subst, add-one, arith}
+use Rattle.std.proofs.Common.{◌≡◌, ◌+◌, ◌*◌, ◌<◌, sym, subst, add-one, arith}
 use native.Mathlib.Nat.{add-sub_cancel_left}
-use Rattle.buffer.specs.Aside.{AsideUpto}
 use Rattle.buffer.specs.Held.{Few}
 use Rattle.buffer.proofs.AsideChips.{aside_begin, aside_next}
 use Rattle.links.specs.Offsets.{header_long, chip_long}

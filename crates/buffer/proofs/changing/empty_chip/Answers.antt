@@ -1,4 +1,4 @@
-use Rattle.std.proofs.Common.{ℕ, List, ap, ◌∙◌, rules}
+use Rattle.std.proofs.Common.{ℕ, List, ap, ◌∙◌}
 use Rattle.lists.specs.Lists.{put_back}
 use Rattle.buffer.specs.Layout.{register_words}
 use Rattle.links.specs.Offsets.{registers_long}

@@ -1,4 +1,4 @@
-use Rattle.std.proofs.Common.{◌+◌, ◌*◌, sym, ◌∙◌, arith, rules}
+use Rattle.std.proofs.Common.{◌+◌, ◌*◌, sym, ◌∙◌, arith}
 use native.Mathlib.Nat.{add-sub_cancel_left}
 use Rattle.buffer.proofs.Looks.{chip_there}
 use Rattle.buffer.proofs.RegistersCall.{registers_refused, registers_leave}

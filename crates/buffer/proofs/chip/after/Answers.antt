@@ -1,4 +1,4 @@
-use Rattle.std.proofs.Common.{◌≡◌, length, ap, rules}
+use Rattle.std.proofs.Common.{◌≡◌, length, ap}
 use Rattle.links.specs.Offsets.{registers_long, counters_long}
 use Rattle.buffer.proofs.LinksChanged.{takes_on, finish}
 use Rattle.buffer.proofs.chip.after.Goals as goal

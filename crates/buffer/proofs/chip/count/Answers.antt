@@ -1,5 +1,5 @@
 -- `chip::count` meets its contract.
-use Rattle.std.proofs.Common.{get_or, set, sym, ap, ◌∙◌, arith, rules}
+use Rattle.std.proofs.Common.{get_or, set, sym, ap, ◌∙◌, arith}
 use Rattle.kept.specs.Counting.{sent_count, plus, added}
 use Rattle.kept.proofs.OnlySent.{three_counted}
 use Rattle.buffer.proofs.chip.count.Goals as goal

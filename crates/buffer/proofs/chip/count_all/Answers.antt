@@ -1,4 +1,4 @@
-use Rattle.std.proofs.Common.{[], ◌∷◌, get_or, ap, ◌∙◌, arith, length-set, rules}
+use Rattle.std.proofs.Common.{[], ◌∷◌, get_or, ap, ◌∙◌, arith, length-set}
 use Rattle.lists.proofs.Six.{ten_stores}
 use Rattle.kept.specs.declared.Counters.{Counters}
 use Rattle.buffer.proofs.chip.count_all.Goals as goal

@@ -1,4 +1,4 @@
-use Rattle.std.proofs.Common.{eqb, ap, ◌∙◌, rules, eqb-true}
+use Rattle.std.proofs.Common.{eqb, ap, ◌∙◌, eqb-true}
 use mathlib.Core.Bool.{and-eq-true_iff}
 use Rattle.packet.proofs.Folded.{ones_zero}
 use Rattle.kept.specs.declared.Registers.{Registers}

@@ -1,4 +1,4 @@
-use Rattle.std.proofs.Common.{ℕ, ◌+◌, ◌*◌, List, drop, ap, arith, length-drop, length-take-le, rules}
+use Rattle.std.proofs.Common.{ℕ, ◌+◌, ◌*◌, List, drop, ap, arith, length-drop, length-take-le}
 use native.Mathlib.Nat.{add-sub_cancel_left}
 use Rattle.lists.specs.Lists.{put_back}
 use Rattle.links.specs.Offsets.{link_long, links_at}

@@ -1,4 +1,3 @@
-use Rattle.std.proofs.Common.{rules}
 use Rattle.buffer.proofs.chip.ready_of.Goals as goal
 
 pub returns : goal.returns

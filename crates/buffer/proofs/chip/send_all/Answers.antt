@@ -1,5 +1,4 @@
 -- `chip::send_all` meets its contract.
-use Rattle.std.proofs.Common.{rules}
 use Rattle.buffer.proofs.Sending.{packets_fit, legs_fit, both_sent}
 use Rattle.buffer.proofs.chip.send_all.Goals as goal
 

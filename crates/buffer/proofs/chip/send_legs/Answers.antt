@@ -1,6 +1,6 @@
 use Rattle.std.proofs.Common.{◌≡◌, sym, ◌∙◌, arith}
 use Rattle.steps.specs.Deciding.{leg_packet}
-use Rattle.buffer.proofs.Sending.{Pushed, none_yet, link_there, link_less, link_fits, one_pushed}
+use Rattle.buffer.proofs.Sending.{none_yet, link_there, link_less, link_fits, one_pushed}
 use Rattle.buffer.proofs.chip.send_legs.Goals as goal
 
 pub loop-rest-init : goal.loop-rest-init

@@ -1,7 +1,6 @@
 -- `chip::send_packets` meets its contract. The loop's invariant: all links of the set but the rest have been gone through. The measure is the rest, as a number.
-use Rattle.std.proofs.Common.{◌≡◌, sym, ◌∙◌, arith}
 use Rattle.steps.specs.Deciding.{packet_on}
-use Rattle.buffer.proofs.Sending.{Pushed, none_yet, link_there, link_less, link_fits, one_pushed}
+use Rattle.buffer.proofs.Sending.{Pushed}
 use Rattle.buffer.proofs.chip.send_packets.Given as goal
 
 abbrev pub invariant-loop-rest : goal.invariant-loop-rest

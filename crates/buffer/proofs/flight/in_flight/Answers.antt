@@ -1,9 +1,9 @@
-use Rattle.std.proofs.Common.{◌≡◌, ◌+◌, ◌-◌, ◌*◌, ◌≤◌, arith}
+use Rattle.std.proofs.Common.{◌≡◌, ◌+◌, ◌*◌, arith}
 use native.Mathlib.Nat.{add-sub_cancel_left}
 use Rattle.buffer.specs.OnePass.{chip_words}
 use Rattle.buffer.specs.Held.{chip_flight}
-use Rattle.buffer.proofs.HoldsMesh.{Chips, chips_held, few_held}
-use Rattle.buffer.proofs.Flights.{Summed, summed_first, summed_next, summed_last}
+use Rattle.buffer.proofs.HoldsMesh.{chips_held, few_held}
+use Rattle.buffer.proofs.Flights.{summed_first, summed_next, summed_last}
 use Rattle.links.specs.Offsets.{header_long, chip_long}
 use Rattle.buffer.proofs.flight.in_flight.Goals as goal
 

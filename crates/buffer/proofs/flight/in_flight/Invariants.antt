@@ -1,12 +1,8 @@
 -- `mesh::flight::in_flight` meets its contract. The loop's invariant: there is room for the chips, and the sum so far is what those below `i` hold.
 -- The measure is what is left of the chips.
-use Rattle.std.proofs.Common.{◌≡◌, ◌+◌, ◌-◌, ◌*◌, ◌≤◌, arith}
-use native.Mathlib.Nat.{add-sub_cancel_left}
-use Rattle.buffer.specs.OnePass.{chip_words}
-use Rattle.buffer.specs.Held.{chip_flight}
-use Rattle.buffer.proofs.HoldsMesh.{Chips, chips_held, few_held}
-use Rattle.buffer.proofs.Flights.{Summed, summed_first, summed_next, summed_last}
-use Rattle.links.specs.Offsets.{header_long, chip_long}
+use Rattle.std.proofs.Common.{◌-◌, ◌≤◌}
+use Rattle.buffer.proofs.HoldsMesh.{Chips}
+use Rattle.buffer.proofs.Flights.{Summed}
 use Rattle.buffer.proofs.flight.in_flight.Given as goal
 
 abbrev pub invariant-loop-i : goal.invariant-loop-i

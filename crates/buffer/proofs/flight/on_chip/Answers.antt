@@ -1,5 +1,5 @@
 -- `mesh::flight::on_chip` meets its contract: six count words of at most 8 each have a sum that fits.
-use Rattle.std.proofs.Common.{sym, arith, rules}
+use Rattle.std.proofs.Common.{sym, arith}
 use Rattle.buffer.proofs.Flights.{chip_count, words_small}
 use Rattle.buffer.proofs.flight.on_chip.Goals as goal
 

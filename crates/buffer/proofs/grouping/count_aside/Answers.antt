@@ -1,6 +1,4 @@
-use Rattle.std.proofs.Common.{◌≡◌, ◌+◌, ◌-◌, ◌*◌, ◌≤◌, length, get_or, refl, mod-lt, div-lt_iff_lt-mul, arith}
-use Rattle.lists.specs.Lists.{up_to}
-use Rattle.buffer.specs.PassesInTurn.{aside_by}
+use Rattle.std.proofs.Common.{◌≡◌, refl, mod-lt, div-lt_iff_lt-mul, arith}
 use Rattle.buffer.proofs.FineSteps.{head_size}
 use Rattle.buffer.proofs.Headers.{head_range}
 use Rattle.buffer.proofs.GroupsBuilt.{place_counted}

@@ -1,11 +1,7 @@
 -- `grouping::count_aside` meets its contract. The loop's invariant: the packets of the links before `source` are counted, at most eight of each.
-use Rattle.std.proofs.Common.{◌≡◌, ◌+◌, ◌-◌, ◌*◌, ◌≤◌, length, get_or, refl, mod-lt, div-lt_iff_lt-mul, arith}
+use Rattle.std.proofs.Common.{◌≡◌, ◌-◌, ◌*◌, ◌≤◌, length}
 use Rattle.lists.specs.Lists.{up_to}
 use Rattle.buffer.specs.PassesInTurn.{aside_by}
-use Rattle.buffer.proofs.FineSteps.{head_size}
-use Rattle.buffer.proofs.Headers.{head_range}
-use Rattle.buffer.proofs.GroupsBuilt.{place_counted}
-use Rattle.buffer.proofs.AsideCounted.{counted_none, counted_next}
 use Rattle.buffer.proofs.grouping.count_aside.Given as goal
 
 abbrev pub invariant-loop-source : goal.invariant-loop-source

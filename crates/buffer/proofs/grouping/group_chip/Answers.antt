@@ -1,7 +1,6 @@
 -- `grouping::group_chip` meets its contract.
-use Rattle.std.proofs.Common.{sym, refl, ◌∙◌, arith, length-take-le, rules, eq-eqb}
+use Rattle.std.proofs.Common.{sym, refl, ◌∙◌, arith, length-take-le, eq-eqb}
 use lib.Seq.{take-length}
-use borrow.Author.Tests.{not-true}
 use Rattle.tables.proofs.RowsByNumber.{rows_many}
 use Rattle.buffer.specs.PassesInTurn.{aside_from}
 use Rattle.buffer.proofs.GroupsBuilt.{lent_left, not_worth_left, groups_there}

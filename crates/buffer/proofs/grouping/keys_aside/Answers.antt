@@ -1,5 +1,4 @@
-use Rattle.std.proofs.Common.{◌≡◌, ℕ, ◌-◌, ◌*◌, ◌≤◌, List, ◌++◌, length, take, sym, refl, ap, ◌∙◌, mod-lt, div-lt_iff_lt-mul, add-one, arith}
-use Rattle.lists.specs.Lists.{up_to}
+use Rattle.std.proofs.Common.{◌≡◌, ℕ, List, ◌++◌, sym, refl, ap, ◌∙◌, mod-lt, div-lt_iff_lt-mul, add-one, arith}
 use Rattle.mesh.specs.Room.{keys_of}
 use Rattle.buffer.specs.PassesInTurn.{aside_by}
 use Rattle.buffer.proofs.FineSteps.{head_size}

@@ -1,11 +1,8 @@
 -- `grouping::keys_aside` meets its contract. The loop's invariant: the words of the links before `source` are gathered, at most eight of each.
-use Rattle.std.proofs.Common.{◌≡◌, ℕ, ◌-◌, ◌*◌, ◌≤◌, List, ◌++◌, length, take, sym, refl, ap, ◌∙◌, mod-lt, div-lt_iff_lt-mul, add-one, arith}
+use Rattle.std.proofs.Common.{◌≡◌, ◌-◌, ◌*◌, ◌≤◌, length, take}
 use Rattle.lists.specs.Lists.{up_to}
 use Rattle.mesh.specs.Room.{keys_of}
 use Rattle.buffer.specs.PassesInTurn.{aside_by}
-use Rattle.buffer.proofs.FineSteps.{head_size}
-use Rattle.buffer.proofs.Headers.{head_range}
-use Rattle.buffer.proofs.GroupsBuilt.{none_aside, more_aside}
 use Rattle.buffer.proofs.grouping.keys_aside.Given as goal
 
 abbrev pub invariant-loop-source : goal.invariant-loop-source

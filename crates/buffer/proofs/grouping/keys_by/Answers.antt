@@ -1,5 +1,4 @@
-use Rattle.std.proofs.Common.{◌≡◌, ℕ, ◌+◌, ◌-◌, ◌*◌, ◌≤◌, List, [], ◌∷◌, ◌++◌, length, get_or, take, sym, refl, ap, ◌∙◌, arith, length-set}
-use Rattle.lists.specs.Lists.{up_to}
+use Rattle.std.proofs.Common.{◌≡◌, ℕ, ◌+◌, ◌*◌, List, ◌++◌, get_or, take, sym, refl, ap, ◌∙◌, arith, length-set}
 use Rattle.buffer.proofs.GroupsBuilt.{place_counted, keys_read, key_put, keys_none}
 use Rattle.buffer.proofs.grouping.keys_by.Goals as goal
 

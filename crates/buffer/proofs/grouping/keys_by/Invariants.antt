@@ -1,7 +1,6 @@
 -- `grouping::keys_by` meets its contract. The loop's invariant: the words of the first i packets stand behind those that were there.
-use Rattle.std.proofs.Common.{◌≡◌, ℕ, ◌+◌, ◌-◌, ◌*◌, ◌≤◌, List, [], ◌∷◌, ◌++◌, length, get_or, take, sym, refl, ap, ◌∙◌, arith, length-set}
+use Rattle.std.proofs.Common.{◌≡◌, ◌+◌, ◌-◌, ◌*◌, ◌≤◌, [], ◌∷◌, ◌++◌, length, get_or, take}
 use Rattle.lists.specs.Lists.{up_to}
-use Rattle.buffer.proofs.GroupsBuilt.{place_counted, keys_read, key_put, keys_none}
 use Rattle.buffer.proofs.grouping.keys_by.Given as goal
 
 abbrev pub invariant-loop-i : goal.invariant-loop-i

@@ -1,5 +1,5 @@
-use Rattle.std.proofs.Common.{ℕ, sym, ap, ◌∙◌, rules, le-leb}
-use borrow.Author.Tests.{lt-leb, not-true, not-false}
+use Rattle.std.proofs.Common.{ℕ, sym, ap, ◌∙◌, le-leb}
+use borrow.Author.Tests.{lt-leb}
 use Rattle.buffer.proofs.FineSteps.{head_size}
 use Rattle.buffer.specs.Holding.{chips_fine}
 use Rattle.buffer.proofs.holding.holds.Goals as goal

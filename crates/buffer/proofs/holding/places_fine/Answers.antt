@@ -1,6 +1,5 @@
-use Rattle.std.proofs.Common.{◌≡◌, ℕ, ◌+◌, ◌-◌, ◌*◌, ◌≤◌, true, false, drop, sym, ap, ◌∙◌, arith, rules}
+use Rattle.std.proofs.Common.{◌≡◌, ℕ, ◌+◌, ◌*◌, true, false, drop, sym, ap, ◌∙◌, arith}
 use native.Mathlib.Nat.{sub-zero}
-use borrow.Author.Tests.{not-true, not-false}
 use Rattle.buffer.proofs.FineSteps.{places_step, places_end}
 use Rattle.mesh.specs.Sound.{packet_fine}
 use Rattle.buffer.specs.Holding.{places_fine}

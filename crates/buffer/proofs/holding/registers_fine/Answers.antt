@@ -1,5 +1,5 @@
 -- `holding::registers_fine` meets its contract: empty registers by the law of their zeros, others number by number.
-use Rattle.std.proofs.Common.{sym, ◌∙◌, rules, ne_eqb}
+use Rattle.std.proofs.Common.{sym, ◌∙◌, ne_eqb}
 use mathlib.Core.Bool.{and-true}
 use Rattle.mesh.proofs.SoundRegisters.{zeros_decide}
 use Rattle.buffer.proofs.holding.registers_fine.Goals as goal

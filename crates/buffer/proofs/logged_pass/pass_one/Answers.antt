@@ -1,4 +1,4 @@
-use Rattle.std.proofs.Common.{arith, rules}
+use Rattle.std.proofs.Common.{arith}
 use Rattle.buffer.proofs.LoggedPasses as logged
 use Rattle.buffer.proofs.logged_pass.pass_one.Goals as goal
 

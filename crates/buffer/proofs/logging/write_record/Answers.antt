@@ -1,4 +1,4 @@
-use Rattle.std.proofs.Common.{◌/◌, arith, length-set, rules, le-ltb, lt-ltb}
+use Rattle.std.proofs.Common.{◌/◌, arith, length-set, le-ltb, lt-ltb}
 use Rattle.buffer.proofs.Logs.{logged_none, logged_one}
 use Rattle.buffer.proofs.logging.write_record.Goals as goal
 

@@ -1,4 +1,4 @@
-use Rattle.std.proofs.Common.{Bool, get_or, drop, sym, ap, ◌∙◌, rules}
+use Rattle.std.proofs.Common.{Bool, get_or, drop, sym, ap, ◌∙◌}
 use Rattle.steps.specs.Errors.{flag}
 use Rattle.links.specs.Offsets.{held_at, places_at}
 use Rattle.links.proofs.Places.{length_places}

@@ -1,4 +1,4 @@
-use Rattle.std.proofs.Common.{◌+◌, ◌*◌, sym, ◌∙◌, arith, rules}
+use Rattle.std.proofs.Common.{◌+◌, ◌*◌, sym, ◌∙◌, arith}
 use native.Mathlib.Nat.{add-sub_cancel_left}
 use Rattle.buffer.proofs.Looks.{number_there, link_refused, link_found}
 use Rattle.links.specs.Offsets.{header_long, link_long, links_at, chip_long}

@@ -1,5 +1,4 @@
-use Rattle.std.proofs.Common.{sym, ◌∙◌, arith, rules}
-use borrow.Author.Tests.{not-true, not-false}
+use Rattle.std.proofs.Common.{sym, ◌∙◌, arith}
 use Rattle.buffer.proofs.HoldsMesh.{holds_size, words_enough}
 use Rattle.buffer.proofs.Looks.{mesh_found}
 use Rattle.buffer.proofs.looking.look_mesh.Goals as goal

@@ -1,4 +1,4 @@
-use Rattle.std.proofs.Common.{◌∙◌, rules}
+use Rattle.std.proofs.Common.{◌∙◌}
 use Rattle.buffer.proofs.LooksAtFlights.{place_empty, place_found}
 use Rattle.buffer.proofs.looking.look_place.Goals as goal
 

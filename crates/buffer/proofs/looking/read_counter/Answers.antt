@@ -1,4 +1,4 @@
-use Rattle.std.proofs.Common.{sym, ◌∙◌, arith, rules}
+use Rattle.std.proofs.Common.{sym, ◌∙◌, arith}
 use Rattle.buffer.proofs.Looks.{number_there, count_refused, count_found}
 use Rattle.buffer.proofs.looking.read_counter.Goals as goal
 

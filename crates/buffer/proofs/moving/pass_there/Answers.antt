@@ -1,5 +1,5 @@
 -- `moving::pass_there` meets its contract.
-use Rattle.std.proofs.Common.{ℕ, List, [], ◌∷◌, refl, arith, rules}
+use Rattle.std.proofs.Common.{ℕ, List, [], ◌∷◌, refl, arith}
 use Rattle.lists.specs.Lists.{All}
 use Rattle.packet.specs.declared.Packet.{Packet}
 use Rattle.mesh.specs.Refusals.{Lent}

@@ -1,4 +1,4 @@
-use Rattle.std.proofs.Common.{◌≡◌, get_or, set, ap, ◌∙◌, arith, length-set, get_or-set_other, rules, le-ltb, lt-ltb}
+use Rattle.std.proofs.Common.{◌≡◌, get_or, set, ap, ◌∙◌, arith, length-set, get_or-set_other, le-ltb, lt-ltb}
 use Rattle.links.specs.Offsets.{phase_at, elapsed_at}
 use Rattle.links.specs.Phase.{next_phase}
 use Rattle.buffer.proofs.moving.round_over.Goals as goal

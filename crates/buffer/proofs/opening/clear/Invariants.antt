@@ -1,5 +1,4 @@
-use Rattle.std.proofs.Common.{◌≡◌, ℕ, ◌-◌, ◌<◌, ◌≤◌, List, ◌++◌, length, drop, set, replicate, refl, ap, ◌∙◌, arith, length-set}
-use borrow.Author.Fill.{fill_none, fill_more}
+use Rattle.std.proofs.Common.{◌≡◌, ◌-◌, ◌≤◌, ◌++◌, length, drop, replicate}
 use Rattle.buffer.proofs.opening.clear.Given as goal
 
 abbrev pub invariant-loop-i : goal.invariant-loop-i

@@ -1,5 +1,4 @@
-use Rattle.std.proofs.Common.{◌≡◌, ℕ, suc, ◌+◌, ◌*◌, List, ◌++◌, drop, set, replicate, sym, refl, ap, ◌∙◌, arith, length-set, rules, le-ltb, lt-ltb}
-use borrow.Author.Tests.{not-false}
+use Rattle.std.proofs.Common.{◌≡◌, ℕ, suc, ◌+◌, ◌*◌, List, ◌++◌, drop, set, replicate, sym, refl, ap, ◌∙◌, arith, length-set, le-ltb, lt-ltb}
 use Rattle.links.specs.Offsets.{chip_long}
 use Rattle.buffer.proofs.opening.open.Goals as goal
 

@@ -1,4 +1,4 @@
-use Rattle.std.proofs.Common.{arith, rules}
+use Rattle.std.proofs.Common.{arith}
 use Rattle.tables.proofs.Sizes.{chips_small}
 use Rattle.buffer.proofs.opening.words_for.Goals as goal
 

@@ -1,5 +1,4 @@
-use Rattle.std.proofs.Common.{sym, ◌∙◌, arith, rules, le-ltb, lt-ltb}
-use borrow.Author.Tests.{not-false}
+use Rattle.std.proofs.Common.{sym, ◌∙◌, arith, le-ltb, lt-ltb}
 use Rattle.buffer.proofs.HoldsMesh.{holds_size, words_enough}
 use Rattle.buffer.proofs.refusing.chip_refusal.Goals as goal
 

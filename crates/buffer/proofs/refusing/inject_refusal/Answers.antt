@@ -1,4 +1,4 @@
-use Rattle.std.proofs.Common.{sym, ◌∙◌, arith, rules, le-ltb, lt-ltb, eq-eqb, ne_eqb}
+use Rattle.std.proofs.Common.{sym, ◌∙◌, arith, le-ltb, lt-ltb, eq-eqb, ne_eqb}
 use borrow.Author.Tests.{not-false}
 use Rattle.buffer.proofs.HoldsMesh.{holds_size, words_enough}
 use Rattle.buffer.proofs.refusing.inject_refusal.Goals as goal

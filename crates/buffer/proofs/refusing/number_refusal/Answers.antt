@@ -1,4 +1,4 @@
-use Rattle.std.proofs.Common.{sym, ◌∙◌, rules, le-ltb, lt-ltb, eq-eqb, ne_eqb}
+use Rattle.std.proofs.Common.{sym, ◌∙◌, le-ltb, lt-ltb, eq-eqb, ne_eqb}
 use Rattle.buffer.specs.Holding.{holds_mesh}
 use Rattle.buffer.proofs.Refusals.{number_first}
 use Rattle.buffer.specs.Layout.{chips_of}

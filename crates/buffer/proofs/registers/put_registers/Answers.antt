@@ -1,4 +1,4 @@
-use Rattle.std.proofs.Common.{arith, length-set, rules}
+use Rattle.std.proofs.Common.{arith, length-set}
 use Rattle.lists.proofs.Six.{nine_stores}
 use Rattle.buffer.proofs.registers.put_registers.Goals as goal
 

@@ -1,5 +1,5 @@
 -- `round_passes::pass_chip` meets its contract.
-use Rattle.std.proofs.Common.{ℕ, ◌<◌, List, length, sym, ◌∙◌, arith, length-take-le, rules}
+use Rattle.std.proofs.Common.{ℕ, ◌<◌, List, length, sym, ◌∙◌, arith, length-take-le}
 use Rattle.mesh.specs.Refusals.{Lent}
 use Rattle.mesh.specs.Lending.{tables_of}
 use Rattle.mesh.specs.Room.{keys_of}

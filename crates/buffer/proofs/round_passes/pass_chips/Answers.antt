@@ -1,10 +1,8 @@
-use Rattle.std.proofs.Common.{◌≡◌, ℕ, ◌+◌, ◌-◌, ◌<◌, ◌≤◌, length, get_or, sym, refl, ap, ◌∙◌, subst, lt_of_lt_of_le, add-one, arith}
+use Rattle.std.proofs.Common.{◌≡◌, ℕ, ◌+◌, ◌-◌, ◌<◌, length, get_or, sym, refl, ap, ◌∙◌, subst, lt_of_lt_of_le, add-one, arith}
 use Rattle.mesh.specs.Refusals.{Lent}
 use Rattle.mesh.specs.Lending.{tables_of}
-use Rattle.mesh.specs.Steps.{pass_at, same}
-use Rattle.mesh.specs.Room.{keys_of, room_upto}
-use Rattle.lists.specs.Lists.{up_to}
-use Rattle.buffer.specs.PassesInTurn.{aside_from, Passed}
+use Rattle.mesh.specs.Room.{keys_of}
+use Rattle.buffer.specs.PassesInTurn.{aside_from}
 use Rattle.buffer.specs.Grouping.{RoomFits}
 use Rattle.buffer.proofs.GroupsBuilt.{fits_each, room_none, room_next}
 use Rattle.buffer.proofs.Arrivals as arrivals

@@ -1,14 +1,10 @@
 -- `round_passes::pass_chips` meets its contract. The loop's invariant: the chips before `chip` have passed what was set aside for them, and the room is as they leave it.
-use Rattle.std.proofs.Common.{◌≡◌, ℕ, ◌+◌, ◌-◌, ◌<◌, ◌≤◌, length, get_or, sym, refl, ap, ◌∙◌, subst, lt_of_lt_of_le, add-one, arith}
-use Rattle.mesh.specs.Refusals.{Lent}
+use Rattle.std.proofs.Common.{◌≡◌, ◌-◌, ◌≤◌, length}
 use Rattle.mesh.specs.Lending.{tables_of}
 use Rattle.mesh.specs.Steps.{pass_at, same}
 use Rattle.mesh.specs.Room.{keys_of, room_upto}
 use Rattle.lists.specs.Lists.{up_to}
 use Rattle.buffer.specs.PassesInTurn.{aside_from, Passed}
-use Rattle.buffer.specs.Grouping.{RoomFits}
-use Rattle.buffer.proofs.GroupsBuilt.{fits_each, room_none, room_next}
-use Rattle.buffer.proofs.Arrivals as arrivals
 use Rattle.buffer.proofs.round_passes.pass_chips.Given as goal
 
 abbrev pub invariant-loop-chip : goal.invariant-loop-chip

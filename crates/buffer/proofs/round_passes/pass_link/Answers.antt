@@ -1,7 +1,4 @@
-use Rattle.std.proofs.Common.{◌≡◌, ℕ, ◌-◌, ◌≤◌, length, get_or, sym, subst, add-one, arith}
-use Rattle.tables.specs.Tables.{chip_tables}
-use Rattle.lists.specs.Lists.{up_to}
-use Rattle.buffer.specs.PassesInTurn.{pass_by, Passed}
+use Rattle.std.proofs.Common.{◌≡◌, ℕ, ◌≤◌, length, get_or, sym, subst, add-one, arith}
 use Rattle.buffer.proofs.Arrivals as arrivals
 use Rattle.buffer.proofs.round_passes.pass_link.Goals as goal
 

@@ -1,4 +1,4 @@
-use Rattle.std.proofs.Common.{◌≡◌, ℕ, ◌-◌, ◌≤◌, length, get_or, sym, subst, add-one, arith}
+use Rattle.std.proofs.Common.{◌-◌, ◌≤◌}
 use Rattle.tables.specs.Tables.{chip_tables}
 use Rattle.lists.specs.Lists.{up_to}
 use Rattle.buffer.specs.PassesInTurn.{pass_by, Passed}

@@ -1,10 +1,7 @@
-use Rattle.std.proofs.Common.{◌≡◌, ℕ, ◌-◌, ◌<◌, ◌≤◌, length, sym, refl, ◌∙◌, subst, mod-lt, div-lt_iff_lt-mul, add-one, arith}
+use Rattle.std.proofs.Common.{◌-◌, ◌≤◌}
 use Rattle.tables.specs.Tables.{chip_tables}
 use Rattle.lists.specs.Lists.{up_to}
 use Rattle.buffer.specs.PassesInTurn.{aside_by, pass_by, Passed}
-use Rattle.buffer.proofs.FineSteps.{head_size}
-use Rattle.buffer.proofs.Headers.{head_range}
-use Rattle.buffer.proofs.Arrivals as arrivals
 use Rattle.buffer.proofs.round_passes.pass_links.Given as goal
 
 abbrev pub invariant-loop-source : goal.invariant-loop-source

@@ -1,5 +1,4 @@
 use Rattle.lists.specs.Lists.{All}
-use Rattle.std.proofs.Common.{rules}
 use Rattle.buffer.proofs.round_passes.pass_next.Goals as goal
 
 pub pass_found-requires : goal.pass_found-requires

@@ -1,5 +1,4 @@
-use Rattle.std.proofs.Common.{◌/◌, length, sym, ◌∙◌, arith, rules}
-use borrow.Author.Tests.{not-true, not-false}
+use Rattle.std.proofs.Common.{◌/◌, length, sym, ◌∙◌, arith}
 use Rattle.tables.proofs.WrongPlaces.{right_told, wrong_told, right_long, few_told, many_told}
 use Rattle.buffer.proofs.testing.lent_number.Goals as goal
 

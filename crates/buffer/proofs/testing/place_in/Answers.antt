@@ -1,5 +1,5 @@
 -- `testing::place_in` meets its contract: a place is at most one more than the chips or, where the starts are right and the rows few, than 1,024 rows a chip, so that it fits.
-use Rattle.std.proofs.Common.{◌≡◌, ◌+◌, ◌/◌, length, ◌∙◌, arith, rules, eq-eqb, ne_eqb}
+use Rattle.std.proofs.Common.{◌≡◌, ◌+◌, ◌/◌, length, ◌∙◌, arith, eq-eqb, ne_eqb}
 use mathlib.Core.Bool.{and-eq-true_iff}
 use Rattle.lists.proofs.Firsts.{first_most}
 use Rattle.tables.specs.Accept.{starts_right, rows_few}

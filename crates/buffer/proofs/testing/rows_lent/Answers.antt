@@ -1,5 +1,4 @@
-use Rattle.std.proofs.Common.{sym, ◌∙◌, rules}
-use borrow.Author.Tests.{not-true, not-false}
+use Rattle.std.proofs.Common.{sym, ◌∙◌}
 use Rattle.buffer.proofs.testing.rows_lent.Goals as goal
 
 pub returns-then-not-starts_fine : goal.returns-then-not-starts_fine

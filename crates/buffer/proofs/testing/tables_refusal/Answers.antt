@@ -1,5 +1,4 @@
-use Rattle.std.proofs.Common.{◌/◌, length, sym, ◌∙◌, mul-le-mul, arith, rules}
-use borrow.Author.Tests.{not-true, not-false}
+use Rattle.std.proofs.Common.{◌/◌, length, sym, ◌∙◌, mul-le-mul, arith}
 use Rattle.tables.specs.Accept.{starts_right, rows_few, routes_fine, fixed_fine}
 use Rattle.buffer.proofs.Refusals.{lent_number, lent_none, lent_starts}
 use Rattle.tables.proofs.Starts.{starts_one_more}

@@ -1,4 +1,4 @@
-use Rattle.std.proofs.Common.{ℕ, true, sym, ap, ◌∙◌, ap₂, arith, rules}
+use Rattle.std.proofs.Common.{ℕ, true, sym, ap, ◌∙◌, ap₂, arith}
 use Rattle.tables.proofs.Sizes.{chips_small, chips_some}
 use Rattle.packet.specs.Refusal.{first_of}
 use Rattle.mesh.specs.Lending.{tables_of}

@@ -3,8 +3,8 @@ use native.Mathlib.Omega.{arith}
 use mathlib.Core.Bool.{true}
 use mathlib.Core.List.{List}
 use Rattle.buffer.specs.Holding.{holds_mesh}
-use Prim.Native.Nat.{ℕ, ◌-◌, ◌/◌, ◌%◌, ◌≤◌, ◌<◌}
-use lib.ListN.{length, get_or, length-set}
+use Prim.Native.Nat.{ℕ, ◌/◌, ◌%◌, ◌≤◌, ◌<◌}
+use lib.ListN.{length, length-set}
 use Rattle.tables.proofs.Sizes.{chips_small}
 use Rattle.buffer.specs.Layout.{mesh_of, chips_of}
 use Rattle.buffer.proofs.HoldsMesh.{holds_size, words_enough}

@@ -1,12 +1,8 @@
-use mathlib.Core.Path.{◌≡◌, refl}
-use native.Mathlib.Omega.{arith}
+use mathlib.Core.Path.{◌≡◌}
 use Prim.Native.Nat.{ℕ, ◌-◌, ◌/◌, ◌%◌, ◌≤◌, ◌<◌}
-use lib.ListN.{length, get_or, length-set}
-use Rattle.tables.proofs.Sizes.{chips_small}
-use Rattle.buffer.specs.Layout.{mesh_of, chips_of}
-use Rattle.buffer.proofs.HoldsMesh.{holds_size, words_enough}
+use lib.ListN.{length, get_or}
+use Rattle.buffer.specs.Layout.{mesh_of}
 use Rattle.flood.specs.Marks.{lead_of}
-use Rattle.flood.proofs.Leads.{set_next, around_whole}
 use Rattle.flood.proofs.around.around_all.Given as goal
 
 abbrev pub invariant-loop-k : goal.invariant-loop-k

@@ -1,4 +1,3 @@
-use borrow.Author.Rules.{rules}
 use native.Mathlib.Omega.{arith}
 use Rattle.buffer.specs.Layout.{mesh_of}
 use Rattle.flood.proofs.FloodCall.{refused, accepted, answered}

@@ -1,13 +1,9 @@
-use mathlib.Core.Path.{◌≡◌, ◌∙◌}
-use native.Mathlib.Omega.{arith}
-use native.Mathlib.Nat.{mod-lt}
+use mathlib.Core.Path.{◌≡◌}
 use Prim.Native.Nat.{ℕ, ◌*◌, ◌-◌, ◌/◌, ◌%◌, ◌≤◌, ◌<◌}
 use lib.ListN.{length, get_or}
 use Rattle.mesh.specs.Mesh.{Mesh}
 use Rattle.flood.specs.Codes.{code_of}
-use Rattle.flood.specs.Marks.{Around, code_on}
-use Rattle.flood.proofs.ChipAfterChip.{column_more, codes_whole, some_row}
-use Rattle.flood.proofs.Spreads.{codes_on}
+use Rattle.flood.specs.Marks.{Around}
 use Rattle.flood.proofs.flooding.write_codes.Given as goal
 
 abbrev pub invariant-loop-to : goal.invariant-loop-to

@@ -1,9 +1,9 @@
 use native.Mathlib.Omega.{arith}
 use native.Mathlib.Nat.{mul-le-mul}
-use Prim.Native.Nat.{ℕ, ◌+◌, ◌*◌, ◌-◌, ◌≤◌, ◌<◌}
+use Prim.Native.Nat.{ℕ, ◌+◌, ◌*◌, ◌≤◌, ◌<◌}
 use mathlib.Core.Path.{◌≡◌}
 use Rattle.flood.specs.Marks.{code_on}
-use Rattle.flood.proofs.Columns.{SoFar, none_yet, one_more, whole_column, place_below}
+use Rattle.flood.proofs.Columns.{none_yet, one_more, whole_column, place_below}
 use Rattle.flood.proofs.flooding.write_to.Goals as goal
 
 -- the place is below the square of the chips, which is small

@@ -1,9 +1,6 @@
-use native.Mathlib.Omega.{arith}
-use native.Mathlib.Nat.{mul-le-mul}
-use Prim.Native.Nat.{ℕ, ◌+◌, ◌*◌, ◌-◌, ◌≤◌, ◌<◌}
-use mathlib.Core.Path.{◌≡◌}
+use Prim.Native.Nat.{◌-◌, ◌≤◌}
 use Rattle.flood.specs.Marks.{code_on}
-use Rattle.flood.proofs.Columns.{SoFar, none_yet, one_more, whole_column, place_below}
+use Rattle.flood.proofs.Columns.{SoFar}
 use Rattle.flood.proofs.flooding.write_to.Given as goal
 
 abbrev pub invariant-loop-from : goal.invariant-loop-from

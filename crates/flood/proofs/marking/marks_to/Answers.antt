@@ -1,14 +1,11 @@
-use borrow.Author.Rules.{rules}
 use mathlib.Core.Path.{◌≡◌}
 use mathlib.Core.Bool.{Bool, true, ◌&&◌, and-eq-true_iff}
 use lib.Dec.{ltb}
 use native.Mathlib.Omega.{arith}
 use borrow.Author.Tests.{ltb-true}
-use Prim.Native.Nat.{ℕ, ◌-◌, ◌≤◌, ◌<◌}
-use lib.ListN.{length, length-set}
-use Rattle.mesh.specs.Mesh.{Mesh}
-use Rattle.flood.specs.Marks.{Around}
-use Rattle.flood.proofs.Spreads.{Reached, reached_first, level_next, all_reached}
+use Prim.Native.Nat.{ℕ, ◌-◌, ◌<◌}
+use lib.ListN.{length-set}
+use Rattle.flood.proofs.Spreads.{reached_first, level_next, all_reached}
 use Rattle.flood.proofs.marking.marks_to.Goals as goal
 
 pub overflow_cast-most : goal.overflow_cast-most

@@ -1,13 +1,9 @@
-use borrow.Author.Rules.{rules}
 use mathlib.Core.Path.{◌≡◌}
-use mathlib.Core.Bool.{and-eq-true_iff}
-use native.Mathlib.Omega.{arith}
-use borrow.Author.Tests.{ltb-true}
-use Prim.Native.Nat.{◌-◌, ◌≤◌, ◌<◌}
-use lib.ListN.{length, length-set}
+use Prim.Native.Nat.{◌-◌, ◌≤◌}
+use lib.ListN.{length}
 use Rattle.mesh.specs.Mesh.{Mesh}
 use Rattle.flood.specs.Marks.{Around}
-use Rattle.flood.proofs.Spreads.{Reached, reached_first, level_next, all_reached}
+use Rattle.flood.proofs.Spreads.{Reached}
 use Rattle.flood.proofs.marking.marks_to.Given as goal
 
 abbrev pub invariant-loop-more : goal.invariant-loop-more

@@ -1,8 +1,8 @@
 use mathlib.Core.Path.{◌≡◌, sym, ◌∙◌}
 use native.Mathlib.Omega.{arith}
-use Prim.Native.Nat.{◌-◌, ◌≤◌, ◌<◌}
+use Prim.Native.Nat.{◌≤◌, ◌<◌}
 use lib.ListN.{length, length-set}
-use Rattle.flood.proofs.Spreads.{SoFar, none_yet, not_next, next, whole_level}
+use Rattle.flood.proofs.Spreads.{none_yet, not_next, next, whole_level}
 use Rattle.flood.proofs.marking.spread.Goals as goal
 use Rattle.flood.proofs.marking.spread.Goals.{then-is_next, else-is_next}
 

@@ -1,9 +1,7 @@
-use mathlib.Core.Path.{◌≡◌, sym, ◌∙◌}
-use mathlib.Core.Logic.{⊎_elim}
-use native.Mathlib.Omega.{arith}
-use Prim.Native.Nat.{◌-◌, ◌≤◌, ◌<◌}
-use lib.ListN.{length, length-set}
-use Rattle.flood.proofs.Spreads.{SoFar, none_yet, not_next, next, whole_level}
+use mathlib.Core.Path.{◌≡◌}
+use Prim.Native.Nat.{◌-◌, ◌≤◌}
+use lib.ListN.{length}
+use Rattle.flood.proofs.Spreads.{SoFar}
 use Rattle.flood.proofs.marking.spread.Given as goal
 
 abbrev pub invariant-loop-chip : goal.invariant-loop-chip

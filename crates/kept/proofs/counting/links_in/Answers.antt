@@ -1,5 +1,5 @@
 -- `counting::links_in` meets its contract, which is computed at every set of six links.
-use Rattle.std.proofs.Common.{ℕ, ◌*◌, ◌/◌, ◌%◌, Bool, eqb, refl, arith, rules, eqb-true}
+use Rattle.std.proofs.Common.{ℕ, ◌*◌, ◌/◌, ◌%◌, Bool, eqb, refl, arith, eqb-true}
 use lib.Bits.{bit_and, and_le_r}
 use lib.Count.{ones, ones_in}
 use Rattle.packet.proofs.Small.{every, at}

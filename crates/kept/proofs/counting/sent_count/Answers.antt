@@ -1,5 +1,5 @@
 use Rattle.packet.proofs.Folded.{ones_zero}
-use Rattle.std.proofs.Common.{◌≡◌, ◌∙◌, arith, rules}
+use Rattle.std.proofs.Common.{◌≡◌, ◌∙◌, arith}
 use lib.Count.{ones-le}
 use Rattle.kept.proofs.counting.sent_count.Goals as goal
 

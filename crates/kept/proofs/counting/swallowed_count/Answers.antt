@@ -1,4 +1,4 @@
-use Rattle.std.proofs.Common.{◌∙◌, rules, ne_eqb}
+use Rattle.std.proofs.Common.{◌∙◌, ne_eqb}
 use mathlib.Core.Bool.{and-false}
 use Rattle.kept.proofs.counting.swallowed_count.Goals as goal
 

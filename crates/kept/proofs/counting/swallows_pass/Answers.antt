@@ -1,4 +1,3 @@
-use Rattle.std.proofs.Common.{rules}
 use Rattle.kept.proofs.counting.swallows_pass.Goals as goal
 
 pub returns : goal.returns

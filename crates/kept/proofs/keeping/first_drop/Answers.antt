@@ -1,4 +1,4 @@
-use Rattle.std.proofs.Common.{rules, eq-eqb, ne_eqb}
+use Rattle.std.proofs.Common.{eq-eqb, ne_eqb}
 use Rattle.kept.proofs.keeping.first_drop.Goals as goal
 
 pub returns-then-o-eq0 : goal.returns-then-o-eq0

@@ -1,4 +1,4 @@
-use Rattle.std.proofs.Common.{◌≡◌, ◌+◌, sym, ap, ◌∙◌, rules, eq-eqb, ne_eqb}
+use Rattle.std.proofs.Common.{◌≡◌, ◌+◌, sym, ap, ◌∙◌, eq-eqb, ne_eqb}
 use Rattle.kept.specs.Keeping.{drop_count, capped, with_units}
 use Rattle.kept.proofs.Capped.{capped_sum}
 use Rattle.kept.proofs.keeping.kept_of.Goals as goal

@@ -1,4 +1,3 @@
-use Rattle.std.proofs.Common.{rules}
 use Rattle.kept.proofs.keeping.with_units.Goals as goal
 
 pub returns : goal.returns

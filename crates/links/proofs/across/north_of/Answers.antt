@@ -1,4 +1,3 @@
-use borrow.Author.Rules.{rules}
 use Rattle.links.proofs.across.north_of.Goals as goal
 
 pub returns : goal.returns

@@ -1,4 +1,3 @@
-use borrow.Author.Rules.{rules}
 use Rattle.links.proofs.Places.{length_places}
 use Rattle.links.proofs.link.is_ready.Goals as goal
 

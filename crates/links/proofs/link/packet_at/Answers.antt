@@ -1,4 +1,3 @@
-use borrow.Author.Rules.{rules}
 use mathlib.Core.Path.{sym}
 use Rattle.links.proofs.Places.{packet_at_lem}
 use Rattle.links.proofs.link.packet_at.Goals as goal

@@ -1,4 +1,3 @@
-use borrow.Author.Rules.{rules}
 use Rattle.links.proofs.link.set_state.Goals as goal
 
 pub returns-then-up : goal.returns-then-up

@@ -1,7 +1,6 @@
 use mathlib.Core.Path.{◌∙◌}
 use borrow.Author.Tests.{eq-eqb, ne_eqb}
 use Rattle.steps.specs.Deciding.{outcome_of}
-use borrow.Author.Rules.{rules}
 use Rattle.router.proofs.call.outcome_unless.Goals as goal
 
 pub errors_of-errors-requires : goal.errors_of-errors-requires

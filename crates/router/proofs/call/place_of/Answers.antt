@@ -5,7 +5,6 @@ use borrow.Author.Tests.{eq-eqb, ne_eqb}
 use lib.ListN.{length}
 use Rattle.lists.proofs.Firsts.{first_most}
 use Rattle.tables.specs.Places.{row_wrong}
-use borrow.Author.Rules.{rules}
 use Rattle.router.proofs.call.place_of.Goals as goal
 
 pub overflow_cast-result : goal.overflow_cast-result

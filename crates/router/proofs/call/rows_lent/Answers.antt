@@ -1,4 +1,3 @@
-use borrow.Author.Rules.{rules}
 use Rattle.router.proofs.call.rows_lent.Goals as goal
 
 pub returns : goal.returns

@@ -1,10 +1,9 @@
 use mathlib.Core.Path.{sym, ap, ◌∙◌}
 use Prim.Native.Nat.{ℕ, ◌/◌}
-use borrow.Author.Tests.{leb-true, not-true, not-false}
+use borrow.Author.Tests.{leb-true}
 use lib.ListN.{length}
 use Rattle.tables.specs.Accept.{few_rows, routes_fine, route_fine, codes_fine}
 use Rattle.router.proofs.Inputs.{lent_number, all_fine}
-use borrow.Author.Rules.{rules}
 use Rattle.router.proofs.call.setting_refusal.Goals as goal
 
 pub returns-then-not-size_fine : goal.returns-then-not-size_fine

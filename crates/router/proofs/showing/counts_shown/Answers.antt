@@ -1,5 +1,4 @@
 use Rattle.router.proofs.Shown.{counts_picked}
-use borrow.Author.Rules.{rules}
 use Rattle.router.proofs.showing.counts_shown.Goals as goal
 
 pub returns : goal.returns

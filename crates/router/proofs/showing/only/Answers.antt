@@ -1,5 +1,4 @@
 use Rattle.router.proofs.Shown.{kept_only}
-use borrow.Author.Rules.{rules}
 use Rattle.router.proofs.showing.only.Goals as goal
 
 pub returns : goal.returns

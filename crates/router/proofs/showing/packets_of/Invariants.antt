@@ -1,15 +1,8 @@
-use mathlib.Core.Path.{◌≡◌, sym, ap, ◌∙◌}
-use mathlib.Core.Bool.{true, not, and-eq-true_iff}
-use Prim.Native.Nat.{ℕ, ◌-◌, ◌<◌}
-use native.Mathlib.Omega.{arith}
-use borrow.Author.Rules.{rules}
-use lib.Bits.{bit_and}
-use lib.Count.{count_trailing_zeros}
-use lib.Dec.{eqb}
-use lib.ListN.{set, replicate}
+use mathlib.Core.Path.{◌≡◌}
+use mathlib.Core.Bool.{true}
+use Prim.Native.Nat.{ℕ, ◌<◌}
 use Rattle.steps.specs.Links.{has}
-use Rattle.steps.proofs.LowestFirst.{lowest_link}
-use Rattle.router.proofs.ShownSoFar.{shown_but, none_yet, all_shown, step}
+use Rattle.router.proofs.ShownSoFar.{shown_but}
 use Rattle.router.proofs.showing.packets_of.Given as goal
 
 abbrev pub invariant-loop-rest : goal.invariant-loop-rest

@@ -1,6 +1,5 @@
 use Rattle.router.proofs.Shown.{at_processors}
 use mathlib.Core.Path.{◌∙◌}
-use borrow.Author.Rules.{rules}
 use Rattle.router.proofs.showing.to_processors.Goals as goal
 
 pub returns : goal.returns

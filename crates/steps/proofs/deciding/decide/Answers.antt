@@ -1,4 +1,3 @@
-use borrow.Author.Rules.{rules}
 use mathlib.Core.Path.{sym, ◌∙◌}
 use Rattle.steps.specs.Deciding.{decided}
 use Rattle.steps.proofs.deciding.decide.Goals as goal

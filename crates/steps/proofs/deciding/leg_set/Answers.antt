@@ -1,4 +1,3 @@
-use borrow.Author.Rules.{rules}
 use mathlib.Core.Path.{refl, sym, ◌∙◌}
 use borrow.Author.Tests.{ltb-true}
 use Prim.Native.Nat.{◌+◌, ◌%◌, ◌^◌}

@@ -1,7 +1,6 @@
 use mathlib.Core.Path.{◌∙◌}
 use Rattle.steps.specs.Deciding.{outcome_of}
 use Rattle.steps.proofs.ByRows.{wanted_by_rows}
-use borrow.Author.Rules.{rules}
 use Rattle.tables.specs.Tables.{chip_tables}
 use Rattle.steps.proofs.deciding.outcome_of.Goals as goal
 

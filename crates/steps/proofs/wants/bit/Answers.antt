@@ -1,4 +1,3 @@
-use borrow.Author.Rules.{rules}
 use mathlib.Core.Path.{refl}
 use borrow.Author.Tests.{eqb-true}
 use Prim.Native.Nat.{◌*◌, ◌%◌, ◌^◌}

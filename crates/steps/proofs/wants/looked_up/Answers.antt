@@ -1,5 +1,4 @@
 use mathlib.Core.Path.{◌∙◌}
-use borrow.Author.Rules.{rules}
 use Rattle.steps.proofs.wants.looked_up.Goals as goal
 
 pub returns-then-goes : goal.returns-then-goes

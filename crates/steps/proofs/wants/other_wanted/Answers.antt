@@ -2,7 +2,6 @@ use mathlib.Core.Path.{sym, ◌∙◌}
 use Rattle.tables.specs.declared.Matched.TheVariants.{Missed}
 use Rattle.steps.proofs.ByRows.{wants_nothing}
 use borrow.Author.Tests.{eq-eqb, ne_eqb}
-use borrow.Author.Rules.{rules}
 use Rattle.steps.proofs.wants.other_wanted.Goals as goal
 
 pub returns-in-0 : goal.returns-in-0

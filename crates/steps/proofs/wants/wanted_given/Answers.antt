@@ -1,6 +1,5 @@
 use mathlib.Core.Path.{sym, ap, ◌∙◌}
 use Prim.Native.Nat.{ℕ}
-use borrow.Author.Rules.{rules}
 use Rattle.steps.specs.Wants.{match_wanted}
 use Rattle.steps.proofs.ByRows.{as_matched, as_missed}
 use Rattle.steps.proofs.wants.wanted_given.Goals as goal

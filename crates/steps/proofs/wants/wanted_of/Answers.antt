@@ -1,6 +1,5 @@
 use mathlib.Core.Path.{sym, ap₂, ◌∙◌}
 use Prim.Native.Nat.{ℕ}
-use borrow.Author.Rules.{rules}
 use Rattle.tables.specs.declared.Matched.{Matched}
 use Rattle.tables.specs.Rows.{rows_of, route_for}
 use Rattle.steps.specs.Wants.{match_wanted, wanted_of}

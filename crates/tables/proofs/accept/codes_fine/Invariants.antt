@@ -1,14 +1,11 @@
 -- `accept::codes_fine` meets its contract. The loop's invariant: the test of all codes is that of what is joined so far, with that of the codes from
 -- eight times i on. The measure is what is left of the eights.
-use mathlib.Core.Path.{◌≡◌, refl, sym, ap, ◌∙◌}
-use mathlib.Core.Bool.{Bool, ◌&&◌}
-use Prim.Native.Nat.{◌+◌, ◌*◌, ◌/◌, ◌-◌, ◌≤◌}
-use native.Mathlib.Omega.{arith}
-use borrow.Author.Rules.{rules}
-use borrow.Author.Tests.{eq-eqb, ne_eqb}
+use mathlib.Core.Path.{◌≡◌}
+use mathlib.Core.Bool.{◌&&◌}
+use Prim.Native.Nat.{◌*◌, ◌/◌, ◌-◌, ◌≤◌}
 use lib.ListN.{length, drop}
 use Rattle.tables.specs.Accept.{all_codes}
-use Rattle.tables.proofs.EightCodes.{clear, clear_or}
+use Rattle.tables.proofs.EightCodes.{clear}
 use Rattle.tables.proofs.accept.codes_fine.Given as goal
 
 abbrev pub invariant-loop-i : goal.invariant-loop-i

@@ -1,11 +1,6 @@
-use mathlib.Core.Path.{◌≡◌, refl, sym}
-use mathlib.Core.Bool.{◌&&◌}
-use Prim.Native.Nat.{◌-◌}
+use mathlib.Core.Path.{refl, sym}
 use native.Mathlib.Omega.{arith}
 use borrow.Author.Tests.{eq-eqb, ne_eqb}
-use lib.Dec.{ltb}
-use lib.ListN.{length, drop}
-use Rattle.tables.specs.Accept.{all_fixed}
 use Rattle.tables.proofs.OneByOne.{fixed_joined, fixed_last}
 use Rattle.tables.proofs.accept.fixed_fine.Goals as goal
 

@@ -1,14 +1,11 @@
 -- `accept::fixed_fine` meets its contract. The loop's invariant: the test of all routes is that of what is joined so far, with that of the routes from i on. The measure is
 -- what is left of the routes.
-use mathlib.Core.Path.{◌≡◌, refl, sym}
+use mathlib.Core.Path.{◌≡◌}
 use mathlib.Core.Bool.{◌&&◌}
 use Prim.Native.Nat.{◌-◌}
-use native.Mathlib.Omega.{arith}
-use borrow.Author.Tests.{eq-eqb, ne_eqb}
 use lib.Dec.{ltb}
 use lib.ListN.{length, drop}
 use Rattle.tables.specs.Accept.{all_fixed}
-use Rattle.tables.proofs.OneByOne.{fixed_joined, fixed_last}
 use Rattle.tables.proofs.accept.fixed_fine.Given as goal
 
 abbrev pub invariant-loop-i : goal.invariant-loop-i

@@ -1,5 +1,4 @@
 use mathlib.Core.Path.{refl}
-use borrow.Author.Rules.{rules}
 use lib.Dec.{lit≤}
 use Rattle.tables.proofs.EightCodes.{beside}
 use Rattle.tables.proofs.accept.four_codes.Goals as goal

@@ -1,4 +1,3 @@
-use borrow.Author.Rules.{rules}
 use Rattle.tables.proofs.OneByOne.{routes_four}
 use Rattle.tables.proofs.accept.four_routes.Goals as goal
 

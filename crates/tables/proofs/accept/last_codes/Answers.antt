@@ -1,9 +1,6 @@
-use mathlib.Core.Path.{◌≡◌, refl, ap, ◌∙◌}
+use mathlib.Core.Path.{refl, ap, ◌∙◌}
 use mathlib.Core.Bool.{Bool, ◌&&◌, and-true}
-use Prim.Native.Nat.{◌*◌, ◌/◌, ◌-◌}
 use native.Mathlib.Omega.{arith}
-use lib.ListN.{length, drop}
-use Rattle.tables.specs.Accept.{all_codes}
 use Rattle.tables.proofs.EightCodes.{clear, clear_or}
 use Rattle.tables.proofs.OneByOne.{codes_end}
 use Rattle.tables.proofs.accept.last_codes.Goals as goal

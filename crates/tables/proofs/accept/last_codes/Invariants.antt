@@ -1,13 +1,11 @@
 -- `accept::last_codes` meets its contract. The loop's invariant: what is joined and the codes from i on are fine where what was joined and the codes
 -- past the last whole eight are. The measure is what is left of the codes.
-use mathlib.Core.Path.{◌≡◌, refl, ap, ◌∙◌}
-use mathlib.Core.Bool.{Bool, ◌&&◌, and-true}
+use mathlib.Core.Path.{◌≡◌}
+use mathlib.Core.Bool.{◌&&◌}
 use Prim.Native.Nat.{◌*◌, ◌/◌, ◌-◌}
-use native.Mathlib.Omega.{arith}
 use lib.ListN.{length, drop}
 use Rattle.tables.specs.Accept.{all_codes}
-use Rattle.tables.proofs.EightCodes.{clear, clear_or}
-use Rattle.tables.proofs.OneByOne.{codes_end}
+use Rattle.tables.proofs.EightCodes.{clear}
 use Rattle.tables.proofs.accept.last_codes.Given as goal
 
 abbrev pub invariant-loop-i : goal.invariant-loop-i

@@ -1,11 +1,7 @@
-use mathlib.Core.Path.{◌≡◌, refl}
-use mathlib.Core.Bool.{◌&&◌}
-use Prim.Native.Nat.{◌+◌, ◌*◌, ◌/◌, ◌-◌, ◌<◌}
+use mathlib.Core.Path.{refl}
+use Prim.Native.Nat.{◌+◌, ◌*◌, ◌<◌}
 use native.Mathlib.Omega.{arith}
-use lib.Dec.{ltb}
-use lib.ListN.{length, drop}
-use Rattle.tables.specs.Rows.{rows_of}
-use Rattle.tables.specs.Accept.{all_routes}
+use lib.ListN.{length}
 use Rattle.tables.proofs.OneByOne.{routes_joined, routes_last}
 use Rattle.tables.proofs.accept.last_routes.Goals as goal
 

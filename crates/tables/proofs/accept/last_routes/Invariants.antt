@@ -1,14 +1,12 @@
 -- `accept::last_routes` meets its contract. The loop's invariant: what is joined and the rows from i on are fine where what was joined and the rows
 -- past the last whole eight are. The measure is what is left of the rows.
-use mathlib.Core.Path.{◌≡◌, refl}
+use mathlib.Core.Path.{◌≡◌}
 use mathlib.Core.Bool.{◌&&◌}
-use Prim.Native.Nat.{◌+◌, ◌*◌, ◌/◌, ◌-◌, ◌<◌}
-use native.Mathlib.Omega.{arith}
+use Prim.Native.Nat.{◌*◌, ◌/◌, ◌-◌}
 use lib.Dec.{ltb}
 use lib.ListN.{length, drop}
 use Rattle.tables.specs.Rows.{rows_of}
 use Rattle.tables.specs.Accept.{all_routes}
-use Rattle.tables.proofs.OneByOne.{routes_joined, routes_last}
 use Rattle.tables.proofs.accept.last_routes.Given as goal
 
 abbrev pub invariant-loop-i : goal.invariant-loop-i

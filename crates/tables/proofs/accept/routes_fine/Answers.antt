@@ -1,13 +1,10 @@
 use mathlib.Core.Path.{◌≡◌, refl, sym, ap, ◌∙◌}
 use mathlib.Core.Bool.{Bool, ◌&&◌}
-use Prim.Native.Nat.{◌+◌, ◌*◌, ◌/◌, ◌-◌, ◌≤◌}
+use Prim.Native.Nat.{◌+◌, ◌*◌, ◌/◌}
 use native.Mathlib.Omega.{arith}
-use borrow.Author.Rules.{rules}
 use borrow.Author.Tests.{eq-eqb, ne_eqb}
 use lib.Dec.{ltb}
-use lib.ListN.{length, drop}
-use Rattle.tables.specs.Rows.{rows_of}
-use Rattle.tables.specs.Accept.{all_routes}
+use lib.ListN.{length}
 use Rattle.tables.proofs.OneByOne.{or_on, two_on}
 use Rattle.tables.proofs.accept.routes_fine.Goals as goal
 

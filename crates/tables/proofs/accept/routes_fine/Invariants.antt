@@ -1,16 +1,12 @@
 -- `accept::routes_fine` meets its contract. The loop's invariant: the test of all rows is that of the two numbers joined so far, with that of the
 -- rows from eight times i on. The measure is what is left of the eights.
-use mathlib.Core.Path.{◌≡◌, refl, sym, ap, ◌∙◌}
-use mathlib.Core.Bool.{Bool, ◌&&◌}
-use Prim.Native.Nat.{◌+◌, ◌*◌, ◌/◌, ◌-◌, ◌≤◌}
-use native.Mathlib.Omega.{arith}
-use borrow.Author.Rules.{rules}
-use borrow.Author.Tests.{eq-eqb, ne_eqb}
+use mathlib.Core.Path.{◌≡◌}
+use mathlib.Core.Bool.{◌&&◌}
+use Prim.Native.Nat.{◌*◌, ◌/◌, ◌-◌, ◌≤◌}
 use lib.Dec.{ltb}
 use lib.ListN.{length, drop}
 use Rattle.tables.specs.Rows.{rows_of}
 use Rattle.tables.specs.Accept.{all_routes}
-use Rattle.tables.proofs.OneByOne.{or_on, two_on}
 use Rattle.tables.proofs.accept.routes_fine.Given as goal
 
 abbrev pub invariant-loop-i : goal.invariant-loop-i

@@ -1,12 +1,9 @@
-use mathlib.Core.Path.{◌≡◌, refl}
-use mathlib.Core.Bool.{◌&&◌}
-use Prim.Native.Nat.{◌+◌, ◌-◌, ◌≤◌}
+use mathlib.Core.Path.{refl}
+use Prim.Native.Nat.{◌+◌}
 use native.Mathlib.Omega.{arith}
-use borrow.Author.Rules.{rules}
 use borrow.Author.Tests.{ne_eqb}
-use lib.Dec.{eqb}
-use lib.ListN.{length, get_or, drop}
-use Rattle.tables.proofs.Starts.{climbs, starts_joined, starts_last}
+use lib.ListN.{length}
+use Rattle.tables.proofs.Starts.{starts_joined, starts_last}
 use Rattle.tables.proofs.accept.starts_fine.Goals as goal
 
 pub returns-then-starts-eq0 : goal.returns-then-starts-eq0

@@ -1,14 +1,11 @@
 -- `tables::accept::starts_fine` meets its contract. The loop's invariant: the test of all the starts is what is found so far, joined with the
 -- test of those from `i` on. The measure is what is left of the chips.
-use mathlib.Core.Path.{◌≡◌, refl}
+use mathlib.Core.Path.{◌≡◌}
 use mathlib.Core.Bool.{◌&&◌}
-use Prim.Native.Nat.{◌+◌, ◌-◌, ◌≤◌}
-use native.Mathlib.Omega.{arith}
-use borrow.Author.Rules.{rules}
-use borrow.Author.Tests.{ne_eqb}
+use Prim.Native.Nat.{◌-◌, ◌≤◌}
 use lib.Dec.{eqb}
-use lib.ListN.{length, get_or, drop}
-use Rattle.tables.proofs.Starts.{climbs, starts_joined, starts_last}
+use lib.ListN.{get_or, drop}
+use Rattle.tables.proofs.Starts.{climbs}
 use Rattle.tables.proofs.accept.starts_fine.Given as goal
 
 abbrev pub invariant-loop-i : goal.invariant-loop-i

@@ -1,10 +1,6 @@
 use mathlib.Core.Path.{◌≡◌, sym, ◌∙◌}
-use mathlib.Core.Bool.{false}
-use Prim.Native.Nat.{ℕ, ◌+◌, ◌-◌, ◌≤◌, ◌<◌}
 use native.Mathlib.Omega.{arith}
-use borrow.Author.Rules.{rules}
 use borrow.Author.Count.{below_more}
-use lib.ListN.{length}
 use Rattle.lists.proofs.Firsts.{first_is, first_none}
 use Rattle.tables.specs.Places.{crowded}
 use Rattle.tables.proofs.places.crowd_place.Goals as goal

@@ -1,12 +1,8 @@
 -- `places::crowd_place` meets its contract. The loop's invariant: no chip before c has too many rows. The measure is what is left of the chips.
-use mathlib.Core.Path.{◌≡◌, sym, ◌∙◌}
+use mathlib.Core.Path.{◌≡◌}
 use mathlib.Core.Bool.{false}
 use Prim.Native.Nat.{ℕ, ◌+◌, ◌-◌, ◌≤◌, ◌<◌}
-use native.Mathlib.Omega.{arith}
-use borrow.Author.Rules.{rules}
-use borrow.Author.Count.{below_more}
 use lib.ListN.{length}
-use Rattle.lists.proofs.Firsts.{first_is, first_none}
 use Rattle.tables.specs.Places.{crowded}
 use Rattle.tables.proofs.places.crowd_place.Given as goal
 

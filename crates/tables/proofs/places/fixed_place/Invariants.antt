@@ -1,12 +1,8 @@
 -- `places::fixed_place` meets its contract. The loop's invariant: no chip before c has a wrong route. The measure is what is left of the chips.
-use mathlib.Core.Path.{◌≡◌, sym, ◌∙◌}
-use mathlib.Core.Bool.{true, false}
+use mathlib.Core.Path.{◌≡◌}
+use mathlib.Core.Bool.{false}
 use Prim.Native.Nat.{ℕ, ◌-◌, ◌≤◌, ◌<◌}
-use native.Mathlib.Omega.{arith}
-use borrow.Author.Count.{below_more}
-use borrow.Author.Tests.{lt-ltb, le-ltb, eq-eqb, ne_eqb}
-use lib.ListN.{length, get_or}
-use Rattle.lists.proofs.Firsts.{first_is, first_none}
+use lib.ListN.{length}
 use Rattle.tables.specs.Places.{fixed_wrong}
 use Rattle.tables.proofs.places.fixed_place.Given as goal
 

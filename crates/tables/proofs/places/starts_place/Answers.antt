@@ -1,8 +1,6 @@
 use mathlib.Core.Path.{sym, ◌∙◌}
-use Prim.Native.Nat.{◌+◌, ◌-◌, ◌≤◌}
 use native.Mathlib.Omega.{arith}
-use borrow.Author.Rules.{rules}
-use Rattle.tables.proofs.StartsFound.{Unfallen, one_more, long_wrong, first_wrong, falls, last_wrong, none_wrong}
+use Rattle.tables.proofs.StartsFound.{one_more, long_wrong, first_wrong, falls, last_wrong, none_wrong}
 use Rattle.tables.proofs.places.starts_place.Goals as goal
 
 pub returns-then-starts-eq0 : goal.returns-then-starts-eq0

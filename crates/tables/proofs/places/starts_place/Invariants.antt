@@ -1,9 +1,6 @@
 -- `places::starts_place` meets its contract. The loop's invariant: no start before p is below the one before it. The measure is what is left of the starts.
-use mathlib.Core.Path.{sym, ◌∙◌}
 use Prim.Native.Nat.{◌+◌, ◌-◌, ◌≤◌}
-use native.Mathlib.Omega.{arith}
-use borrow.Author.Rules.{rules}
-use Rattle.tables.proofs.StartsFound.{Unfallen, one_more, long_wrong, first_wrong, falls, last_wrong, none_wrong}
+use Rattle.tables.proofs.StartsFound.{Unfallen}
 use Rattle.tables.proofs.places.starts_place.Given as goal
 
 abbrev pub invariant-loop-p : goal.invariant-loop-p

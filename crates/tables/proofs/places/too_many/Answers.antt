@@ -3,7 +3,6 @@ use Prim.Native.Nat.{ℕ, ◌+◌}
 use native.Mathlib.Omega.{arith}
 use lib.Dec.{ltb}
 use Rattle.tables.proofs.Starts.{more_rows}
-use borrow.Author.Rules.{rules}
 use Rattle.tables.proofs.places.too_many.Goals as goal
 
 pub overflow_add-result : goal.overflow_add-result

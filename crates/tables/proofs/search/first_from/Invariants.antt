@@ -1,11 +1,9 @@
 -- `search::first_from` meets its contract. The loop's invariant: from row i on the search finds what it finds from row `from` on.
 -- The measure is what is left of the rows.
-use mathlib.Core.Path.{◌≡◌, refl, sym, ◌∙◌}
-use Prim.Native.Nat.{◌+◌, ◌*◌, ◌/◌, ◌-◌, ◌<◌, ◌≤◌}
-use native.Mathlib.Omega.{arith}
+use mathlib.Core.Path.{◌≡◌}
+use Prim.Native.Nat.{◌/◌, ◌-◌, ◌≤◌}
 use lib.ListN.{length}
 use Rattle.tables.specs.Rows.{found_from}
-use Rattle.tables.proofs.RowByRow.{from_here, search_on, from_end}
 use Rattle.tables.proofs.search.first_from.Given as goal
 
 abbrev pub invariant-loop-i : goal.invariant-loop-i

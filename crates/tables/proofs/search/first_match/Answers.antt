@@ -1,10 +1,9 @@
 use mathlib.Core.Path.{◌≡◌, refl, sym, ap, ◌∙◌}
-use Prim.Native.Nat.{ℕ, ◌+◌, ◌/◌, ◌-◌, ◌≤◌}
+use Prim.Native.Nat.{◌+◌, ◌/◌, ◌-◌, ◌≤◌}
 use native.Mathlib.Omega.{arith}
 use borrow.Author.Tests.{lt-ltb, le-ltb}
 use lib.ListN.{length}
-use Rattle.tables.specs.declared.Found.{Found}
-use Rattle.tables.specs.Rows.{rows_of, first_match, found_from, found_at}
+use Rattle.tables.specs.Rows.{rows_of, first_match, found_at}
 use Rattle.tables.proofs.RowByRow.{later_zero, from_here, from_next}
 use Rattle.tables.proofs.search.first_match.Goals as goal
 use Rattle.tables.proofs.search.first_match.Goals.{
@@ -79,23 +78,23 @@ returns-then-at-count c =
     let whole = sym c.loop-i.invariant.1.1 in
     let found : found_at (length rows / 3) c.if-count-i-lt4.at ≡ first_match key (rows_of rows) =
     elim c.if-count-i-lt4.branch [
-      then-count-i-lt4 w ↦ ap number w.at-is ∙ w.first_from-at.ensures.0 ∙ whole
-    | else-count-i-lt4+then-matches_at w ↦ ap number w.at-is ∙ from_here rows i key (omega (arith, w.if-count-i-lt4.false)) (sym w.matches_at.ensures ∙ w.if-matches_at.true) ∙ whole
-    | else-count-i-lt4+else-matches_at+then-matches_at-2 w ↦
-        let left : 4 ≤ length rows / 3 - i = w.if-count-i-lt4.false in
-        let e₀ : _ = from_next rows i key (i + 1) refl (omega arith) (sym w.matches_at.ensures ∙ w.if-matches_at.false) in
-        ap number w.at-is ∙ from_here rows (i + 1) key (omega arith) (sym w.matches_at-in-loop-i.ensures ∙ w.if-matches_at-2.true) ∙ sym e₀ ∙ whole
-    | else-count-i-lt4+else-matches_at+else-matches_at-2+then-matches_at-3 w ↦
-        let left : 4 ≤ length rows / 3 - i = w.if-count-i-lt4.false in
-        let e₀ : _ = from_next rows i key (i + 1) refl (omega arith) (sym w.matches_at.ensures ∙ w.if-matches_at.false) in
-        let e₁ : _ = from_next rows (i + 1) key (i + 2) (omega arith) (omega arith) (sym w.matches_at-in-loop-i.ensures ∙ w.if-matches_at-2.false) in
-        ap number w.at-is ∙ from_here rows (i + 2) key (omega arith) (sym w.matches_at-in-loop-i-2.ensures ∙ w.if-matches_at-3.true) ∙ sym e₁ ∙ sym e₀ ∙ whole
-    | else-count-i-lt4+else-matches_at+else-matches_at-2+else-matches_at-3+then-matches_at-4 w ↦
-        let left : 4 ≤ length rows / 3 - i = w.if-count-i-lt4.false in
-        let e₀ : _ = from_next rows i key (i + 1) refl (omega arith) (sym w.matches_at.ensures ∙ w.if-matches_at.false) in
-        let e₁ : _ = from_next rows (i + 1) key (i + 2) (omega arith) (omega arith) (sym w.matches_at-in-loop-i.ensures ∙ w.if-matches_at-2.false) in
-        let e₂ : _ = from_next rows (i + 2) key (i + 3) (omega arith) (omega arith) (sym w.matches_at-in-loop-i-2.ensures ∙ w.if-matches_at-3.false) in
-        ap number w.at-is ∙ from_here rows (i + 3) key (omega arith) (sym w.matches_at-in-loop-i-3.ensures ∙ w.if-matches_at-4.true) ∙ sym e₂ ∙ sym e₁ ∙ sym e₀ ∙ whole
+      | then-count-i-lt4 w ↦ ap number w.at-is ∙ w.first_from-at.ensures.0 ∙ whole
+      | else-count-i-lt4+then-matches_at w ↦ ap number w.at-is ∙ from_here rows i key (omega (arith, w.if-count-i-lt4.false)) (sym w.matches_at.ensures ∙ w.if-matches_at.true) ∙ whole
+      | else-count-i-lt4+else-matches_at+then-matches_at-2 w ↦
+          let left : 4 ≤ length rows / 3 - i = w.if-count-i-lt4.false in
+          let e₀ : _ = from_next rows i key (i + 1) refl (omega arith) (sym w.matches_at.ensures ∙ w.if-matches_at.false) in
+          ap number w.at-is ∙ from_here rows (i + 1) key (omega arith) (sym w.matches_at-in-loop-i.ensures ∙ w.if-matches_at-2.true) ∙ sym e₀ ∙ whole
+      | else-count-i-lt4+else-matches_at+else-matches_at-2+then-matches_at-3 w ↦
+          let left : 4 ≤ length rows / 3 - i = w.if-count-i-lt4.false in
+          let e₀ : _ = from_next rows i key (i + 1) refl (omega arith) (sym w.matches_at.ensures ∙ w.if-matches_at.false) in
+          let e₁ : _ = from_next rows (i + 1) key (i + 2) (omega arith) (omega arith) (sym w.matches_at-in-loop-i.ensures ∙ w.if-matches_at-2.false) in
+          ap number w.at-is ∙ from_here rows (i + 2) key (omega arith) (sym w.matches_at-in-loop-i-2.ensures ∙ w.if-matches_at-3.true) ∙ sym e₁ ∙ sym e₀ ∙ whole
+      | else-count-i-lt4+else-matches_at+else-matches_at-2+else-matches_at-3+then-matches_at-4 w ↦
+          let left : 4 ≤ length rows / 3 - i = w.if-count-i-lt4.false in
+          let e₀ : _ = from_next rows i key (i + 1) refl (omega arith) (sym w.matches_at.ensures ∙ w.if-matches_at.false) in
+          let e₁ : _ = from_next rows (i + 1) key (i + 2) (omega arith) (omega arith) (sym w.matches_at-in-loop-i.ensures ∙ w.if-matches_at-2.false) in
+          let e₂ : _ = from_next rows (i + 2) key (i + 3) (omega arith) (omega arith) (sym w.matches_at-in-loop-i-2.ensures ∙ w.if-matches_at-3.false) in
+          ap number w.at-is ∙ from_here rows (i + 3) key (omega arith) (sym w.matches_at-in-loop-i-3.ensures ∙ w.if-matches_at-4.true) ∙ sym e₂ ∙ sym e₁ ∙ sym e₀ ∙ whole
     ] in
     simp (lt-ltb _ _ c.if-at-count.true) at found
 
@@ -108,22 +107,22 @@ returns-else-at-count c =
     let whole = sym c.loop-i.invariant.1.1 in
     let found : found_at (length rows / 3) c.if-count-i-lt4.at ≡ first_match key (rows_of rows) =
     elim c.if-count-i-lt4.branch [
-      then-count-i-lt4 w ↦ ap number w.at-is ∙ w.first_from-at.ensures.0 ∙ whole
-    | else-count-i-lt4+then-matches_at w ↦ ap number w.at-is ∙ from_here rows i key (omega (arith, w.if-count-i-lt4.false)) (sym w.matches_at.ensures ∙ w.if-matches_at.true) ∙ whole
-    | else-count-i-lt4+else-matches_at+then-matches_at-2 w ↦
-        let left : 4 ≤ length rows / 3 - i = w.if-count-i-lt4.false in
-        let e₀ : _ = from_next rows i key (i + 1) refl (omega arith) (sym w.matches_at.ensures ∙ w.if-matches_at.false) in
-        ap number w.at-is ∙ from_here rows (i + 1) key (omega arith) (sym w.matches_at-in-loop-i.ensures ∙ w.if-matches_at-2.true) ∙ sym e₀ ∙ whole
-    | else-count-i-lt4+else-matches_at+else-matches_at-2+then-matches_at-3 w ↦
-        let left : 4 ≤ length rows / 3 - i = w.if-count-i-lt4.false in
-        let e₀ : _ = from_next rows i key (i + 1) refl (omega arith) (sym w.matches_at.ensures ∙ w.if-matches_at.false) in
-        let e₁ : _ = from_next rows (i + 1) key (i + 2) (omega arith) (omega arith) (sym w.matches_at-in-loop-i.ensures ∙ w.if-matches_at-2.false) in
-        ap number w.at-is ∙ from_here rows (i + 2) key (omega arith) (sym w.matches_at-in-loop-i-2.ensures ∙ w.if-matches_at-3.true) ∙ sym e₁ ∙ sym e₀ ∙ whole
-    | else-count-i-lt4+else-matches_at+else-matches_at-2+else-matches_at-3+then-matches_at-4 w ↦
-        let left : 4 ≤ length rows / 3 - i = w.if-count-i-lt4.false in
-        let e₀ : _ = from_next rows i key (i + 1) refl (omega arith) (sym w.matches_at.ensures ∙ w.if-matches_at.false) in
-        let e₁ : _ = from_next rows (i + 1) key (i + 2) (omega arith) (omega arith) (sym w.matches_at-in-loop-i.ensures ∙ w.if-matches_at-2.false) in
-        let e₂ : _ = from_next rows (i + 2) key (i + 3) (omega arith) (omega arith) (sym w.matches_at-in-loop-i-2.ensures ∙ w.if-matches_at-3.false) in
-        ap number w.at-is ∙ from_here rows (i + 3) key (omega arith) (sym w.matches_at-in-loop-i-3.ensures ∙ w.if-matches_at-4.true) ∙ sym e₂ ∙ sym e₁ ∙ sym e₀ ∙ whole
+      | then-count-i-lt4 w ↦ ap number w.at-is ∙ w.first_from-at.ensures.0 ∙ whole
+      | else-count-i-lt4+then-matches_at w ↦ ap number w.at-is ∙ from_here rows i key (omega (arith, w.if-count-i-lt4.false)) (sym w.matches_at.ensures ∙ w.if-matches_at.true) ∙ whole
+      | else-count-i-lt4+else-matches_at+then-matches_at-2 w ↦
+          let left : 4 ≤ length rows / 3 - i = w.if-count-i-lt4.false in
+          let e₀ : _ = from_next rows i key (i + 1) refl (omega arith) (sym w.matches_at.ensures ∙ w.if-matches_at.false) in
+          ap number w.at-is ∙ from_here rows (i + 1) key (omega arith) (sym w.matches_at-in-loop-i.ensures ∙ w.if-matches_at-2.true) ∙ sym e₀ ∙ whole
+      | else-count-i-lt4+else-matches_at+else-matches_at-2+then-matches_at-3 w ↦
+          let left : 4 ≤ length rows / 3 - i = w.if-count-i-lt4.false in
+          let e₀ : _ = from_next rows i key (i + 1) refl (omega arith) (sym w.matches_at.ensures ∙ w.if-matches_at.false) in
+          let e₁ : _ = from_next rows (i + 1) key (i + 2) (omega arith) (omega arith) (sym w.matches_at-in-loop-i.ensures ∙ w.if-matches_at-2.false) in
+          ap number w.at-is ∙ from_here rows (i + 2) key (omega arith) (sym w.matches_at-in-loop-i-2.ensures ∙ w.if-matches_at-3.true) ∙ sym e₁ ∙ sym e₀ ∙ whole
+      | else-count-i-lt4+else-matches_at+else-matches_at-2+else-matches_at-3+then-matches_at-4 w ↦
+          let left : 4 ≤ length rows / 3 - i = w.if-count-i-lt4.false in
+          let e₀ : _ = from_next rows i key (i + 1) refl (omega arith) (sym w.matches_at.ensures ∙ w.if-matches_at.false) in
+          let e₁ : _ = from_next rows (i + 1) key (i + 2) (omega arith) (omega arith) (sym w.matches_at-in-loop-i.ensures ∙ w.if-matches_at-2.false) in
+          let e₂ : _ = from_next rows (i + 2) key (i + 3) (omega arith) (omega arith) (sym w.matches_at-in-loop-i-2.ensures ∙ w.if-matches_at-3.false) in
+          ap number w.at-is ∙ from_here rows (i + 3) key (omega arith) (sym w.matches_at-in-loop-i-3.ensures ∙ w.if-matches_at-4.true) ∙ sym e₂ ∙ sym e₁ ∙ sym e₀ ∙ whole
     ] in
     simp (le-ltb _ _ c.if-at-count.false) at found

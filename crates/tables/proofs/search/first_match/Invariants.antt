@@ -1,17 +1,9 @@
 -- `search::first_match` meets its contract. The loop's invariant: from row i on the search finds what it finds in the whole table.
 -- The measure is what is left of the rows.
-use mathlib.Core.Path.{◌≡◌, refl, sym, ap, ◌∙◌}
-use mathlib.Core.Logic.{⊎_elim}
-use Prim.Native.Nat.{◌+◌, ◌/◌, ◌-◌, ◌≤◌}
-use native.Mathlib.Omega.{arith}
-use borrow.Author.Tests.{lt-ltb, le-ltb}
+use mathlib.Core.Path.{◌≡◌}
+use Prim.Native.Nat.{◌/◌, ◌-◌, ◌≤◌}
 use lib.ListN.{length}
-use Rattle.tables.specs.Rows.{rows_of, first_match, found_from, found_at}
-use Rattle.tables.proofs.RowByRow.{later_zero, from_here, from_next}
-use Rattle.tables.proofs.search.first_match.Reads as reads
-use Rattle.tables.proofs.search.first_match.Lts as lts
-use Rattle.tables.proofs.search.first_from.Reads as first-from-reads
-use Rattle.tables.proofs.search.matches_at.Reads as matches-at-reads
+use Rattle.tables.specs.Rows.{rows_of, first_match, found_from}
 use Rattle.tables.proofs.search.first_match.Given as goal
 
 abbrev pub invariant-loop-i : goal.invariant-loop-i

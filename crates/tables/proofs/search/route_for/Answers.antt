@@ -1,4 +1,3 @@
-use borrow.Author.Rules.{rules}
 use mathlib.Core.Path.{sym, ap, ◌∙◌}
 use Rattle.tables.proofs.RowByRow.{match_row}
 use Rattle.tables.specs.Rows.{matched_of, rows_of}

@@ -1,4 +1,3 @@
-use borrow.Author.Rules.{rules}
 use native.Mathlib.Omega.{arith}
 use Rattle.tables.proofs.Sizes.{chips_small}
 use Rattle.tables.proofs.size.chips.Goals as goal

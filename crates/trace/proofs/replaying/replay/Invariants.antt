@@ -1,12 +1,10 @@
-use mathlib.Core.Path.{◌≡◌, ◌∙◌}
+use mathlib.Core.Path.{◌≡◌}
 use Prim.Native.Nat.{◌-◌}
-use native.Mathlib.Omega.{arith}
 use lib.ListN.{length}
 use Rattle.mesh.specs.Lending.{tables_of}
 use Rattle.buffer.specs.Testing.{tested_of}
-use Rattle.trace.proofs.SoFar.{SoFar, begun, tested_still}
-use Rattle.trace.proofs.Replays.{log_kept, at_the_end, stopped_here, some_bytes, bytes_within, added_within, one_more}
-use Rattle.trace.proofs.RoomSoFar.{RoomSoFar, room_begun, room_at_the_end, room_stopped, room_more}
+use Rattle.trace.proofs.SoFar.{SoFar}
+use Rattle.trace.proofs.RoomSoFar.{RoomSoFar}
 use Rattle.trace.proofs.replaying.replay.Given as goal
 
 abbrev pub invariant-loop-at : goal.invariant-loop-at
