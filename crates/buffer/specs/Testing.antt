@@ -18,7 +18,7 @@ tested_of l t =
 abbrev pub place_told : Tested → ℕ → ℕ
 place_told x refusal = cond (refusal == x.tables) x.place 0
 
--- `inject_refusals` and `round_refusals`, where the tables' own number is known: the laws `inject_number_lem` and `round_number` say so.
+-- `inject_refusals` and `round_refusals`, where the tables' own number is known: the laws `inject_number_lem` and `round_number_lem` say so.
 abbrev pub inject_number : Tested → ℕ → ℕ → ℕ → List ℕ → ℕ
 inject_number x chips chip room bytes =
     cond (not x.holds) 8

@@ -78,7 +78,7 @@ fn check_floods(
     open(mesh, b.width, b.height, b.phase, b.monitor);
     let mut path = [0u8; PATH];
     let n = argument(rt, 2, &mut path);
-    let mut c = course_on(rt, b)?;
+    let mut c = course_on(rt, b);
     c.pairs = true;
     c = run_links(
         rt,
@@ -196,7 +196,7 @@ fn play_where(
         err(rt, b"or the word fixed for a fixed-route packet\n")?;
         return Ok(2);
     }
-    let begun = course_on(rt, b)?;
+    let begun = course_on(rt, b);
     let c = run_links(
         rt, file, begun, mesh, log, rows, starts, codes, fixed, piece, line,
     )?;
@@ -260,7 +260,7 @@ fn flood_before(
     piece: &mut [u8; PIECE],
     line: &mut [u8; LINE],
 ) -> io::Result<()> {
-    let begun = course_on(rt, b)?;
+    let begun = course_on(rt, b);
     run_links(
         rt, file, begun, mesh, log, rows, starts, codes, fixed, piece, line,
     )?;
@@ -326,7 +326,7 @@ fn play_calls(
         Some(from) => from,
         None => return Ok(2),
     };
-    let c = course_on(rt, b)?;
+    let c = course_on(rt, b);
     match how {
         REPLAY => replay_calls(
             rt, &from, c, trace, mesh, log, rows, starts, codes, fixed, piece,

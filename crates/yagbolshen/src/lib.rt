@@ -1,4 +1,4 @@
-// The C interface: thin exports over the crates below. include/yagbolshen.h declares them.
+// The calls of the model, as thin functions over the crates below: what a program in Rattle calls. `yagbolshen_c` exports them to C.
 #![tactic(auto)]
 
 ghost use Rattle.std.specs.Prelude.{◌≡◌, length};
@@ -34,24 +34,21 @@ use trace::Replayed;
 use tree::Tree;
 
 // The fields of a packet in bytes.
-#[unsafe(no_mangle)]
-pub extern "C" fn yagbolshen_read(packet: &[u8]) -> FieldsRead
+pub fn yagbolshen_read(packet: &[u8]) -> FieldsRead
     ensures { result ≡ read_of packet.now }
 {
     packet::reading::read(packet)
 }
 
 // The bytes of a packet of fields.
-#[unsafe(no_mangle)]
-pub extern "C" fn yagbolshen_pack(fields: Fields) -> Packed
+pub fn yagbolshen_pack(fields: Fields) -> Packed
     ensures { result ≡ packed_of fields }
 {
     packet::reading::pack(fields)
 }
 
 // One pass of one router.
-#[unsafe(no_mangle)]
-pub extern "C" fn yagbolshen_pass(
+pub fn yagbolshen_pass(
     packet: &[u8],
     source: u32,
     width: u32,
@@ -78,24 +75,21 @@ pub extern "C" fn yagbolshen_pass(
 }
 
 // The first row of a table in row structs that takes a key.
-#[unsafe(no_mangle)]
-pub extern "C" fn yagbolshen_find(rows: &[Row], key: u32) -> RowFound
+pub fn yagbolshen_find(rows: &[Row], key: u32) -> RowFound
     ensures { result ≡ found_in key rows.now }
 {
     tables::search::find(rows, key)
 }
 
 // The words that opening a mesh needs.
-#[unsafe(no_mangle)]
-pub extern "C" fn yagbolshen_size(width: u32, height: u32) -> SizeRead
+pub fn yagbolshen_size(width: u32, height: u32) -> SizeRead
     ensures { result ≡ size_of width height }
 {
     buffer::opening::size(width, height)
 }
 
 // Opens a mesh in a buffer.
-#[unsafe(no_mangle)]
-pub extern "C" fn yagbolshen_open(
+pub fn yagbolshen_open(
     mesh: &mut [u32],
     width: u32,
     height: u32,
@@ -109,8 +103,7 @@ pub extern "C" fn yagbolshen_open(
 }
 
 // Passes a local packet at a chip.
-#[unsafe(no_mangle)]
-pub extern "C" fn yagbolshen_inject(
+pub fn yagbolshen_inject(
     mesh: &mut [u32],
     log: &mut [u32],
     chip: u32,
@@ -138,8 +131,7 @@ pub extern "C" fn yagbolshen_inject(
 }
 
 // Passes all that is in flight, once.
-#[unsafe(no_mangle)]
-pub extern "C" fn yagbolshen_round(
+pub fn yagbolshen_round(
     mesh: &mut [u32],
     log: &mut [u32],
     rows: &[u32],
@@ -155,8 +147,7 @@ pub extern "C" fn yagbolshen_round(
 }
 
 // Takes one directed link of a chip up or down.
-#[unsafe(no_mangle)]
-pub extern "C" fn yagbolshen_set_link(mesh: &mut [u32], chip: u32, link: u32, up: bool) -> u32
+pub fn yagbolshen_set_link(mesh: &mut [u32], chip: u32, link: u32, up: bool) -> u32
     ensures value { result ≡ (link_left mesh.old chip link up).refusal }
     ensures leaves { Leaves mesh.old mesh.new (link_left mesh.old chip link up) }
 {
@@ -164,8 +155,7 @@ pub extern "C" fn yagbolshen_set_link(mesh: &mut [u32], chip: u32, link: u32, up
 }
 
 // Hands over a chip's error registers and empties them.
-#[unsafe(no_mangle)]
-pub extern "C" fn yagbolshen_read_registers(mesh: &mut [u32], chip: u32) -> RegistersRead
+pub fn yagbolshen_read_registers(mesh: &mut [u32], chip: u32) -> RegistersRead
     ensures value { result ≡ registers_read (holds_mesh mesh.old) (mesh_of mesh.old) chip }
     ensures leaves { Leaves mesh.old mesh.new (registers_left mesh.old chip) }
 {
@@ -173,40 +163,35 @@ pub extern "C" fn yagbolshen_read_registers(mesh: &mut [u32], chip: u32) -> Regi
 }
 
 // One of a chip's ten counters.
-#[unsafe(no_mangle)]
-pub extern "C" fn yagbolshen_read_counter(mesh: &[u32], chip: u32, counter: u32) -> CountRead
+pub fn yagbolshen_read_counter(mesh: &[u32], chip: u32, counter: u32) -> CountRead
     ensures { result ≡ count_read (holds_mesh mesh.now) (mesh_of mesh.now) chip counter }
 {
     buffer::looking::read_counter(mesh, chip, counter)
 }
 
 // The mesh's size, phase and monitor, and how many packets are in flight.
-#[unsafe(no_mangle)]
-pub extern "C" fn yagbolshen_mesh(mesh: &[u32]) -> MeshRead
+pub fn yagbolshen_mesh(mesh: &[u32]) -> MeshRead
     ensures { result ≡ mesh_read (holds_mesh mesh.now) (mesh_of mesh.now) }
 {
     buffer::looking::look_mesh(mesh)
 }
 
 // One directed link of a chip: whether it is up, how many packets it holds, whether it is ready.
-#[unsafe(no_mangle)]
-pub extern "C" fn yagbolshen_link(mesh: &[u32], chip: u32, link: u32) -> LinkRead
+pub fn yagbolshen_link(mesh: &[u32], chip: u32, link: u32) -> LinkRead
     ensures { result ≡ link_read (holds_mesh mesh.now) (mesh_of mesh.now) chip link }
 {
     buffer::looking::look_link(mesh, chip, link)
 }
 
 // The packet at a place of a directed link, 0 the oldest.
-#[unsafe(no_mangle)]
-pub extern "C" fn yagbolshen_flight(mesh: &[u32], chip: u32, link: u32, place: u32) -> FlightRead
+pub fn yagbolshen_flight(mesh: &[u32], chip: u32, link: u32, place: u32) -> FlightRead
     ensures { result ≡ flight_read (holds_mesh mesh.now) (mesh_of mesh.now) chip link place }
 {
     buffer::looking::look_flight(mesh, chip, link, place)
 }
 
 // Writes the record of a call at the start of a trace's room.
-#[unsafe(no_mangle)]
-pub extern "C" fn yagbolshen_write_record(trace: &mut [u8], call: Call) -> Written
+pub fn yagbolshen_write_record(trace: &mut [u8], call: Call) -> Written
     ensures value { result ≡ written_of (length trace.old) call }
     ensures trace_after { trace.new ≡ written_on call trace.old }
 {
@@ -214,16 +199,14 @@ pub extern "C" fn yagbolshen_write_record(trace: &mut [u8], call: Call) -> Writt
 }
 
 // The record at the start of a trace.
-#[unsafe(no_mangle)]
-pub extern "C" fn yagbolshen_read_record(trace: &[u8]) -> Record
+pub fn yagbolshen_read_record(trace: &[u8]) -> Record
     ensures { result ≡ record_read trace.now }
 {
     records::reading::read_record(trace)
 }
 
 // Makes the calls that a trace keeps, up to the first refusal.
-#[unsafe(no_mangle)]
-pub extern "C" fn yagbolshen_replay(
+pub fn yagbolshen_replay(
     mesh: &mut [u32],
     log: &mut [u32],
     trace: &[u8],
@@ -240,8 +223,7 @@ pub extern "C" fn yagbolshen_replay(
 }
 
 // Fills all P2P codes of a mesh by flooding over its up links.
-#[unsafe(no_mangle)]
-pub extern "C" fn yagbolshen_flood(mesh: &[u32], codes: &mut [u8]) -> u32
+pub fn yagbolshen_flood(mesh: &[u32], codes: &mut [u8]) -> u32
     ensures value { result ≡ flood_refusal (holds_mesh mesh.now) (mesh_of mesh.now) codes.old }
     ensures codes_after { codes.new ≡ flooded (holds_mesh mesh.now) (mesh_of mesh.now) codes.old }
 {
@@ -249,8 +231,7 @@ pub extern "C" fn yagbolshen_flood(mesh: &[u32], codes: &mut [u8]) -> u32
 }
 
 // The rows of a table made fewer, with the numbers of those that went.
-#[unsafe(no_mangle)]
-pub extern "C" fn yagbolshen_fewer(rows: &[u32], left: &mut [u32], gone: &mut [u32]) -> Fewer
+pub fn yagbolshen_fewer(rows: &[u32], left: &mut [u32], gone: &mut [u32]) -> Fewer
     ensures value { result ≡ fewer_of rows.now left.old gone.old }
     ensures left_after { left.new ≡ left_after rows.now left.old gone.old }
     ensures gone_after { gone.new ≡ gone_after rows.now left.old gone.old }
@@ -259,8 +240,7 @@ pub extern "C" fn yagbolshen_fewer(rows: &[u32], left: &mut [u32], gone: &mut [u
 }
 
 // The rows that lead a packet from a source chip to the processors of a list of chips.
-#[unsafe(no_mangle)]
-pub extern "C" fn yagbolshen_tree(
+pub fn yagbolshen_tree(
     width: u32,
     height: u32,
     source: u32,
