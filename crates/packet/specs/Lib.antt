@@ -4,5 +4,6 @@ pub mod Fields
 pub mod Packing
 pub mod Parity
 pub mod Refusal
+pub mod Refused
 pub mod Types
 pub mod Whole

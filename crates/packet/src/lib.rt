@@ -6,6 +6,7 @@ pub mod bytes;
 pub mod control;
 pub mod parity;
 pub mod reading;
+pub mod refused;
 
 // A packet's bytes: control, whether nine bytes are there (1) or five (0), word, and payload, which is 0 for five bytes.
 #[repr(C)]
