@@ -14,6 +14,10 @@ pub record Tables : Type 0 where
 abbrev pub tables_of : List ℕ → List ℕ → List ℕ → List ℕ → ℕ → Tables
 tables_of rows starts codes fixed room = record { rows = rows; starts = starts; codes = codes; fixed = fixed; room = room }
 
+-- The same tables, with a room of so many words beside them.
+abbrev pub with_room : Tables → ℕ → Tables
+with_room t room = tables_of t.rows t.starts t.codes t.fixed room
+
 abbrev pub rows_at : Tables → ℕ → List ℕ
 rows_at t c = take ((get_or t.starts (c + 1) 0 - get_or t.starts c 0) * 3) (drop (get_or t.starts c 0 * 3) t.rows)
 

@@ -1,5 +1,7 @@
-// What a mesh is, what happens in it and what its calls answer: definitions and their laws. There is no code here but the structs of the answers.
+// What a mesh is, what happens in it and what its calls answer: definitions and their laws, the structs of the answers, and the tables that are lent. No call is made here.
 #![tactic(auto)]
+
+pub mod lent;
 
 use kept::Registers;
 use packet::Packet;

@@ -3,6 +3,7 @@
 
 pub mod accept;
 pub mod codes;
+pub mod lent;
 pub mod places;
 pub mod search;
 pub mod size;
