@@ -9,6 +9,7 @@ use links::offsets::{CHIP, HEADER, HEIGHT, MONITOR, PHASE, WIDTH};
 use packet::Packet;
 use steps::deciding::outcome_of;
 use steps::{Outcome, Setting};
+use tables::lent::ChipTables;
 
 pub fn pass_at(
     mesh: &mut [u32],
@@ -32,7 +33,8 @@ pub fn pass_at(
         phase: mesh[PHASE],
         ready,
     };
-    let o = outcome_of(p, source, rows, codes, fixed, t);
+    let tables = ChipTables::new(rows, codes, fixed);
+    let o = outcome_of(p, source, &tables, t);
     after(&mut mesh[at..at + CHIP], o);
     o
 }

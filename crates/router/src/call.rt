@@ -18,6 +18,7 @@ use steps::errors::{errors_of, stamped_of};
 use steps::wants::wanted_of;
 use steps::{Outcome, Setting};
 use tables::accept::{MOST_ROWS, codes_fine, route_fine, routes_fine, rows_fine};
+use tables::lent::ChipTables;
 use tables::places::route_place;
 use tables::size::{chips, size_fine};
 
@@ -59,7 +60,8 @@ fn outcome_unless(
     if refusal == 0 {
         let errors = errors_of(p, source, t.phase);
         let stamped = stamped_of(p, source, errors, t.phase);
-        let wanted = wanted_of(errors, p, source, rows, codes, fixed, t);
+        let tables = ChipTables::new(rows, codes, fixed);
+        let wanted = wanted_of(errors, p, source, &tables, t);
         decide(errors, stamped, source, t.phase, wanted, t.ready)
     } else {
         no_outcome()

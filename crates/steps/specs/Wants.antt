@@ -1,5 +1,5 @@
 -- Step 3, the wanted set: by type, then by mark and NN route.
-use Rattle.std.specs.Prelude.{ℕ, ◌+◌, ◌%◌, ◌^◌, Bool, cond, ◌&&◌, not, List, eqb, ltb}
+use Rattle.std.specs.Prelude.{ℕ, ◌+◌, ◌*◌, ◌%◌, ◌^◌, ◌≤◌, ◌<◌, Bool, cond, ◌&&◌, not, List, eqb, ltb, length}
 use Rattle.packet.specs.declared.Packet.{Packet}
 use Rattle.packet.specs.Control.{kind_of, mark_of, route_of}
 use Rattle.packet.specs.Types.{is_mc}
@@ -62,3 +62,10 @@ wanted_of errors p source tables t = wanted_given errors p source (route_for p.w
 -- Whom the rows concern: an MC packet without error and not marked 10.
 abbrev pub by_rows : ℕ → ℕ → Bool
 by_rows errors control = eqb errors 0 && is_mc control && not (eqb (mark_of control) 2)
+
+-- What wanting rests on: the monitor is a processor, and there is a code for each chip of the mesh.
+pub record Placed (tables : ChipTables) (t : Setting) : Type 0 where
+  pub monitor : t.monitor < 20
+  pub width : t.width ≤ 12
+  pub height : t.height ≤ 12
+  pub enough : t.height * t.width ≤ length tables.codes

@@ -1,6 +1,5 @@
 // What a pass does with a packet: the steps put together.
 ghost use Rattle.std.specs.Prelude.{◌≡◌, ◌<◌};
-ghost use Rattle.tables.specs.Tables.{chip_tables};
 ghost use Rattle.steps.specs.Links.{has};
 ghost use Rattle.steps.specs.Deciding.{has_leg, leg_set, decided, no_outcome, outcome_of, mark_on, packet_on, leg_packet, Checked};
 
@@ -11,24 +10,18 @@ use super::{Outcome, Setting, Wanted};
 use packet::Packet;
 use packet::control::{is_marked, mark_of};
 use packet::parity::with_mark;
+use tables::lent::ChipTables;
 
 // The pass itself, for inputs that have been checked.
-pub fn outcome_of(
-    p: Packet,
-    source: u32,
-    rows: &[u32],
-    codes: &[u8],
-    fixed: u32,
-    t: Setting,
-) -> Outcome
-    requires { Checked p source (chip_tables rows.now codes.now fixed) t }
-    ensures { result ≡ outcome_of p source (chip_tables rows.now codes.now fixed) t }
+pub fn outcome_of(p: Packet, source: u32, tables: &ChipTables<'_>, t: Setting) -> Outcome
+    requires { Checked p source tables.now t }
+    ensures { result ≡ outcome_of p source tables.now t }
 {
     let errors = errors_of(p, source, t.phase);
     let stamped = stamped_of(p, source, errors, t.phase);
     let goes = by_rows(errors, p.control);
-    let found = looked_up(goes, p.word, rows);
-    let wanted = wanted_given(errors, p, source, found, codes, fixed, t);
+    let found = looked_up(goes, p.word, tables.rows());
+    let wanted = wanted_given(errors, p, source, found, tables, t);
     decide(errors, stamped, source, t.phase, wanted, t.ready)
 }
 

@@ -1,16 +1,16 @@
 // The wanted set of a packet: by type, then by mark and NN route.
-ghost use Rattle.std.specs.Prelude.{◌≡◌, length, ◌*◌, ◌^◌, ◌≤◌, ◌<◌, cond, false};
+ghost use Rattle.std.specs.Prelude.{◌≡◌, ◌^◌, ◌<◌, cond, false};
 ghost use Rattle.steps.specs.Links.{monitor_bit};
 ghost use Rattle.tables.specs.declared.Matched.TheVariants.{Missed};
 ghost use Rattle.tables.specs.Rows.{rows_of, route_for};
-ghost use Rattle.tables.specs.Tables.{chip_tables};
-ghost use Rattle.steps.specs.Wants.{wants, miss_wanted, match_wanted, number_wanted, p2p_wanted, nn_wanted, fixed_wanted, wanted_given, wanted_of, by_rows};
+ghost use Rattle.steps.specs.Wants.{Placed, wants, miss_wanted, match_wanted, number_wanted, p2p_wanted, nn_wanted, fixed_wanted, wanted_given, wanted_of, by_rows};
 
 use super::{Setting, Wanted};
 use packet::Packet;
 use packet::control::{is_mc, kind_of, mark_of, route_of};
 use tables::Matched;
 use tables::codes::code_for;
+use tables::lent::ChipTables;
 use tables::search::route_for;
 
 // Whether a packet goes by the rows.
@@ -22,27 +22,19 @@ pub fn by_rows(errors: u32, control: u32) -> bool
 
 // The wanted set of a packet: by the rows where it goes by them, else by its type. The one-router call uses this; the mesh's pass uses
 // `looked_up` and `wanted_given`, the same in two steps, since the compiler puts in place only what has one caller.
-pub fn wanted_of(
-    errors: u32,
-    p: Packet,
-    source: u32,
-    rows: &[u32],
-    codes: &[u8],
-    fixed: u32,
-    t: Setting,
-) -> Wanted
-    requires { (source < 8) × ((t.monitor < 20) × ((t.width ≤ 12) × ((t.height ≤ 12) × (t.height * t.width ≤ length codes.now)))) }
-    ensures { result ≡ wanted_of errors p source (chip_tables rows.now codes.now fixed) t }
+pub fn wanted_of(errors: u32, p: Packet, source: u32, tables: &ChipTables<'_>, t: Setting) -> Wanted
+    requires { (source < 8) × Placed tables.now t }
+    ensures { result ≡ wanted_of errors p source tables.now t }
 {
     if by_rows(errors, p.control) {
         match_wanted(
-            route_for(rows, p.word),
+            route_for(tables.rows(), p.word),
             mark_of(p.control),
             source,
             t.monitor,
         )
     } else {
-        alone(other_wanted(errors, p, source, codes, fixed, t))
+        alone(other_wanted(errors, p, source, tables, t))
     }
 }
 
@@ -63,17 +55,16 @@ pub fn wanted_given(
     p: Packet,
     source: u32,
     found: Matched,
-    codes: &[u8],
-    fixed: u32,
+    tables: &ChipTables<'_>,
     t: Setting,
 ) -> Wanted
-    requires { (source < 8) × ((t.monitor < 20) × ((t.width ≤ 12) × ((t.height ≤ 12) × (t.height * t.width ≤ length codes.now)))) }
-    ensures { result ≡ wanted_given errors p source found codes.now fixed t }
+    requires { (source < 8) × Placed tables.now t }
+    ensures { result ≡ wanted_given errors p source found tables.now.codes tables.now.fixed t }
 {
     if by_rows(errors, p.control) {
         match_wanted(found, mark_of(p.control), source, t.monitor)
     } else {
-        alone(other_wanted(errors, p, source, codes, fixed, t))
+        alone(other_wanted(errors, p, source, tables, t))
     }
 }
 
@@ -85,17 +76,17 @@ pub fn bit(i: u32) -> u32
 }
 
 // What a packet wants that does not go by the rows.
-fn other_wanted(errors: u32, p: Packet, source: u32, codes: &[u8], fixed: u32, t: Setting) -> u32
-    requires { (by_rows errors p.control ≡ false) × ((t.monitor < 20) × ((t.width ≤ 12) × ((t.height ≤ 12) × (t.height * t.width ≤ length codes.now)))) }
-    ensures { wants result ≡ wanted_given errors p source Missed codes.now fixed t }
+fn other_wanted(errors: u32, p: Packet, source: u32, tables: &ChipTables<'_>, t: Setting) -> u32
+    requires { (by_rows errors p.control ≡ false) × Placed tables.now t }
+    ensures { wants result ≡ wanted_given errors p source Missed tables.now.codes tables.now.fixed t }
 {
     if errors == 0 {
         let kind = kind_of(p.control);
         match kind {
             0 => 0,
-            1 => p2p_wanted(p, codes, t),
+            1 => p2p_wanted(p, tables, t),
             2 => nn_wanted(p, source, t.monitor),
-            _ => fixed_wanted(mark_of(p.control), fixed),
+            _ => fixed_wanted(mark_of(p.control), tables.fixed()),
         }
     } else {
         monitor_bit(t.monitor)
@@ -126,12 +117,12 @@ fn miss_wanted(mark: u32, source: u32, monitor: u32) -> Wanted
     }
 }
 
-fn p2p_wanted(p: Packet, codes: &[u8], t: Setting) -> u32
-    requires { (t.monitor < 20) × ((t.width ≤ 12) × ((t.height ≤ 12) × (t.height * t.width ≤ length codes.now))) }
-    ensures { result ≡ p2p_wanted p codes.now t }
+fn p2p_wanted(p: Packet, tables: &ChipTables<'_>, t: Setting) -> u32
+    requires { Placed tables.now t }
+    ensures { result ≡ p2p_wanted p tables.now.codes t }
 {
     number_wanted(
-        code_for(codes, t.width, t.height, p.word % 65536),
+        code_for(tables.codes(), t.width, t.height, p.word % 65536),
         0,
         t.monitor,
     )
