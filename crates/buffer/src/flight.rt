@@ -1,5 +1,5 @@
 // How many packets are in flight.
-ghost use Rattle.std.specs.Prelude.{◌≡◌, ◌*◌, true};
+ghost use Rattle.std.specs.Prelude.{◌≡◌, true};
 ghost use Rattle.buffer.specs.Layout.{mesh_of, chips_of};
 ghost use Rattle.buffer.specs.Holding.{holds_mesh};
 ghost use Rattle.mesh.specs.Weights.{in_flight};
@@ -13,11 +13,9 @@ pub fn in_flight(mesh: &[u32], count: usize) -> u32
     ensures { result ≡ in_flight (mesh_of mesh.now) }
 {
     let mut sum = 0;
-    let mut i = 0;
-    while i < count {
+    for i in 0..count {
         let at = HEADER + i * CHIP;
         sum += on_chip(&mesh[at..at + CHIP]);
-        i += 1;
     }
     sum
 }

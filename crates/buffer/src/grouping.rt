@@ -43,10 +43,8 @@ fn count_aside(mesh: &[u32], chip: usize) -> usize
     let x = (chip as u32) % width;
     let y = (chip as u32) / width;
     let mut count = 0;
-    let mut source = 0;
-    while source < 6 {
+    for source in 0..6 {
         count += mesh[aside_place(width, height, x, y, source)] as usize;
-        source += 1;
     }
     count
 }
@@ -61,11 +59,9 @@ fn keys_aside(mesh: &[u32], chip: usize, keys: &mut [u32]) -> usize
     let x = (chip as u32) % width;
     let y = (chip as u32) / width;
     let mut count = 0;
-    let mut source = 0;
-    while source < 6 {
+    for source in 0..6 {
         let at = aside_place(width, height, x, y, source);
         count = keys_by(mesh, chip, source, at, keys, count);
-        source += 1;
     }
     count
 }
@@ -83,10 +79,8 @@ fn keys_by(
     ensures { (take result keys.new ≡ take count keys.old ++ keys_of (aside_by mesh.now chip source)) × (result ≤ count + 8) }
 {
     let here = mesh[at] as usize;
-    let mut i = 0;
-    while i < here {
+    for i in 0..here {
         keys[count + i] = mesh[at + 2 + i * PLACE];
-        i += 1;
     }
     count + here
 }

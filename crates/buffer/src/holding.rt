@@ -45,12 +45,10 @@ fn places_fine(words: &[u32], count: usize) -> bool
     requires { places_at + count * place_long ≤ length words.now }
     ensures { result ≡ places_fine count (drop places_at words.now) }
 {
-    let mut i = 0;
-    while i < count {
+    for i in 0..count {
         if !packet_fine(packet_at(words, PLACES_AT + i * PLACE)) {
             return false;
         }
-        i += 1;
     }
     true
 }
@@ -115,13 +113,11 @@ fn chips_fine(mesh: &[u32], count: usize) -> bool
     requires { header_long + count * chip_long ≤ length mesh.now }
     ensures { result ≡ chips_fine 0 count mesh.now }
 {
-    let mut i = 0;
-    while i < count {
+    for i in 0..count {
         let at = HEADER + i * CHIP;
         if !chip_fine(&mesh[at..at + CHIP]) {
             return false;
         }
-        i += 1;
     }
     true
 }

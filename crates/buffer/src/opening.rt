@@ -1,5 +1,5 @@
 // How long a mesh buffer must be, and opening a mesh in one.
-ghost use Rattle.std.specs.Prelude.{◌≡◌, ◌≤◌, true, ◌++◌, length, drop, replicate};
+ghost use Rattle.std.specs.Prelude.{◌≡◌, true, length};
 ghost use Rattle.packet.specs.Refusal.{first_of};
 ghost use Rattle.tables.specs.Sizes.{size_fine};
 ghost use Rattle.buffer.specs.Layout.{words_for};
@@ -58,7 +58,7 @@ pub fn open(mesh: &mut [u32], width: u32, height: u32, rounds: u32, monitor: u32
     if mesh.len() < needed {
         return 8;
     }
-    clear(mesh, needed);
+    mesh[..needed].fill(0);
     mesh[WIDTH] = width;
     mesh[HEIGHT] = height;
     mesh[ROUNDS] = rounds;
@@ -70,16 +70,4 @@ pub fn rounds_fine(rounds: u32) -> bool
     ensures { result ≡ rounds_fine rounds }
 {
     (1 <= rounds) & (rounds <= 65535)
-}
-
-// Zeros in the first words.
-fn clear(mesh: &mut [u32], count: usize)
-    requires { count ≤ length mesh.old }
-    ensures { mesh.new ≡ replicate count 0 ++ drop count mesh.old }
-{
-    let mut i = 0;
-    while i < count {
-        mesh[i] = 0;
-        i += 1;
-    }
 }

@@ -37,10 +37,8 @@ pub fn pass_chips(
     ensures room_after { room.new ≡ room_upto (tables_of rows.now starts.now codes.now fixed.now (length room.old)) (λ chip. keys_of (aside_from mesh.old chip)) count room.old }
 {
     let mut n = 0;
-    let mut chip = 0;
-    while chip < count {
+    for chip in 0..count {
         n = pass_chip(mesh, log, n, chip, rows, starts, codes, fixed, room);
-        chip += 1;
     }
     n
 }
@@ -97,11 +95,9 @@ fn pass_links(
     let x = (chip as u32) % width;
     let y = (chip as u32) / width;
     let mut done = n;
-    let mut source = 0;
-    while source < 6 {
+    for source in 0..6 {
         let at = aside_place(width, height, x, y, source);
         done = pass_link(mesh, log, done, chip, source, at, rows, codes, fixed, room);
-        source += 1;
     }
     done
 }
@@ -124,11 +120,9 @@ fn pass_link(
 {
     let count = mesh[at] as usize;
     let mut done = n;
-    let mut i = 0;
-    while i < count {
+    for i in 0..count {
         let p = packet_at(mesh, at + 1 + i * PLACE);
         done = pass_next(mesh, log, done, chip, source, p, rows, codes, fixed, room);
-        i += 1;
     }
     done
 }

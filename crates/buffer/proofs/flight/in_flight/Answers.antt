@@ -10,28 +10,7 @@ use Rattle.buffer.proofs.flight.in_flight.Goals as goal
 pub loop-i-init : goal.loop-i-init
 loop-i-init c = let l = c.args.mesh.now in
     let n = c.args.count in
-    (chips_held l n c.requires.0 c.requires.1, (omega arith, summed_first l n))
-
-pub overflow_mul-at : goal.overflow_mul-at
-overflow_mul-at c = omega arith
-
-pub overflow_add-at : goal.overflow_add-at
-overflow_add-at c = omega arith
-
-pub overflow_add-at-in-loop-i : goal.overflow_add-at-in-loop-i
-overflow_add-at-in-loop-i c = omega arith
-
-pub offset_bounds-mesh-at : goal.offset_bounds-mesh-at
-offset_bounds-mesh-at c = omega arith
-
-pub slice_bounds-on_chip-count : goal.slice_bounds-on_chip-count
-slice_bounds-on_chip-count c = omega arith
-
-pub slice_bounds-on_chip-start : goal.slice_bounds-on_chip-start
-slice_bounds-on_chip-start c = omega arith
-
-pub slice_bounds-on_chip-end : goal.slice_bounds-on_chip-end
-slice_bounds-on_chip-end c = omega arith
+    (chips_held l n c.requires.0 c.requires.1, summed_first l n)
 
 pub on_chip-sum-requires : goal.on_chip-sum-requires
 on_chip-sum-requires c = let i = c.loop-i.i in
@@ -41,22 +20,16 @@ pub overflow_add-sum : goal.overflow_add-sum
 overflow_add-sum c =
     let at = c.loop-i in
     let one : c.on_chip-sum.result ≡ chip_flight (chip_words at.i c.args.mesh.now) = rw (add-sub_cancel_left (header_long + at.i * chip_long) chip_long) at c.on_chip-sum.ensures in
-    let next = summed_next c.args.mesh.now c.args.count at.i at.sum c.requires.1 at.invariant.1.1 c.requires.0 _ (omega arith) one in
+    let next = summed_next c.args.mesh.now c.args.count at.i at.sum c.requires.1 at.invariant.1 c.requires.0 _ (omega arith) one in
     omega (arith, next.few)
-
-pub overflow_add-i : goal.overflow_add-i
-overflow_add-i c = omega arith
-
-pub loop-i-smaller : goal.loop-i-smaller
-loop-i-smaller c = omega arith
 
 pub loop-i-preserved : goal.loop-i-preserved
 loop-i-preserved c =
     let at = c.loop-i in
     let one : c.on_chip-sum.result ≡ chip_flight (chip_words at.i c.args.mesh.now) = rw (add-sub_cancel_left (header_long + at.i * chip_long) chip_long) at c.on_chip-sum.ensures in
-    let next = summed_next c.args.mesh.now c.args.count at.i at.sum c.requires.1 at.invariant.1.1 c.requires.0 _ (omega arith) one in
-    (c.loop-i.invariant.0, (omega arith, next))
+    let next = summed_next c.args.mesh.now c.args.count at.i at.sum c.requires.1 at.invariant.1 c.requires.0 _ (omega arith) one in
+    (c.loop-i.invariant.0, next)
 
 pub returns : goal.returns
 returns c = let at = c.loop-i in
-    summed_last c.args.mesh.now c.args.count at.i at.sum c.requires.1 at.invariant.1.1 c.loop-i-test.false
+    summed_last c.args.mesh.now c.args.count at.i at.sum c.requires.1 at.invariant.1 c.loop-i-test.false

@@ -1,11 +1,8 @@
 -- `grouping::count_aside` meets its contract. The loop's invariant: the packets of the links before `source` are counted, at most eight of each.
-use Rattle.std.proofs.Common.{◌≡◌, ◌-◌, ◌*◌, ◌≤◌, length}
+use Rattle.std.proofs.Common.{◌≡◌, ◌*◌, ◌≤◌, length}
 use Rattle.lists.specs.Lists.{up_to}
 use Rattle.buffer.specs.PassesInTurn.{aside_by}
 use Rattle.buffer.proofs.grouping.count_aside.Given as goal
 
 abbrev pub invariant-loop-source : goal.invariant-loop-source
-invariant-loop-source l = (l.source ≤ 6) × ((l.count ≤ l.source * 8) × (l.count ≡ length (up_to (aside_by l.mesh l.chip) l.source)))
-
-abbrev pub decreases-loop-source : goal.decreases-loop-source
-decreases-loop-source l = 6 - l.source
+invariant-loop-source l = (l.count ≤ l.source * 8) × (l.count ≡ length (up_to (aside_by l.mesh l.chip) l.source))

@@ -1,5 +1,5 @@
 -- `round_passes::pass_chips` meets its contract. The loop's invariant: the chips before `chip` have passed what was set aside for them, and the room is as they leave it.
-use Rattle.std.proofs.Common.{◌≡◌, ◌-◌, ◌≤◌, length}
+use Rattle.std.proofs.Common.{◌≡◌, length}
 use Rattle.mesh.specs.Lending.{tables_of}
 use Rattle.mesh.specs.Steps.{pass_at, same}
 use Rattle.mesh.specs.Room.{keys_of, room_upto}
@@ -8,9 +8,6 @@ use Rattle.buffer.specs.PassesInTurn.{aside_from, Passed}
 use Rattle.buffer.proofs.round_passes.pass_chips.Given as goal
 
 abbrev pub invariant-loop-chip : goal.invariant-loop-chip
-invariant-loop-chip l = (l.chip ≤ l.count)
-    × (Passed (pass_at (tables_of l.rows l.starts l.codes l.fixed 0) same) (up_to (aside_from l.initial.mesh) l.chip) l.initial.mesh l.initial.log 0 l.mesh l.log l.n
-    × ((length l.room ≡ length l.initial.room) × (l.room ≡ room_upto (tables_of l.rows l.starts l.codes l.fixed (length l.initial.room)) (λ chip. keys_of (aside_from l.initial.mesh chip)) l.chip l.initial.room)))
-
-abbrev pub decreases-loop-chip : goal.decreases-loop-chip
-decreases-loop-chip l = l.count - l.chip
+invariant-loop-chip l =
+    Passed (pass_at (tables_of l.rows l.starts l.codes l.fixed 0) same) (up_to (aside_from l.initial.mesh) l.chip) l.initial.mesh l.initial.log 0 l.mesh l.log l.n
+    × (l.room ≡ room_upto (tables_of l.rows l.starts l.codes l.fixed (length l.initial.room)) (λ chip. keys_of (aside_from l.initial.mesh chip)) l.chip l.initial.room)
