@@ -1,15 +1,15 @@
 -- What is known of a call that a record keeps as it is, kind by kind, and how long its record is.
-use mathlib.Core.Path.{◌≡◌, refl, sym, ap, ◌∙◌, subst}
+use mathlib.Core.Path.{◌≡◌, refl, sym, ◌∙◌}
 use mathlib.Core.Logic.{◌⊎◌, inl, inr}
 use mathlib.Core.Bool.{Bool, true, false, ◌&&◌, ◌||◌, and-eq-true_iff}
 use mathlib.Core.List.{List, [], ◌∷◌}
-use Prim.Native.Nat.{ℕ, ◌+◌, ◌≤◌, ◌<◌}
+use Prim.Native.Nat.{ℕ, ◌≤◌, ◌<◌}
 use native.Mathlib.Omega.{arith}
 use lib.Dec.{eqb, ltb, leb}
 use lib.ListN.{length, get_or}
 use borrow.Author.Tests.{eqb-true, eqb-false, ltb-true, leb-true}
 use Rattle.records.specs.declared.Call.{Call}
-use Rattle.records.specs.Records.{record_of, fields_fit, zeros_past, keepable}
+use Rattle.records.specs.Records.{fields_fit, zeros_past, keepable}
 use Rattle.records.proofs.ByKind.{by_1, by_2, by_3, by_else}
 
 -- The kinds of a call that is kept, each with what its fields are.
@@ -95,38 +95,6 @@ module _ {c : Call} where
   chip_small (change k a b d e) = a
   chip_small (read k a b d e) = a
 
-  pub link_small : Kept c → c.link < 256
-  link_small (injection k a b d e) = omega arith
-  link_small (round k a b d e) = omega arith
-  link_small (change k a b d e) = b
-  link_small (read k a b d e) = omega arith
-
-  pub up_small : Kept c → c.up ≤ 1
-  up_small (injection k a b d e) = omega arith
-  up_small (round k a b d e) = omega arith
-  up_small (change k a b d e) = d
-  up_small (read k a b d e) = omega arith
-
-  pub length_small : Kept c → c.length ≤ 9
-  length_small (injection k a b d (inl e)) = omega arith
-  length_small (injection k a b d (inr e)) = omega arith
-  length_small (round k a b d e) = omega arith
-  length_small (change k a b d e) = omega arith
-  length_small (read k a b d e) = omega arith
-
-  pub injection_length : Kept c → c.kind ≡ 1 → (c.length ≡ 9 → ⊥) → c.length ≡ 5
-  injection_length (injection k a b d (inl e)) f other = e
-  injection_length (injection k a b d (inr e)) f other = absurd (other e)
-  injection_length (round k a b d e) f other = absurd (omega arith)
-  injection_length (change k a b d e) f other = absurd (omega arith)
-  injection_length (read k a b d e) f other = absurd (omega arith)
-
-  pub read_kind : Kept c → (c.kind ≡ 1 → ⊥) → (c.kind ≡ 2 → ⊥) → (c.kind ≡ 3 → ⊥) → c.kind ≡ 4
-  read_kind (injection k a b d e) x y z = absurd (x k)
-  read_kind (round k a b d e) x y z = absurd (y k)
-  read_kind (change k a b d e) x y z = absurd (z k)
-  read_kind (read k a b d e) x y z = k
-
 -- ---- the record
 
 -- a list of nine is its nine elements
@@ -147,32 +115,3 @@ nine_of_lem (a ∷ b ∷ c ∷ d ∷ e ∷ f ∷ g ∷ h ∷ i ∷ j ∷ k) p = 
 -- a call with its kind and packet written out
 abbrev pub written : Call → ℕ → ℕ → List ℕ → Call
 written c kind n b = record { kind = kind; chip = c.chip; link = c.link; up = c.up; length = n; bytes = b }
-
-module _ (P : Call → Type 0) (c : Call) where
-  -- what holds of a call so written holds of the call
-  pub of_written : (kind n : ℕ) (b : List ℕ) → c.kind ≡ kind → c.length ≡ n → c.bytes ≡ b → P (written c kind n b) → P c
-  of_written kind n b x y z p = subst P (λ i. record { kind = sym x i; chip = c.chip; link = c.link; up = c.up; length = sym y i; bytes = sym z i }) p
-
--- how long records are
-abbrev Long : ℕ → Call → Type 0
-Long n c = length (record_of c) ≡ n
-
-pub long_injection : (c : Call) → c.kind ≡ 1 → (c.length ≡ 5) ⊎ (c.length ≡ 9) → length (record_of c) ≡ 6 + c.length
-long_injection c k (inl e) = of_written (Long 11) c 1 5 c.bytes k e refl refl ∙ sym (ap (λ (n : ℕ). 6 + n) e)
-long_injection c k (inr e) = of_written (Long 15) c 1 9 c.bytes k e refl refl ∙ sym (ap (λ (n : ℕ). 6 + n) e)
-
-pub long_round : (c : Call) → c.kind ≡ 2 → length (record_of c) ≡ 4
-long_round c k = of_written (Long 4) c 2 c.length c.bytes k refl refl refl
-
-pub long_change : (c : Call) → c.kind ≡ 3 → length (record_of c) ≡ 8
-long_change c k = of_written (Long 8) c 3 c.length c.bytes k refl refl refl
-
-pub long_read : (c : Call) → c.kind ≡ 4 → length (record_of c) ≡ 6
-long_read c k = of_written (Long 6) c 4 c.length c.bytes k refl refl refl
-
-pub record_small : (c : Call) → Kept c → length (record_of c) ≤ 15
-record_small c (injection k a b d (inl e)) = omega (arith, long_injection c k (inl e))
-record_small c (injection k a b d (inr e)) = omega (arith, long_injection c k (inr e))
-record_small c (round k a b d e) = omega (arith, long_round c k)
-record_small c (change k a b d e) = omega (arith, long_change c k)
-record_small c (read k a b d e) = omega (arith, long_read c k)

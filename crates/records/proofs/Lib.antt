@@ -2,8 +2,8 @@ pub mod Bodies
 pub mod BothWays
 pub mod ByKind
 pub mod Keepables
+pub mod NoKind
 pub mod ReadRecords
 pub mod ReadThenWritten
 pub mod Traces
-pub mod WriteRecords
 pub mod WrittenThenRead

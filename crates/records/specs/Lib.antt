@@ -1,3 +1,4 @@
 pub mod BothWays
+pub mod Kinds
 pub mod Records
 pub mod Traces

@@ -1,6 +1,7 @@
 // Records of a kept trace: calls on a mesh as bytes, written and read.
 #![tactic(auto)]
 
+pub mod kinds;
 pub mod reading;
 pub mod writing;
 

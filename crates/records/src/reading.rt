@@ -1,87 +1,99 @@
 // Reading the record at the start of a trace.
-ghost use Rattle.std.specs.Prelude.{◌≡◌, true, ◌⊎◌, length, ◌≤◌, ◌<◌};
+ghost use Rattle.std.specs.Prelude.{◌≡◌, true, ◌⊎◌, length, ◌≤◌, ◌<◌, slice_index};
 ghost use Rattle.packet.specs.Refusal.{first_of};
+ghost use Rattle.packet.specs.Refused.{told};
+ghost use Rattle.records.specs.Kinds.{number_of, Fine, KindRead};
 ghost use Rattle.records.specs.Records.{body_length, body_fine, Readable, read_refusals, chip_at, call_of, injection_at, call_at, record_read};
 
+use super::kinds::Kind;
 use super::{Call, Record};
+use packet::refused::Refused;
 
 // The record at the start. Refusals, the first that applies: 12 cut short, 13 an empty body or another version, 14 kind, body length or
 // link state.
 pub fn read_record(trace: &[u8]) -> Record
     ensures { result ≡ record_read trace.now }
 {
-    let refusal = read_refusal(trace);
-    if refusal != 0 {
-        return Record {
-            refusal,
+    match kind_read(trace) {
+        Ok(kind) => Record {
+            refusal: 0,
+            length: 2 + body_length(trace),
+            call: call_at(trace, kind),
+        },
+        Err(refused) => Record {
+            refusal: u32::from(refused),
             length: 0,
             call: call_of(0, 0, 0, 0),
-        };
-    }
-    Record {
-        refusal: 0,
-        length: 2 + body_length(trace),
-        call: call_at(trace),
+        },
     }
 }
 
-fn read_refusal(trace: &[u8]) -> u32
-    ensures { result ≡ first_of (read_refusals trace.now) }
+// The kind of the record.
+fn kind_read(trace: &[u8]) -> Result<Kind, Refused>
+    ensures { KindRead trace.now result }
 {
     if trace.len() < 2 {
-        return 12;
+        return Err(Refused::CutShort);
     }
     let body = body_length(trace);
     if trace.len() < 2 + body {
-        return 12;
+        return Err(Refused::CutShort);
     }
     if body == 0 {
-        return 13;
+        return Err(Refused::Version);
     }
     if trace[2] != 1 {
-        return 13;
+        return Err(Refused::Version);
     }
-    if !body_fine(trace) {
-        return 14;
+    kind_of_body(trace)
+}
+
+// The kind, where body length and link state go with it.
+fn kind_of_body(trace: &[u8]) -> Result<Kind, Refused>
+    requires { Readable trace.now }
+    ensures { Fine trace.now result }
+{
+    if body_length(trace) < 2 {
+        return Err(Refused::Record);
     }
-    0
+    let kind = Kind::try_from(u32::from(trace[3]))?;
+    if body_fine(trace, kind) {
+        Ok(kind)
+    } else {
+        Err(Refused::Record)
+    }
+}
+
+fn body_fine(trace: &[u8], kind: Kind) -> bool
+    requires { Readable trace.now × (number_of kind ≡ slice_index trace.now 3) }
+    ensures { result ≡ body_fine trace.now }
+{
+    let body = body_length(trace);
+    match kind {
+        Kind::Injection => (body == 9) | (body == 13),
+        Kind::Round => body == 2,
+        Kind::LinkChange => (body == 6) && (trace[7] <= 1),
+        Kind::Registers => body == 4,
+    }
 }
 
 fn body_length(trace: &[u8]) -> usize
     requires { 2 ≤ length trace.now }
     ensures { (result ≡ body_length trace.now) × (result < 65536) }
 {
-    wide(trace[0]) * 256 + wide(trace[1])
-}
-
-// Whether kind, body length and link state go together.
-fn body_fine(trace: &[u8]) -> bool
-    requires { Readable trace.now }
-    ensures { result ≡ body_fine trace.now }
-{
-    let body = body_length(trace);
-    if body < 2 {
-        return false;
-    }
-    match trace[3] {
-        1 => (body == 9) | (body == 13),
-        2 => body == 2,
-        3 => { if body == 6 { trace[7] <= 1 } else { false } }
-        4 => body == 4,
-        _ => false,
-    }
+    usize::from(trace[0]) * 256 + usize::from(trace[1])
 }
 
 // The call of a record that was not refused.
-fn call_at(trace: &[u8]) -> Call
-    requires { Readable trace.now × (body_fine trace.now ≡ true) }
+fn call_at(trace: &[u8], kind: Kind) -> Call
+    requires { Readable trace.now × ((body_fine trace.now ≡ true) × (number_of kind ≡ slice_index trace.now 3)) }
     ensures { result ≡ call_at trace.now }
 {
-    match trace[3] {
-        1 => injection_at(trace),
-        2 => call_of(2, 0, 0, 0),
-        3 => call_of(3, chip_at(trace), trace[6] as u32, trace[7] as u32),
-        _ => call_of(4, chip_at(trace), 0, 0),
+    match kind {
+        Kind::Injection => injection_at(trace),
+        Kind::Round => call_of(2, 0, 0, 0),
+        Kind::LinkChange => call_of(3, chip_at(trace), u32::from(trace[6]), u32::from(trace[7])),
+        Kind::Registers => call_of(4, chip_at(trace), 0, 0),
     }
 }
 
@@ -103,29 +115,23 @@ fn injection_at(trace: &[u8]) -> Call
     requires { Readable trace.now × ((body_length trace.now ≡ 9) ⊎ (body_length trace.now ≡ 13)) }
     ensures { result ≡ injection_at trace.now }
 {
-    let chip = chip_at(trace);
+    let call = call_of(1, chip_at(trace), 0, 0);
     if body_length(trace) == 13 {
         Call {
-            kind: 1,
-            chip,
-            link: 0,
-            up: 0,
             length: 9,
             bytes: [
                 trace[6], trace[7], trace[8], trace[9], trace[10], trace[11], trace[12], trace[13],
                 trace[14],
             ],
+            ..call
         }
     } else {
         Call {
-            kind: 1,
-            chip,
-            link: 0,
-            up: 0,
             length: 5,
             bytes: [
                 trace[6], trace[7], trace[8], trace[9], trace[10], 0, 0, 0, 0,
             ],
+            ..call
         }
     }
 }
@@ -134,11 +140,5 @@ fn chip_at(trace: &[u8]) -> u32
     requires { 6 ≤ length trace.now }
     ensures { result ≡ chip_at trace.now }
 {
-    (trace[4] as u32) * 256 + (trace[5] as u32)
-}
-
-fn wide(byte: u8) -> usize
-    ensures { result ≡ byte }
-{
-    byte as usize
+    u32::from(trace[4]) * 256 + u32::from(trace[5])
 }

@@ -1,105 +1,105 @@
 // Writing the record of a call at the start of the room that is lent.
-ghost use Rattle.std.specs.Prelude.{◌≡◌, true, ◌++◌, length, take, drop, ◌≤◌};
-ghost use Rattle.records.specs.Records.{zeros_past, fields_fit, keepable, record_of, written_of, written_on};
+ghost use Rattle.std.specs.Prelude.{◌≡◌, ◌==◌, true, length, take, drop};
+ghost use Rattle.std.specs.List.{list_all};
+ghost use Rattle.records.specs.Kinds.{number_of, Keeps, WrittenOn};
+ghost use Rattle.records.specs.Records.{fields_fit, keepable, record_of, written_of, written_on};
 
+use super::kinds::Kind;
 use super::{Call, Written};
+use packet::refused::Refused;
 
 // Writes the record. Refusals, the first that applies: 14 a call that no record keeps as it is, 27 no room; then nothing is written.
 pub fn write_record(trace: &mut [u8], call: Call) -> Written
     ensures value { result ≡ written_of (length trace.old) call }
     ensures trace_after { trace.new ≡ written_on call trace.old }
 {
-    let packet = call.bytes;
-    if !(fields_fit(call) & zeros_past(call.length, packet)) {
-        return Written {
-            refusal: 14,
+    match write(trace, call) {
+        Ok(length) => Written { refusal: 0, length },
+        Err(refused) => Written {
+            refusal: u32::from(refused),
             length: 0,
-        };
-    }
-    let size = record_length(call);
-    if trace.len() < size {
-        return Written {
-            refusal: 27,
-            length: 0,
-        };
-    }
-    let bytes = record_bytes(call);
-    copy(trace, &bytes, size);
-    Written {
-        refusal: 0,
-        length: size,
+        },
     }
 }
 
-fn fields_fit(c: Call) -> bool
+// Answers how long the record is.
+fn write(trace: &mut [u8], call: Call) -> Result<usize, Refused>
+    ensures { WrittenOn call trace.old trace.new result }
+{
+    let kind = kind_kept(call)?;
+    let size = record_length(kind, call);
+    if trace.len() < size {
+        return Err(Refused::RecordRoom);
+    }
+    let bytes = record_bytes(kind, call);
+    trace[..size].copy_from_slice(&bytes[..size]);
+    Ok(size)
+}
+
+// The kind of a call that a record keeps as it is.
+#[tactic(auto, using(crate::proofs::NoKind::zeros_all))]
+fn kind_kept(call: Call) -> Result<Kind, Refused>
+    ensures { Keeps call result }
+{
+    let kind = Kind::try_from(call.kind)?;
+    if fields_fit(kind, call) & zeros_past(call.length, call.bytes) {
+        Ok(kind)
+    } else {
+        Err(Refused::Record)
+    }
+}
+
+fn fields_fit(kind: Kind, c: Call) -> bool
+    requires { number_of kind ≡ c.kind }
     ensures { result ≡ fields_fit c }
 {
-    let kind = c.kind;
     match kind {
-        1 => (c.chip < 65536) & (c.link == 0) & (c.up == 0) & ((c.length == 5) | (c.length == 9)),
-        2 => (c.chip == 0) & (c.link == 0) & (c.up == 0) & (c.length == 0),
-        3 => (c.chip < 65536) & (c.link < 256) & (c.up <= 1) & (c.length == 0),
-        _ => (kind == 4) & (c.chip < 65536) & (c.link == 0) & (c.up == 0) & (c.length == 0),
+        Kind::Injection => (c.chip < 65536)
+            & (c.link == 0)
+            & (c.up == 0)
+            & ((c.length == 5) | (c.length == 9)),
+        Kind::Round => (c.chip == 0) & (c.link == 0) & (c.up == 0) & (c.length == 0),
+        Kind::LinkChange => (c.chip < 65536) & (c.link < 256) & (c.up <= 1) & (c.length == 0),
+        Kind::Registers => (c.chip < 65536) & (c.link == 0) & (c.up == 0) & (c.length == 0),
     }
 }
 
 // Whether bytes past a packet are 0.
 fn zeros_past(size: u32, bytes: [u8; 9]) -> bool
-    ensures { result ≡ zeros_past size bytes }
+    ensures { result ≡ list_all (λ b. b == 0) (drop size bytes) }
 {
-    ((0 < size) | (bytes[0] == 0))
-        & ((1 < size) | (bytes[1] == 0))
-        & ((2 < size) | (bytes[2] == 0))
-        & ((3 < size) | (bytes[3] == 0))
-        & ((4 < size) | (bytes[4] == 0))
-        & ((5 < size) | (bytes[5] == 0))
-        & ((6 < size) | (bytes[6] == 0))
-        & ((7 < size) | (bytes[7] == 0))
-        & ((8 < size) | (bytes[8] == 0))
+    bytes.iter().skip(size as usize).all(|byte| *byte == 0)
 }
 
-fn record_length(call: Call) -> usize
-    requires { keepable call ≡ true }
+fn record_length(kind: Kind, call: Call) -> usize
+    requires { (keepable call ≡ true) × (number_of kind ≡ call.kind) }
     ensures { result ≡ length (record_of call) }
 {
-    let kind = call.kind;
     match kind {
-        1 => { if call.length == 9 { 15 } else { 11 } }
-        2 => 4,
-        3 => 8,
-        _ => 6,
+        Kind::Injection => 6 + (call.length as usize),
+        Kind::Round => 4,
+        Kind::LinkChange => 8,
+        Kind::Registers => 6,
     }
 }
 
 // The record's bytes, and some behind them. Behind the chip stand link and state, or a packet.
-fn record_bytes(call: Call) -> [u8; 15]
-    requires { keepable call ≡ true }
+fn record_bytes(kind: Kind, call: Call) -> [u8; 15]
+    requires { (keepable call ≡ true) × (number_of kind ≡ call.kind) }
     ensures { (take (length (record_of call)) result ≡ record_of call) × (length result ≡ 15) }
 {
     let b = call.bytes;
-    let kind = call.kind as u8;
+    let number = u8::from(kind);
     let high = (call.chip / 256) as u8;
     let low = (call.chip % 256) as u8;
-    let body = (record_length(call) - 2) as u8;
-    if kind == 3 {
+    let body = (record_length(kind, call) - 2) as u8;
+    if kind == Kind::LinkChange {
         let link = call.link as u8;
         let up = call.up as u8;
-        [0, body, 1, kind, high, low, link, up, 0, 0, 0, 0, 0, 0, 0]
+        [0, body, 1, number, high, low, link, up, 0, 0, 0, 0, 0, 0, 0]
     } else {
         [
-            0, body, 1, kind, high, low, b[0], b[1], b[2], b[3], b[4], b[5], b[6], b[7], b[8],
+            0, body, 1, number, high, low, b[0], b[1], b[2], b[3], b[4], b[5], b[6], b[7], b[8],
         ]
-    }
-}
-
-// The first bytes of some, at the start of a room.
-fn copy(room: &mut [u8], bytes: &[u8], count: usize)
-    requires { (count ≤ length room.old) × (count ≤ length bytes.now) }
-    ensures { room.new ≡ take count bytes.now ++ drop count room.old }
-{
-    let mut i = 0;
-    while i < count {
-        room[i] = bytes[i];
-        i += 1;
     }
 }
