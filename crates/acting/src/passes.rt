@@ -16,7 +16,6 @@ use sheet::storing::rows_of;
 use std::io;
 use std::num::wrapping_add_usize;
 use steps::Setting;
-use tables::Found;
 use tables::search::first_match;
 
 // Tells the pass of a packet at a chip, and answers what the chip has sent in this round after it.
@@ -122,8 +121,8 @@ fn tell_match(
         return Ok(());
     }
     match first_match(rows, p.word) {
-        Found::At(n) => tell_row(rt, n),
-        Found::Nothing => tell_no_row(rt, source),
+        Some(n) => tell_row(rt, n),
+        None => tell_no_row(rt, source),
     }
 }
 

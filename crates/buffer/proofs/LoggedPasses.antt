@@ -6,14 +6,12 @@ use Rattle.steps.specs.declared.Outcome.{Outcome}
 use Rattle.steps.specs.Deciding.{decided, outcome_of}
 use Rattle.tables.proofs.Starts.{starts_one_more, start_below, start_end}
 use Rattle.tables.specs.Tables.{ChipTables, chip_tables}
-use Rattle.tables.specs.declared.Found.{Found}
-use Rattle.tables.specs.declared.Found.TheVariants.{At, Nothing}
+use Rattle.std.specs.Prelude.{Option, Some, None}
 use Rattle.tables.specs.Rows.{Entry, matches, rows_of, first_match, next, found_at, matched_of, blank_entry, route_for}
 use Rattle.tables.proofs.RowsByNumber.{row_at}
 use Rattle.steps.specs.declared.Setting.{Setting}
 use Rattle.steps.specs.Wants.{wanted_of, wanted_given}
 use Rattle.steps.specs.Errors.{errors_of, stamped_of}
-use Rattle.tables.specs.declared.Matched.{Matched}
 use Rattle.packet.specs.declared.Packet.{Packet}
 use Rattle.mesh.specs.Mesh.{Chip, fresh}
 use Rattle.links.specs.Offsets.{width_at, height_at, monitor_at, phase_at, chip_long, chip_place}
@@ -200,19 +198,19 @@ unfolding mesh_of
 passed_chip t own chip xs l log n l' log' n' all e = passed_alike (pass_by own) (pass_at t same) xs l log n l' log' n' (at_one_chip t own chip xs (going_in l log n) all e)
 
 -- a row that is found by its number is all that a search needs
-first_matches : (key : ℕ) (rows : List Entry) (r : ℕ) → first_match key rows ≡ At r → matches key (get_or rows r blank_entry).key (get_or rows r blank_entry).mask ≡ true
+first_matches : (key : ℕ) (rows : List Entry) (r : ℕ) → first_match key rows ≡ Some r → matches key (get_or rows r blank_entry).key (get_or rows r blank_entry).mask ≡ true
 unfolding first_match
 first_matches key [] r e = let z : ◌≡◌ {A = ℕ} 0 1 = cc in absurd (omega arith)
 first_matches key (row ∷ rows) r e = go (matches key row.key row.mask) refl r (λ m h. first_matches key rows m h) e
   where
-    on : (f : Found) (r : ℕ) → ((m : ℕ) → first_match key rows ≡ At m → matches key (get_or rows m blank_entry).key (get_or rows m blank_entry).mask ≡ true) → first_match key rows ≡ f → next f ≡ At r
+    on : (f : Option ℕ) (r : ℕ) → ((m : ℕ) → first_match key rows ≡ Some m → matches key (get_or rows m blank_entry).key (get_or rows m blank_entry).mask ≡ true) → first_match key rows ≡ f → next f ≡ Some r
         → matches key (get_or (row ∷ rows) r blank_entry).key (get_or (row ∷ rows) r blank_entry).mask ≡ true
-    on (At m) zero ih g z = let o : ◌≡◌ {A = ℕ} 0 1 = cc in absurd (omega arith)
-    on (At m) (suc r) ih g z = let o : m ≡ r = cc in ih r (g ∙ ap At o)
-    on Nothing r ih g z = let o : ◌≡◌ {A = ℕ} 0 1 = cc in absurd (omega arith)
+    on (Some m) zero ih g z = let o : ◌≡◌ {A = ℕ} 0 1 = cc in absurd (omega arith)
+    on (Some m) (suc r) ih g z = let o : m ≡ r = cc in ih r (g ∙ ap Some o)
+    on None r ih g z = let o : ◌≡◌ {A = ℕ} 0 1 = cc in absurd (omega arith)
 
-    go : (b : Bool) → matches key row.key row.mask ≡ b → (r : ℕ) → ((m : ℕ) → first_match key rows ≡ At m → matches key (get_or rows m blank_entry).key (get_or rows m blank_entry).mask ≡ true)
-        → cond b (At 0) (next (first_match key rows)) ≡ At r → matches key (get_or (row ∷ rows) r blank_entry).key (get_or (row ∷ rows) r blank_entry).mask ≡ true
+    go : (b : Bool) → matches key row.key row.mask ≡ b → (r : ℕ) → ((m : ℕ) → first_match key rows ≡ Some m → matches key (get_or rows m blank_entry).key (get_or rows m blank_entry).mask ≡ true)
+        → cond b (Some 0) (next (first_match key rows)) ≡ Some r → matches key (get_or (row ∷ rows) r blank_entry).key (get_or (row ∷ rows) r blank_entry).mask ≡ true
     go true m zero ih z = m
     go true m (suc r) ih z = let o : ◌≡◌ {A = ℕ} 0 1 = cc in absurd (omega arith)
     go false m r ih z = on (first_match key rows) r ih refl z
@@ -221,20 +219,20 @@ module _ (s : List ℕ) (key r : ℕ) (e : found_at (length s / 3) r ≡ first_m
   pub row_found_lem : r < length s / 3 → (n : ℕ) → n ≡ 3 → route_for key (rows_of (take n (drop (r * 3) s))) ≡ route_for key (rows_of s)
   unfolding rows_of first_match
   row_found_lem h n three =
-      let found : first_match key (rows_of s) ≡ At r = sym e ∙ ap (λ (b : Bool). cond b (At r) Nothing) (lt-ltb r (length s / 3) h) in
+      let found : first_match key (rows_of s) ≡ Some r = sym e ∙ ap (λ (b : Bool). cond b (Some r) None) (lt-ltb r (length s / 3) h) in
       let row = get_or (rows_of s) r blank_entry in
       let there : row ≡ record { key = get_or s (r * 3) 0; mask = get_or s (r * 3 + 1) 0; route = get_or s (r * 3 + 2) 0 } = row_at s r (omega arith) in
       let cut : drop (r * 3) s ≡ get_or s (r * 3) 0 ∷ get_or s (r * 3 + 1) 0 ∷ get_or s (r * 3 + 2) 0 ∷ drop (r * 3 + 3) s = three_words s (r * 3) (omega arith) in
       ap (λ (k : ℕ). route_for key (rows_of (take k (drop (r * 3) s)))) three
       ∙ ap (λ (l : List ℕ). route_for key (rows_of (take 3 l))) cut
       ∙ ap (λ (x : Entry). route_for key (x ∷ [])) (sym there)
-      ∙ ap (λ (b : Bool). matched_of (row ∷ []) (cond b (At 0) Nothing)) (first_matches key (rows_of s) r found)
+      ∙ ap (λ (b : Bool). matched_of (row ∷ []) (cond b (Some 0) None)) (first_matches key (rows_of s) r found)
       ∙ sym (ap (matched_of (rows_of s)) found)
 
   pub none_found : length s / 3 ≤ r → route_for key (rows_of []) ≡ route_for key (rows_of s)
   unfolding rows_of first_match
   none_found h =
-      let found : first_match key (rows_of s) ≡ Nothing = sym e ∙ ap (λ (b : Bool). cond b (At r) Nothing) (le-ltb r (length s / 3) h) in
+      let found : first_match key (rows_of s) ≡ None = sym e ∙ ap (λ (b : Bool). cond b (Some r) None) (le-ltb r (length s / 3) h) in
       sym (ap (matched_of (rows_of s)) found)
 
 -- a pass looks at the rows for the route of its packet alone
@@ -242,7 +240,7 @@ outcome_by_route : (rows rows' codes : List ℕ) (fixed : ℕ) (p : Packet) (sou
     → outcome_of p source (chip_tables rows codes fixed) t ≡ outcome_of p source (chip_tables rows' codes fixed) t
 unfolding outcome_of wanted_of
 outcome_by_route rows rows' codes fixed p source t e =
-    ap (λ (m : Matched). decided (errors_of p source t.phase) (stamped_of p source (errors_of p source t.phase) t.phase) source t.phase (wanted_given (errors_of p source t.phase) p source m codes fixed t) t.ready) e
+    ap (λ (m : Option ℕ). decided (errors_of p source t.phase) (stamped_of p source (errors_of p source t.phase) t.phase) source t.phase (wanted_given (errors_of p source t.phase) p source m codes fixed t) t.ready) e
 
 pub passed_route : (rows rows' codes : List ℕ) (fixed : ℕ) (a : Arrival (Unit {0})) (l log : List ℕ) (n : ℕ) (l' log' : List ℕ) (n' : ℕ) → route_for a.flight.packet.word (rows_of rows) ≡ route_for a.flight.packet.word (rows_of rows')
     → Passed (pass_by (chip_tables rows codes fixed)) (a ∷ []) l log n l' log' n' → Passed (pass_by (chip_tables rows' codes fixed)) (a ∷ []) l log n l' log' n'

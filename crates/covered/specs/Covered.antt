@@ -1,10 +1,8 @@
 -- What a covered row comes to, for every key: whatever it matches the earlier row matches too, and so no search ends at it.
-use Rattle.std.specs.Prelude.{ℕ, zero, suc, ◌<◌, ◌≡◌, refl, Bool, true, false, cond, ◌&&◌, List, [], ◌∷◌, eqb, get_or}
+use Rattle.std.specs.Prelude.{ℕ, zero, suc, ◌<◌, ◌≡◌, refl, Bool, true, false, cond, ◌&&◌, List, [], ◌∷◌, eqb, get_or, Option, Some, None}
 use Rattle.std.proofs.Common.{sym, ap, ◌∙◌, true≢false, arith, eqb-true, eq-eqb}
 use Rattle.std.specs.Int.Bits.{bit_and}
 use Rattle.lists.proofs.Bools.{both}
-use Rattle.tables.specs.declared.Found.{Found}
-use Rattle.tables.specs.declared.Found.TheVariants.{At, Nothing}
 use Rattle.tables.specs.Shown.{Shown, found_shown}
 use Rattle.tables.specs.Rows.{Entry, matches, used, next, first_match, blank_entry}
 use Rattle.tables.proofs.Masked.{through}
@@ -33,10 +31,10 @@ Says key rows a =
     × ((k : ℕ) → k < a.value → covers_at rows k a.value ≡ true → ⊥)
 
 -- what a search of the other rows says, once the first does not match
-further : (key : ℕ) (r : Entry) (rs : List Entry) → matches key r.key r.mask ≡ false → (f : Found) → Says key rs (found_shown f)
+further : (key : ℕ) (r : Entry) (rs : List Entry) → matches key r.key r.mask ≡ false → (f : Option ℕ) → Says key rs (found_shown f)
     → Says key (r ∷ rs) (found_shown (next f))
-further key r rs no-match Nothing s e = absurd (omega arith)
-further key r rs no-match (At n) s e = ((s refl).0, go)
+further key r rs no-match None s e = absurd (omega arith)
+further key r rs no-match (Some n) s e = ((s refl).0, go)
   where
     row : Entry
     row = get_or rs n blank_entry
@@ -51,7 +49,7 @@ says key [] = λ e. absurd (omega arith)
 says key (r ∷ rs) = go (matches key r.key r.mask) refl (says key rs)
   where
     go : (b : Bool) → matches key r.key r.mask ≡ b → Says key rs (found_shown (first_match key rs))
-        → Says key (r ∷ rs) (found_shown (cond b (At 0) (next (first_match key rs))))
+        → Says key (r ∷ rs) (found_shown (cond b (Some 0) (next (first_match key rs))))
     go true e s = λ z. (e, λ k h. absurd (omega arith))
     go false e s = further key r rs e (first_match key rs) s
 

@@ -9,10 +9,7 @@ use native.Mathlib.Numerals.{add-one}
 use lib.ListN.{length, get_or, take, drop}
 use lib.Seq.{split_at, drop-cons, get_or-take, length-take-le}
 use Rattle.lists.proofs.Firsts.{first_holds, before_first}
-use Rattle.tables.specs.declared.Found.{Found}
-use Rattle.tables.specs.declared.Found.TheVariants.{At, Nothing}
-use Rattle.tables.specs.declared.Matched.{Matched}
-use Rattle.tables.specs.declared.Matched.TheVariants.{Route}
+use Rattle.std.specs.Prelude.{Option, Some, None}
 use Rattle.tables.specs.Rows.{Entry, matches, next, first_match, matched_of, route_for}
 use Rattle.tables.proofs.Masked.{used_of_match}
 use Rattle.fewer.specs.Process.{Numbered, Process, entries, numbered, blank, row_at, matches_some, covers, goes, joins, without, with_pair, joined, top_going, top_pair, begun, ended, step}
@@ -26,19 +23,19 @@ module _ (key : ℕ) where
   abbrev matched : Entry → Bool
   matched r = matches key r.key r.mask
 
-  abbrev route_in : List Numbered → Matched
+  abbrev route_in : List Numbered → Option ℕ
   route_in rows = route_for key (entries rows)
 
-  further : (r : Entry) (rs : List Entry) (f : Found) → matched_of (r ∷ rs) (next f) ≡ matched_of rs f
-  further r rs (At n) = refl
-  further r rs Nothing = refl
+  further : (r : Entry) (rs : List Entry) (f : Option ℕ) → matched_of (r ∷ rs) (next f) ≡ matched_of rs f
+  further r rs (Some n) = refl
+  further r rs None = refl
 
   -- the first row decides where it matches, and the others where it does not
-  row_by_row : (r : Numbered) (rs : List Numbered) → route_in (r ∷ rs) ≡ cond (matched r.entry) (Route r.entry.route) (route_in rs)
+  row_by_row : (r : Numbered) (rs : List Numbered) → route_in (r ∷ rs) ≡ cond (matched r.entry) (Some r.entry.route) (route_in rs)
   unfolding entries first_match
   row_by_row r rs = go (matched r.entry)
     where
-      go : (b : Bool) → matched_of (entries (r ∷ rs)) (cond b (At 0) (next (first_match key (entries rs)))) ≡ cond b (Route r.entry.route) (route_in rs)
+      go : (b : Bool) → matched_of (entries (r ∷ rs)) (cond b (Some 0) (next (first_match key (entries rs)))) ≡ cond b (Some r.entry.route) (route_in rs)
       go true = refl
       go false = further r.entry (entries rs) (first_match key (entries rs))
 
@@ -46,17 +43,17 @@ module _ (key : ℕ) where
   below : (a x y : List Numbered) → route_in x ≡ route_in y → route_in (a ++ x) ≡ route_in (a ++ y)
   below [] x y e = e
   below (r ∷ a) x y e =
-      row_by_row r (a ++ x) ∙ ap (cond (matched r.entry) (Route r.entry.route)) (below a x y e) ∙ sym (row_by_row r (a ++ y))
+      row_by_row r (a ++ x) ∙ ap (cond (matched r.entry) (Some r.entry.route)) (below a x y e) ∙ sym (row_by_row r (a ++ y))
 
   -- where one of them matches it does not count
   decided : (a x y : List Numbered) (j : ℕ) → j < length a → matched (row_at a j) ≡ true → route_in (a ++ x) ≡ route_in (a ++ y)
   decided [] x y j h m = absurd (omega arith)
   decided (r ∷ a) x y zero h m = row_by_row r (a ++ x) ∙ both_first ∙ sym (row_by_row r (a ++ y))
     where
-      both_first : cond (matched r.entry) (Route r.entry.route) (route_in (a ++ x)) ≡ cond (matched r.entry) (Route r.entry.route) (route_in (a ++ y))
+      both_first : cond (matched r.entry) (Some r.entry.route) (route_in (a ++ x)) ≡ cond (matched r.entry) (Some r.entry.route) (route_in (a ++ y))
       both_first = simp m
   decided (r ∷ a) x y (suc j) h m =
-      row_by_row r (a ++ x) ∙ ap (cond (matched r.entry) (Route r.entry.route)) (decided a x y j (omega arith) m) ∙ sym (row_by_row r (a ++ y))
+      row_by_row r (a ++ x) ∙ ap (cond (matched r.entry) (Some r.entry.route)) (decided a x y j (omega arith) m) ∙ sym (row_by_row r (a ++ y))
 
   module _ (rows : List Numbered) (i : ℕ) where
     route_without : i < length rows → goes rows i ≡ true → route_in (without rows i) ≡ route_in rows
@@ -72,7 +69,7 @@ module _ (key : ℕ) where
         matched_there j l c m = ap (λ (r : Numbered). matched r.entry) (get_or-take i rows j blank l) ∙ covered_matches (row_at rows j) (row_at rows i) c key m
 
         go : (b : Bool) → matched x.entry ≡ b → route_in (without rows i) ≡ route_in (take i rows ++ x ∷ drop (i + 1) rows)
-        go false m = below (take i rows) (drop (i + 1) rows) (x ∷ drop (i + 1) rows) (sym (row_by_row x (drop (i + 1) rows) ∙ ap (λ (b : Bool). cond b (Route x.entry.route) (route_in (drop (i + 1) rows))) m))
+        go false m = below (take i rows) (drop (i + 1) rows) (x ∷ drop (i + 1) rows) (sym (row_by_row x (drop (i + 1) rows) ∙ ap (λ (b : Bool). cond b (Some x.entry.route) (route_in (drop (i + 1) rows))) m))
         go true m =
             ⊎_elim (λ (n : matches_some (row_at rows i) ≡ false). absurd (true≢false (sym (used_of_match key x.entry.key x.entry.mask m) ∙ n)))
             (λ (c : (j : ℕ) × ((j < i) × (covers (row_at rows j) (row_at rows i) ≡ true))).
@@ -103,17 +100,17 @@ module _ (key : ℕ) where
             ∙ ap (λ (l : List Numbered). take i rows ++ a ∷ l) (sym (drop-cons rows (suc i) blank (omega arith)))
             ∙ sym (split_at rows i blank (omega arith))
 
-        either : (x y : Bool) → cond (x || y) (Route a.entry.route) (route_in rest) ≡ cond x (Route a.entry.route) (cond y (Route b.entry.route) (route_in rest))
+        either : (x y : Bool) → cond (x || y) (Some a.entry.route) (route_in rest) ≡ cond x (Some a.entry.route) (cond y (Some b.entry.route) (route_in rest))
         either true y = refl
-        either false true = ap Route (same_route a.entry b.entry j)
+        either false true = ap Some (same_route a.entry b.entry j)
         either false false = refl
 
         same : route_in (one ∷ rest) ≡ route_in (a ∷ b ∷ rest)
         same =
             row_by_row one rest
-            ∙ ap (λ (m : Bool). cond m (Route a.entry.route) (route_in rest)) (joined_matches a.entry b.entry j some other key)
+            ∙ ap (λ (m : Bool). cond m (Some a.entry.route) (route_in rest)) (joined_matches a.entry b.entry j some other key)
             ∙ either (matched a.entry) (matched b.entry)
-            ∙ sym (row_by_row a (b ∷ rest) ∙ ap (cond (matched a.entry) (Route a.entry.route)) (row_by_row b rest))
+            ∙ sym (row_by_row a (b ∷ rest) ∙ ap (cond (matched a.entry) (Some a.entry.route)) (row_by_row b rest))
 
   same_step : (rows : List Entry) (p : Process) → route_in p.left ≡ route_for key rows → route_in (step p).left ≡ route_for key rows
   same_step rows p e =

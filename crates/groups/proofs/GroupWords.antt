@@ -6,7 +6,7 @@ use mathlib.Core.List.{List, ◌∷◌}
 use native.Mathlib.Omega.{arith}
 use lib.ListN.{length, get_or, drop, drop_of_length-le}
 use lib.Seq.{drop-cons}
-use Rattle.tables.specs.declared.Found.TheVariants.{At, Nothing}
+use Rattle.std.specs.Prelude.{Some, None}
 use Rattle.tables.specs.Rows.{Entry, matches, rows_of, first_match, blank_entry}
 use Rattle.tables.proofs.RowsByNumber.{row_at, rows_many}
 use Rattle.groups.specs.Groups.{top_of, group_of, first_in, GroupedFor}
@@ -46,7 +46,7 @@ module _ (words : List ℕ) (room : List ℕ) (key : ℕ) (holds : GroupedFor (r
     by_row b m = ap (λ (r : Entry). matches key r.key r.mask) (row_at words (get_or room k 0) number_row) ∙ m
 
     pub found_here : matches key (get_or words (get_or room k 0 * 3) 0) (get_or words (get_or room k 0 * 3 + 1) 0) ≡ true
-        → first_in key (rows_of words) (left_at (rows_of words) key k) ≡ At (get_or room k 0)
+        → first_in key (rows_of words) (left_at (rows_of words) key k) ≡ Some (get_or room k 0)
     unfolding first_in
     found_here m = ap (first_in key (rows_of words)) one_left ∙ simp (by_row true m)
 
@@ -61,7 +61,7 @@ search_begins rows key k small e =
     let z : k - begin_of rows key ≡ 0 = omega arith in
     ap (λ (n : ℕ). first_in key rows (drop n (group_of rows (top_of key)))) z ∙ same_row rows key small
 
-pub search_ends : (rows : List Entry) (key k : ℕ) → begin_of rows key + length (group_of rows (top_of key)) ≤ k → first_in key rows (left_at rows key k) ≡ Nothing
+pub search_ends : (rows : List Entry) (key k : ℕ) → begin_of rows key + length (group_of rows (top_of key)) ≤ k → first_in key rows (left_at rows key k) ≡ None
 unfolding first_in
 search_ends rows key k h =
     let past : length (group_of rows (top_of key)) ≤ k - begin_of rows key = omega arith in

@@ -8,16 +8,15 @@ use native.Mathlib.Nat.{mod-eq_of_lt}
 use borrow.Author.Tests.{eqb-true, eqb-false}
 use lib.Bits.{bit_and, and_shr, and_mask}
 use lib.ListN.{get_or}
-use Rattle.tables.specs.declared.Found.{Found}
-use Rattle.tables.specs.declared.Found.TheVariants.{At, Nothing}
+use Rattle.std.specs.Prelude.{Option, Some, None}
 use Rattle.tables.specs.Rows.{Entry, matches, first_match, next, later, blank_entry}
 use Rattle.tables.proofs.RowByRow.{later_zero}
 use Rattle.groups.specs.Groups.{top_of, fixes_top, in_group, group_from, first_in}
 use Rattle.groups.specs.Promises.{SameRow}
 
-later_next : (i : ℕ) (f : Found) → later i (next f) ≡ later (suc i) f
-later_next i (At n) = ap At (omega arith)
-later_next i Nothing = refl
+later_next : (i : ℕ) (f : Option ℕ) → later i (next f) ≡ later (suc i) f
+later_next i (Some n) = ap Some (omega arith)
+later_next i None = refl
 
 -- a row that fixes the top byte and matches has the key's
 same_top : (key row mask : ℕ) → key < 2 ^ 32 → top_of mask ≡ 255 → bit_and key mask ≡ row → top_of row ≡ top_of key
@@ -49,7 +48,7 @@ from key small all (r ∷ rows) i same =
 
     go : first_in key all (group_from (top_of key) (suc i) rows) ≡ later (suc i) (first_match key rows)
         → (b : Bool) → in_group (top_of key) r ≡ b → (m : Bool) → matches key r.key r.mask ≡ m
-        → first_in key all (cond b (i ∷ group_from (top_of key) (suc i) rows) (group_from (top_of key) (suc i) rows)) ≡ later i (cond (matches key r.key r.mask) (At 0) (next (first_match key rows)))
+        → first_in key all (cond b (i ∷ group_from (top_of key) (suc i) rows) (group_from (top_of key) (suc i) rows)) ≡ later i (cond (matches key r.key r.mask) (Some 0) (next (first_match key rows)))
     go on true e true m = let z : i + 0 ≡ i = omega arith in simp (here, m, z)
     go on true e false m = simp (here, m) (on ∙ sym (later_next i (first_match key rows)))
     go on false e m h = simp (left_out key r small e) (on ∙ sym (later_next i (first_match key rows)))

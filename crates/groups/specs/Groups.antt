@@ -1,8 +1,6 @@
 -- "Rows grouped by the top byte of the key where the mask fixes it, other rows in every group, original order kept", and how the groups stand in lent room.
-use Rattle.std.specs.Prelude.{ℕ, suc, ◌+◌, ◌*◌, ◌/◌, ◌^◌, ◌≤◌, ◌<◌, Bool, false, not, ◌||◌, cond, List, [], ◌∷◌, ◌++◌, map, ◌≡◌, eqb, length, get_or, drop}
+use Rattle.std.specs.Prelude.{ℕ, suc, ◌+◌, ◌*◌, ◌/◌, ◌^◌, ◌≤◌, ◌<◌, Bool, false, not, ◌||◌, cond, List, [], ◌∷◌, ◌++◌, map, ◌≡◌, eqb, length, get_or, drop, Option, Some, None}
 use Rattle.lists.specs.Lists.{up_to, part}
-use Rattle.tables.specs.declared.Found.{Found}
-use Rattle.tables.specs.declared.Found.TheVariants.{At, Nothing}
 use Rattle.tables.specs.Rows.{Entry, matches, blank_entry}
 
 -- "The top byte" of a key or a mask.
@@ -66,6 +64,6 @@ pub record GroupedFor (rows : List Entry) (room : List ℕ) (key : ℕ) : Type 0
   pub there : (k : ℕ) → k < length (group_of rows (top_of key)) → get_or room (257 + top_of key * length rows + k) 0 ≡ get_or (group_of rows (top_of key)) k 0
 
 -- The search through the rows that a list of row numbers names.
-unfoldable pub first_in : ℕ → List Entry → List ℕ → Found
-first_in key rows [] = Nothing
-first_in key rows (i ∷ is) = cond (matches key (get_or rows i blank_entry).key (get_or rows i blank_entry).mask) (At i) (first_in key rows is)
+unfoldable pub first_in : ℕ → List Entry → List ℕ → Option ℕ
+first_in key rows [] = None
+first_in key rows (i ∷ is) = cond (matches key (get_or rows i blank_entry).key (get_or rows i blank_entry).mask) (Some i) (first_in key rows is)

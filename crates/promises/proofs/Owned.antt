@@ -11,8 +11,7 @@ use Rattle.packet.specs.declared.Packet.{Packet}
 use Rattle.packet.specs.Control.{kind_of, mark_of}
 use Rattle.packet.specs.Types.{is_mc}
 use Rattle.packet.proofs.Types.{mc_marked}
-use Rattle.tables.specs.declared.Found.{Found}
-use Rattle.tables.specs.declared.Found.TheVariants.{At, Nothing}
+use Rattle.std.specs.Prelude.{Option, Some, None}
 use Rattle.tables.specs.Rows.{rows_of, first_match, matched_of, route_for}
 use Rattle.tables.specs.Tables.{ChipTables}
 use Rattle.tables.specs.Shown.{found_shown}
@@ -45,9 +44,9 @@ module _ (q : Packet) (s : ℕ) (tables : ChipTables) (t : Setting) where
   abbrev errors : ℕ
   errors = errors_of q s t.phase
 
-  missed_row : (f : Found) (mark : ℕ) → (match_wanted (matched_of (rows_of tables.rows) f) mark s t.monitor).missed ≡ flag (eqb s 7 && true && true && eqb (found_shown f).number 0) 1
-  missed_row (At n) mark = simp and-false
-  missed_row Nothing mark = go (eqb s 7)
+  missed_row : (f : Option ℕ) (mark : ℕ) → (match_wanted (matched_of (rows_of tables.rows) f) mark s t.monitor).missed ≡ flag (eqb s 7 && true && true && eqb (found_shown f).number 0) 1
+  missed_row (Some n) mark = simp and-false
+  missed_row None mark = go (eqb s 7)
     where
       go : (b : Bool) → (cond {A = Wanted} b (record { set = 2 ^ (6 + t.monitor); missed = 1 }) (record { set = 2 ^ (cond (eqb mark 3) (s + 2) (s + 3) % 6); missed = 0 })).missed
           ≡ flag (b && true && true && true) 1

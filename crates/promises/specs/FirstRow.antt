@@ -1,9 +1,7 @@
 -- The search, for every table and key: its number is that of the first row that matches, and it finds nothing only where no row matches. The search
 -- through row structs says the same.
-use Rattle.std.specs.Prelude.{ℕ, zero, suc, ◌%◌, ◌^◌, ◌<◌, ◌≤◌, ◌≡◌, refl, Bool, true, false, cond, List, [], ◌∷◌, length, get_or}
+use Rattle.std.specs.Prelude.{ℕ, zero, suc, ◌%◌, ◌^◌, ◌<◌, ◌≤◌, ◌≡◌, refl, Bool, true, false, cond, List, [], ◌∷◌, length, get_or, Option, Some, None}
 use Rattle.std.proofs.Common.{sym, arith, mod-eq_of_lt}
-use Rattle.tables.specs.declared.Found.{Found}
-use Rattle.tables.specs.declared.Found.TheVariants.{At, Nothing}
 use Rattle.tables.specs.declared.Row.{Row}
 use Rattle.tables.specs.declared.RowFound.{RowFound}
 use Rattle.tables.specs.Shown.{Shown, found_shown, matched_shown}
@@ -25,14 +23,14 @@ record Says (key : ℕ) (rows : List Entry) (a : Shown) : Type 0 where
   none : a.number ≡ 0 → (k : ℕ) → k < length rows → matches_at key rows k ≡ false
 
 -- what a search of the other rows says, once the first does not match
-further : (key : ℕ) (r : Entry) (rs : List Entry) → matches key r.key r.mask ≡ false → (f : Found) → Says key rs (found_shown f)
+further : (key : ℕ) (r : Entry) (rs : List Entry) → matches key r.key r.mask ≡ false → (f : Option ℕ) → Says key rs (found_shown f)
     → Says key (r ∷ rs) (found_shown (next f))
-further key r rs no-match (At n) s = record { first = λ e. record { there = omega (arith, (s.first refl).there); matching = (s.first refl).matching; before = go }; none = λ e. absurd (omega arith) }
+further key r rs no-match (Some n) s = record { first = λ e. record { there = omega (arith, (s.first refl).there); matching = (s.first refl).matching; before = go }; none = λ e. absurd (omega arith) }
   where
     go : (k : ℕ) → k < suc n → matches_at key (r ∷ rs) k ≡ false
     go zero h = no-match
     go (suc k) h = (s.first refl).before k (omega arith)
-further key r rs no-match Nothing s = record { first = λ e. absurd (omega arith); none = λ e. go }
+further key r rs no-match None s = record { first = λ e. absurd (omega arith); none = λ e. go }
   where
     go : (k : ℕ) → k < suc (length rs) → matches_at key (r ∷ rs) k ≡ false
     go zero h = no-match
@@ -44,7 +42,7 @@ search_says key [] = record { first = λ e. absurd (omega arith); none = λ e k 
 search_says key (r ∷ rs) = go (matches key r.key r.mask) refl (search_says key rs)
   where
     go : (b : Bool) → matches key r.key r.mask ≡ b → Says key rs (found_shown (first_match key rs))
-        → Says key (r ∷ rs) (found_shown (cond b (At 0) (next (first_match key rs))))
+        → Says key (r ∷ rs) (found_shown (cond b (Some 0) (next (first_match key rs))))
     go true e s = record { first = λ z. record { there = omega arith; matching = e; before = λ k h. absurd (omega arith) }; none = λ z. absurd (omega arith) }
     go false e s = further key r rs e (first_match key rs) s
 
@@ -65,16 +63,16 @@ row_shown r = record { number = r.found; value = r.row }
 pub find_route : (key : ℕ) (rows : List Row) → route_shown (found_in key rows) ≡ matched_shown (route_for key (rows_of (numbers_of rows)))
 find_route key rows = go (first_match key (rows_of (numbers_of rows)))
   where
-    go : (f : Found) → route_shown (row_found f rows) ≡ matched_shown (matched_of (rows_of (numbers_of rows)) f)
-    go (At n) = λ i. record { number = 1; value = sym (route_of_row rows n) i }
-    go Nothing = refl
+    go : (f : Option ℕ) → route_shown (row_found f rows) ≡ matched_shown (matched_of (rows_of (numbers_of rows)) f)
+    go (Some n) = λ i. record { number = 1; value = sym (route_of_row rows n) i }
+    go None = refl
 
 -- So is the row's number, in a table of up to 2^32 rows.
 pub find_number : (key : ℕ) (rows : List Row) → length rows ≤ 2 ^ 32 → row_shown (found_in key rows) ≡ found_shown (first_match key (rows_of (numbers_of rows)))
 find_number key rows fits = go (first_match key (rows_of (numbers_of rows))) (search_says key (rows_of (numbers_of rows)))
   where
-    go : (f : Found) → Says key (rows_of (numbers_of rows)) (found_shown f) → row_shown (row_found f rows) ≡ found_shown f
-    go (At n) s =
+    go : (f : Option ℕ) → Says key (rows_of (numbers_of rows)) (found_shown f) → row_shown (row_found f rows) ≡ found_shown f
+    go (Some n) s =
         let own : n % 2 ^ 32 ≡ n = mod-eq_of_lt (omega (arith, (s.first refl).there, length_rows rows)) in
         λ i. record { number = 1; value = own i }
-    go Nothing s = refl
+    go None s = refl

@@ -1,11 +1,9 @@
 -- Rows that match no key, as a board's unused ones: a row matches some key exactly when its key has no bit outside its mask, and a table gives
 -- every key the same route without the others.
-use Rattle.std.specs.Prelude.{ℕ, ◌≡◌, refl, Bool, true, false, cond, List, [], ◌∷◌}
+use Rattle.std.specs.Prelude.{ℕ, ◌≡◌, refl, Bool, true, false, cond, List, [], ◌∷◌, Option, Some, None}
 use Rattle.std.proofs.Common.{sym, ◌∙◌, true≢false, eqb-true, eq-eqb}
 use Rattle.std.proofs.Math.Path.{ap}
 use Rattle.std.specs.Int.Bits.{bit_and}
-use Rattle.tables.specs.declared.Found.{Found}
-use Rattle.tables.specs.declared.Found.TheVariants.{At, Nothing}
 use Rattle.tables.specs.Rows.{Entry, matches, used, next, first_match, matched_of, route_for}
 use Rattle.tables.specs.Shown.{matched_shown}
 use Rattle.tables.proofs.Masked.{used_of_match}
@@ -26,15 +24,15 @@ unused_matches_nothing key row mask outside = go (matches key row mask) refl
 pub used_matches_itself : (row mask : ℕ) → bit_and row mask ≡ row → matches row row mask ≡ true
 used_matches_itself row mask inside = eq-eqb (bit_and row mask) row inside
 
-next_route : (r : Entry) (rs : List Entry) (f : Found) → matched_of (r ∷ rs) (next f) ≡ matched_of rs f
-next_route r rs (At n) = refl
-next_route r rs Nothing = refl
+next_route : (r : Entry) (rs : List Entry) (f : Option ℕ) → matched_of (r ∷ rs) (next f) ≡ matched_of rs f
+next_route r rs (Some n) = refl
+next_route r rs None = refl
 
 -- a first row that does not match changes no route, and one that does is found in any table that it heads
 module _ (key : ℕ) (r : Entry) (rs : List Entry) where
   route_past : matches key r.key r.mask ≡ false → route_for key (r ∷ rs) ≡ route_for key rs
   unfolding first_match
-  route_past m = ap (λ (b : Bool). matched_of (r ∷ rs) (cond b (At 0) (next (first_match key rs)))) m ∙ next_route r rs (first_match key rs)
+  route_past m = ap (λ (b : Bool). matched_of (r ∷ rs) (cond b (Some 0) (next (first_match key rs)))) m ∙ next_route r rs (first_match key rs)
 
   route_here : (others : List Entry) → matches key r.key r.mask ≡ true → route_for key (r ∷ rs) ≡ route_for key (r ∷ others)
   unfolding first_match

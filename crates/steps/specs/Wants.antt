@@ -1,9 +1,8 @@
 -- Step 3, the wanted set: by type, then by mark and NN route.
-use Rattle.std.specs.Prelude.{ℕ, ◌+◌, ◌*◌, ◌%◌, ◌^◌, ◌≤◌, ◌<◌, Bool, cond, ◌&&◌, not, List, eqb, ltb, length}
+use Rattle.std.specs.Prelude.{ℕ, ◌+◌, ◌*◌, ◌%◌, ◌^◌, ◌≤◌, ◌<◌, Bool, cond, ◌&&◌, not, List, eqb, ltb, length, Option}
 use Rattle.packet.specs.declared.Packet.{Packet}
 use Rattle.packet.specs.Control.{kind_of, mark_of, route_of}
 use Rattle.packet.specs.Types.{is_mc}
-use Rattle.tables.specs.declared.Matched.{Matched}
 use Rattle.tables.specs.Shown.{matched_shown}
 use Rattle.tables.specs.Rows.{rows_of, route_for}
 use Rattle.tables.specs.Codes.{code_for}
@@ -22,11 +21,11 @@ miss_wanted mark source monitor =
     cond (eqb source 7) (record { set = monitor_bit monitor; missed = 1 })
     (wants (2 ^ link (cond (eqb mark 3) (source + 2) (source + 3))))
 
-abbrev pub match_wanted : Matched → ℕ → ℕ → ℕ → Wanted
+abbrev pub match_wanted : Option ℕ → ℕ → ℕ → ℕ → Wanted
 match_wanted m mark source monitor = cond (eqb (matched_shown m).number 1) (wants (matched_shown m).value) (miss_wanted mark source monitor)
 
 -- "MC, mark not 10: the matching row's route; ... MC, mark 10: nothing."
-abbrev pub mark_wanted : Matched → ℕ → ℕ → ℕ → Wanted
+abbrev pub mark_wanted : Option ℕ → ℕ → ℕ → ℕ → Wanted
 mark_wanted m mark source monitor = cond (eqb mark 2) (wants 0) (match_wanted m mark source monitor)
 
 -- A P2P code and an NN route lead alike, but for 6.
@@ -46,13 +45,13 @@ abbrev pub fixed_wanted : ℕ → ℕ → ℕ
 fixed_wanted mark fixed = cond (eqb mark 2) 0 fixed
 
 -- By type, given what the rows say to the packet's key.
-abbrev pub kind_wanted : ℕ → Packet → ℕ → Matched → List ℕ → ℕ → Setting → Wanted
+abbrev pub kind_wanted : ℕ → Packet → ℕ → Option ℕ → List ℕ → ℕ → Setting → Wanted
 kind_wanted kind p source found codes fixed t =
     cond (eqb kind 0) (mark_wanted found (mark_of p.control) source t.monitor)
     (wants (cond (eqb kind 1) (p2p_wanted p codes t) (cond (eqb kind 2) (nn_wanted p source t.monitor) (fixed_wanted (mark_of p.control) fixed))))
 
 -- "A packet in error goes, as it came, to the monitor and nowhere else".
-abbrev pub wanted_given : ℕ → Packet → ℕ → Matched → List ℕ → ℕ → Setting → Wanted
+abbrev pub wanted_given : ℕ → Packet → ℕ → Option ℕ → List ℕ → ℕ → Setting → Wanted
 wanted_given errors p source found codes fixed t =
     cond (eqb errors 0) (kind_wanted (kind_of p.control) p source found codes fixed t) (wants (monitor_bit t.monitor))
 

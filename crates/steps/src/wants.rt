@@ -1,14 +1,12 @@
 // The wanted set of a packet: by type, then by mark and NN route.
 ghost use Rattle.std.specs.Prelude.{◌≡◌, ◌^◌, ◌<◌, cond, false};
 ghost use Rattle.steps.specs.Links.{monitor_bit};
-ghost use Rattle.tables.specs.declared.Matched.TheVariants.{Missed};
 ghost use Rattle.tables.specs.Rows.{rows_of, route_for};
 ghost use Rattle.steps.specs.Wants.{Placed, wants, miss_wanted, match_wanted, number_wanted, p2p_wanted, nn_wanted, fixed_wanted, wanted_given, wanted_of, by_rows};
 
 use super::{Setting, Wanted};
 use packet::Packet;
 use packet::control::{is_mc, kind_of, mark_of, route_of};
-use tables::Matched;
 use tables::codes::code_for;
 use tables::lent::ChipTables;
 use tables::search::route_for;
@@ -39,13 +37,13 @@ pub fn wanted_of(errors: u32, p: Packet, source: u32, tables: &ChipTables<'_>, t
 }
 
 // What the rows say to a key, where it is to be looked up.
-pub fn looked_up(goes: bool, key: u32, rows: &[u32]) -> Matched
-    ensures { result ≡ cond goes (route_for key (rows_of rows.now)) Missed }
+pub fn looked_up(goes: bool, key: u32, rows: &[u32]) -> Option<u32>
+    ensures { result ≡ cond goes (route_for key (rows_of rows.now)) None }
 {
     if goes {
         route_for(rows, key)
     } else {
-        Matched::Missed
+        None
     }
 }
 
@@ -54,7 +52,7 @@ pub fn wanted_given(
     errors: u32,
     p: Packet,
     source: u32,
-    found: Matched,
+    found: Option<u32>,
     tables: &ChipTables<'_>,
     t: Setting,
 ) -> Wanted
@@ -78,7 +76,7 @@ pub fn bit(i: u32) -> u32
 // What a packet wants that does not go by the rows.
 fn other_wanted(errors: u32, p: Packet, source: u32, tables: &ChipTables<'_>, t: Setting) -> u32
     requires { (by_rows errors p.control ≡ false) × Placed tables.now t }
-    ensures { wants result ≡ wanted_given errors p source Missed tables.now.codes tables.now.fixed t }
+    ensures { wants result ≡ wanted_given errors p source None tables.now.codes tables.now.fixed t }
 {
     if errors == 0 {
         let kind = kind_of(p.control);
@@ -93,13 +91,13 @@ fn other_wanted(errors: u32, p: Packet, source: u32, tables: &ChipTables<'_>, t:
     }
 }
 
-fn match_wanted(m: Matched, mark: u32, source: u32, monitor: u32) -> Wanted
+fn match_wanted(m: Option<u32>, mark: u32, source: u32, monitor: u32) -> Wanted
     requires { (source < 8) × (monitor < 20) }
     ensures { result ≡ match_wanted m mark source monitor }
 {
     match m {
-        Matched::Route(route) => alone(route),
-        Matched::Missed => miss_wanted(mark, source, monitor),
+        Some(route) => alone(route),
+        None => miss_wanted(mark, source, monitor),
     }
 }
 

@@ -5,8 +5,7 @@ use mathlib.Core.List.{List, [], ◌∷◌}
 use Prim.Native.Nat.{ℕ, zero, suc, ◌+◌, ◌*◌, ◌<◌, ◌≤◌}
 use native.Mathlib.Omega.{arith}
 use lib.ListN.{length, get_or, drop}
-use Rattle.tables.specs.declared.Found.{Found}
-use Rattle.tables.specs.declared.Found.TheVariants.{At, Nothing}
+use Rattle.std.specs.Prelude.{Option, Some, None}
 use Rattle.tables.specs.declared.Row.{Row}
 use Rattle.tables.specs.Rows.{matches, rows_of, numbers_of, later, first_match, route_at, blank_row, row_found, found_in}
 use Rattle.tables.proofs.RowByRow.{later_zero, search_here, search_on, search_end}
@@ -44,21 +43,21 @@ route_of_row (r ∷ rows) zero = refl
 route_of_row (r ∷ rows) (suc i) = route_of_row rows i
 
 module _ (rows : List Row) (key : ℕ) where
-  abbrev found : Found
+  abbrev found : Option ℕ
   found = first_match key (rows_of (numbers_of rows))
 
   -- the rows before i do not match
   abbrev pub Searched : ℕ → Type 0
   Searched i = found ≡ later i (first_match key (rows_of (drop (i * 3) (numbers_of rows))))
 
-  answers : {f : Found} → found ≡ f → row_found f rows ≡ found_in key rows
-  answers e = sym (ap (λ (f : Found). row_found f rows) e)
+  answers : {f : Option ℕ} → found ≡ f → row_found f rows ≡ found_in key rows
+  answers e = sym (ap (λ (f : Option ℕ). row_found f rows) e)
 
   pub searched_none : Searched 0
   searched_none = sym (later_zero found)
 
   module _ (i : ℕ) (before : Searched i) where
-    pub found_nothing : length rows ≤ i → row_found Nothing rows ≡ found_in key rows
+    pub found_nothing : length rows ≤ i → row_found None rows ≡ found_in key rows
     found_nothing h = answers (before ∙ ap (later i) (search_end (numbers_of rows) i key (omega (arith, length_numbers rows))))
 
     module _ (h : i < length rows) where
@@ -69,10 +68,10 @@ module _ (rows : List Row) (key : ℕ) where
       alike : matches key (get_or (numbers_of rows) (i * 3) 0) (get_or (numbers_of rows) (i * 3 + 1) 0) ≡ matches key (get_or rows i blank_row).key (get_or rows i blank_row).mask
       alike = λ k. matches key (key_at rows i k) (mask_at rows i k)
 
-      pub found_at : matches key (get_or rows i blank_row).key (get_or rows i blank_row).mask ≡ true → row_found (At i) rows ≡ found_in key rows
+      pub found_at : matches key (get_or rows i blank_row).key (get_or rows i blank_row).mask ≡ true → row_found (Some i) rows ≡ found_in key rows
       found_at m =
           let e : i + 0 ≡ i = omega arith in
-          answers (before ∙ ap (later i) (search_here (numbers_of rows) i key fits (alike ∙ m)) ∙ ap At e)
+          answers (before ∙ ap (later i) (search_here (numbers_of rows) i key fits (alike ∙ m)) ∙ ap Some e)
 
       pub searched_on : matches key (get_or rows i blank_row).key (get_or rows i blank_row).mask ≡ false → Searched (i + 1)
       searched_on m = before ∙ search_on (numbers_of rows) i key fits (alike ∙ m)

@@ -7,17 +7,16 @@ use native.Mathlib.Omega.{arith}
 use borrow.Author.Tests.{lt-ltb, le-ltb}
 use lib.ListN.{length, get_or, drop, length-drop}
 use lib.Seq.{drop-cons}
-use Rattle.tables.specs.declared.Found.{Found}
-use Rattle.tables.specs.declared.Found.TheVariants.{At, Nothing}
+use Rattle.std.specs.Prelude.{Option, Some, None}
 use Rattle.tables.specs.Rows.{Entry, matches, rows_of, next, later, first_match, found_from, found_at, route_at}
 
-pub later_zero : (f : Found) → later 0 f ≡ f
-later_zero (At n) = ap At (omega arith)
-later_zero Nothing = refl
+pub later_zero : (f : Option ℕ) → later 0 f ≡ f
+later_zero (Some n) = ap Some (omega arith)
+later_zero None = refl
 
-later_next : (i : ℕ) (f : Found) → later i (next f) ≡ later (i + 1) f
-later_next i (At n) = ap At (omega arith)
-later_next i Nothing = refl
+later_next : (i : ℕ) (f : Option ℕ) → later i (next f) ≡ later (i + 1) f
+later_next i (Some n) = ap Some (omega arith)
+later_next i None = refl
 
 module _ (s : List ℕ) (i : ℕ) where
   pub rows_step : i * 3 + 2 < length s
@@ -47,7 +46,7 @@ module _ (s : List ℕ) (i : ℕ) where
 
   module _ (key : ℕ) where
     pub search_here : i * 3 + 2 < length s → matches key (get_or s (i * 3) 0) (get_or s (i * 3 + 1) 0) ≡ true
-        → first_match key (rows_of (drop (i * 3) s)) ≡ At 0
+        → first_match key (rows_of (drop (i * 3) s)) ≡ Some 0
     unfolding first_match
     search_here h m = ap (first_match key) (rows_step h) ∙ simp m
 
@@ -56,7 +55,7 @@ module _ (s : List ℕ) (i : ℕ) where
     unfolding first_match
     search_on h m = ap (λ (l : List Entry). later i (first_match key l)) (rows_step h) ∙ simp m (later_next i (first_match key (rows_of (drop ((i + 1) * 3) s))))
 
-    pub search_end : length s / 3 ≤ i → first_match key (rows_of (drop (i * 3) s)) ≡ Nothing
+    pub search_end : length s / 3 ≤ i → first_match key (rows_of (drop (i * 3) s)) ≡ None
     unfolding first_match
     search_end h = ap (first_match key) (rows_end h)
 
@@ -76,22 +75,22 @@ module _ (s : List ℕ) (i : ℕ) where
 
 -- ---- the row that a search names is there
 
-next_at : (f : Found) (n : ℕ) → next f ≡ At n → (m : ℕ) × (n ≡ suc m) × (f ≡ At m)
-next_at (At m) n e = (m, cc, refl)
-next_at Nothing n e = let z : ◌≡◌ {A = ℕ} 0 1 = cc in absurd (omega arith)
+next_at : (f : Option ℕ) (n : ℕ) → next f ≡ Some n → (m : ℕ) × (n ≡ suc m) × (f ≡ Some m)
+next_at (Some m) n e = (m, cc, refl)
+next_at None n e = let z : ◌≡◌ {A = ℕ} 0 1 = cc in absurd (omega arith)
 
 abbrev Row-there : List ℕ → ℕ → Type 0
 unfolding rows_of
 Row-there s n = (n * 3 + 2 < length s) × (route_at (rows_of s) n ≡ get_or s (n * 3 + 2) 0)
 
-pub match_row : (key : ℕ) (s : List ℕ) (n : ℕ) → first_match key (rows_of s) ≡ At n → (n * 3 + 2 < length s) × (route_at (rows_of s) n ≡ get_or s (n * 3 + 2) 0)
+pub match_row : (key : ℕ) (s : List ℕ) (n : ℕ) → first_match key (rows_of s) ≡ Some n → (n * 3 + 2 < length s) × (route_at (rows_of s) n ≡ get_or s (n * 3 + 2) 0)
 unfolding rows_of first_match
 match_row key [] n e = let z : ◌≡◌ {A = ℕ} 0 1 = cc in absurd (omega arith)
 match_row key (k ∷ []) n e = let z : ◌≡◌ {A = ℕ} 0 1 = cc in absurd (omega arith)
 match_row key (k ∷ m ∷ []) n e = let z : ◌≡◌ {A = ℕ} 0 1 = cc in absurd (omega arith)
 match_row key (k ∷ m ∷ r ∷ rest) n e = go (matches key k m) refl (λ i h. match_row key rest i h)
   where
-    here : (i : ℕ) → At 0 ≡ At i → Row-there (k ∷ m ∷ r ∷ rest) i
+    here : (i : ℕ) → Some 0 ≡ Some i → Row-there (k ∷ m ∷ r ∷ rest) i
     here i z = let o : 0 ≡ i = cc in subst (λ (j : ℕ). Row-there (k ∷ m ∷ r ∷ rest) j) o (omega arith, refl)
 
     on : (i : ℕ) → Row-there rest i → Row-there (k ∷ m ∷ r ∷ rest) (suc i)
@@ -99,7 +98,7 @@ match_row key (k ∷ m ∷ r ∷ rest) n e = go (matches key k m) refl (λ i h. 
         let three : suc i * 3 + 2 ≡ suc (suc (suc (i * 3 + 2))) = omega arith in
         (omega (arith, h.0), h.1 ∙ ap (λ (j : ℕ). get_or (k ∷ m ∷ r ∷ rest) j 0) (sym three))
 
-    go : (b : Bool) → matches key k m ≡ b → ((i : ℕ) → first_match key (rows_of rest) ≡ At i → Row-there rest i) → Row-there (k ∷ m ∷ r ∷ rest) n
+    go : (b : Bool) → matches key k m ≡ b → ((i : ℕ) → first_match key (rows_of rest) ≡ Some i → Row-there rest i) → Row-there (k ∷ m ∷ r ∷ rest) n
     go true b ih = here n (simp b at e)
     go false b ih =
         let found = next_at (first_match key (rows_of rest)) n (simp b at e) in

@@ -1,11 +1,7 @@
 -- "An MC table is a run of rows, each with key, mask and route. ... A row matches when packet key AND mask equals the row key itself; the search
 -- stops at the first row that matches."
-use Rattle.std.specs.Prelude.{ℕ, suc, ◌+◌, ◌*◌, ◌%◌, ◌^◌, Bool, cond, List, [], ◌∷◌, eqb, ltb, get_or, drop}
+use Rattle.std.specs.Prelude.{ℕ, suc, ◌+◌, ◌*◌, ◌%◌, ◌^◌, Bool, cond, List, [], ◌∷◌, eqb, ltb, get_or, drop, Option, Some, None}
 use Rattle.std.specs.Int.Bits.{bit_and}
-use Rattle.tables.specs.declared.Found.{Found}
-use Rattle.tables.specs.declared.Found.TheVariants.{At, Nothing}
-use Rattle.tables.specs.declared.Matched.{Matched}
-use Rattle.tables.specs.declared.Matched.TheVariants.{Route, Missed}
 use Rattle.tables.specs.declared.Row.{Row}
 use Rattle.tables.specs.declared.RowFound.{RowFound}
 use Rattle.tables.specs.Shown.{found_shown}
@@ -35,26 +31,26 @@ numbers_of [] = []
 numbers_of (r ∷ rs) = r.key ∷ r.mask ∷ r.route ∷ numbers_of rs
 
 -- One row further on.
-abbrev pub next : Found → Found
-next (At n) = At (suc n)
-next Nothing = Nothing
+abbrev pub next : Option ℕ → Option ℕ
+next (Some n) = Some (suc n)
+next None = None
 
-unfoldable pub first_match : ℕ → List Entry → Found
-first_match key [] = Nothing
-first_match key (r ∷ rs) = cond (matches key r.key r.mask) (At 0) (next (first_match key rs))
+unfoldable pub first_match : ℕ → List Entry → Option ℕ
+first_match key [] = None
+first_match key (r ∷ rs) = cond (matches key r.key r.mask) (Some 0) (next (first_match key rs))
 
 -- What a search finds, i rows further on.
-abbrev pub later : ℕ → Found → Found
-later i (At n) = At (i + n)
-later i Nothing = Nothing
+abbrev pub later : ℕ → Option ℕ → Option ℕ
+later i (Some n) = Some (i + n)
+later i None = None
 
 -- What is found from row i of a table's numbers on.
-abbrev pub found_from : ℕ → List ℕ → ℕ → Found
+abbrev pub found_from : ℕ → List ℕ → ℕ → Option ℕ
 found_from key s i = later i (first_match key (rows_of (drop (i * 3) s)))
 
 -- What a row's number says, where the number of rows stands for none.
-abbrev pub found_at : ℕ → ℕ → Found
-found_at count n = cond (ltb n count) (At n) Nothing
+abbrev pub found_at : ℕ → ℕ → Option ℕ
+found_at count n = cond (ltb n count) (Some n) None
 
 abbrev pub blank_entry : Entry
 blank_entry = record { key = 0; mask = 0; route = 0 }
@@ -63,10 +59,10 @@ abbrev pub route_at : List Entry → ℕ → ℕ
 route_at rows n = (get_or rows n blank_entry).route
 
 -- What the table says of a key: the first matching row's route, or that no row matches.
-abbrev pub matched_of : List Entry → Found → Matched
-matched_of rows f = cond (eqb (found_shown f).number 1) (Route (route_at rows (found_shown f).value)) Missed
+abbrev pub matched_of : List Entry → Option ℕ → Option ℕ
+matched_of rows f = cond (eqb (found_shown f).number 1) (Some (route_at rows (found_shown f).value)) None
 
-abbrev pub route_for : ℕ → List Entry → Matched
+abbrev pub route_for : ℕ → List Entry → Option ℕ
 route_for key rows = matched_of rows (first_match key rows)
 
 -- What stands past the end of a slice of row structs.
@@ -74,7 +70,7 @@ abbrev pub blank_row : Row
 blank_row = record { key = 0; mask = 0; route = 0 }
 
 -- What a search through row structs answers of what it finds. The number has 32 bits: it is the row's own in every table of up to 48 GiB.
-abbrev pub row_found : Found → List Row → RowFound
+abbrev pub row_found : Option ℕ → List Row → RowFound
 row_found f rows =
     cond (eqb (found_shown f).number 1)
     (record { found = 1; row = (found_shown f).value % 2 ^ 32; route = (get_or rows (found_shown f).value blank_row).route })

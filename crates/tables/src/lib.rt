@@ -17,13 +17,6 @@ pub struct Row {
     pub route: u32,
 }
 
-// What a search finds: the number of the first matching row, or nothing.
-#[derive(Clone, Copy)]
-pub enum Found {
-    At(usize),
-    Nothing,
-}
-
 // What a search through row structs answers: whether a row matches, its number, its route; zeros where none does.
 #[repr(C)]
 #[derive(Clone, Copy)]
@@ -31,11 +24,4 @@ pub struct RowFound {
     pub found: u32,
     pub row: u32,
     pub route: u32,
-}
-
-// What a key's table says of it: the route of the first matching row, or that no row matches.
-#[derive(Clone, Copy)]
-pub enum Matched {
-    Route(u32),
-    Missed,
 }

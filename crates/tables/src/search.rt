@@ -2,20 +2,18 @@
 ghost use Rattle.std.specs.Prelude.{◌≡◌, length, get_or, ◌+◌, ◌*◌, ◌/◌, ◌≤◌, ◌<◌};
 ghost use Rattle.tables.specs.Rows.{matches, rows_of, first_match, found_from, found_at, route_for, found_in};
 
-use super::{Found, Matched, Row, RowFound};
+use super::{Row, RowFound};
 
-// The route of the first row that matches the key.
-pub fn route_for(rows: &[u32], key: u32) -> Matched
+// The route of the first row that matches the key, none where no row does.
+pub fn route_for(rows: &[u32], key: u32) -> Option<u32>
     ensures { result ≡ route_for key (rows_of rows.now) }
 {
-    match first_match(rows, key) {
-        Found::At(n) => Matched::Route(route_at(rows, n)),
-        Found::Nothing => Matched::Missed,
-    }
+    let n = first_match(rows, key)?;
+    Some(route_at(rows, n))
 }
 
 // The number of the first row that matches the key: four rows a turn, for fewer steps a row.
-pub fn first_match(rows: &[u32], key: u32) -> Found
+pub fn first_match(rows: &[u32], key: u32) -> Option<usize>
     ensures { result ≡ first_match key (rows_of rows.now) }
 {
     let count = rows.len() / 3;
@@ -39,9 +37,9 @@ pub fn first_match(rows: &[u32], key: u32) -> Found
         i += 4;
     };
     if at < count {
-        Found::At(at)
+        Some(at)
     } else {
-        Found::Nothing
+        None
     }
 }
 

@@ -6,7 +6,7 @@ use mathlib.Core.List.{List}
 use native.Mathlib.Omega.{arith}
 use borrow.Author.Tests.{lt-ltb, le-ltb}
 use lib.ListN.{length, get_or}
-use Rattle.tables.specs.declared.Found.TheVariants.{At}
+use Rattle.std.specs.Prelude.{Some}
 use Rattle.tables.specs.Rows.{matches, rows_of, first_match}
 use Rattle.tables.proofs.RowsByNumber.{rows_many}
 use Rattle.groups.specs.Groups.{top_of, group_of, GroupedFor}
@@ -81,7 +81,7 @@ returns-then-matches_at c =
     let within : c.loop-k.k < begin_of (rows_of words) key + length (group_of (rows_of words) (top_of key)) = omega (arith, c.loop-k.invariant.0, c.loop-k-test.true) in
     let test = tested words key _ n.result c.matches_at.result n.ensures c.matches_at.ensures in
     let here = found_here words room key (c.requires.1 small) small c.loop-k.k c.loop-k.invariant.1.0 within (test ∙ c.if-matches_at.true) in
-    let found : first_match key (rows_of words) ≡ At n.result = sym c.loop-k.invariant.1.1 ∙ here ∙ ap At (sym n.ensures) in
+    let found : first_match key (rows_of words) ≡ Some n.result = sym c.loop-k.invariant.1.1 ∙ here ∙ ap Some (sym n.ensures) in
     let below : n.result < length words / 3 = omega (arith, number_row words room key (c.requires.1 small) small c.loop-k.k c.loop-k.invariant.1.0 within, n.ensures) in
     (simp (lt-ltb n.result (length words / 3) below) (sym found), omega arith)
 

@@ -1,11 +1,11 @@
 use mathlib.Core.Path.{sym, ◌∙◌}
-use Rattle.tables.specs.declared.Matched.TheVariants.{Missed}
+use Rattle.std.specs.Prelude.{None}
 use Rattle.steps.proofs.ByRows.{wants_nothing}
 use borrow.Author.Tests.{eq-eqb, ne_eqb}
 use Rattle.steps.proofs.wants.other_wanted.Goals as goal
 
 pub returns-in-0 : goal.returns-in-0
-returns-in-0 c = wants_nothing c.args.errors c.args.p c.args.source Missed c.args.tables.now.codes c.args.tables.now.fixed c.args.t c.if-errors-eq0.true (sym c.kind_of-kind.ensures ∙ c.in-0.is) c.requires.0
+returns-in-0 c = wants_nothing c.args.errors c.args.p c.args.source None c.args.tables.now.codes c.args.tables.now.fixed c.args.t c.if-errors-eq0.true (sym c.kind_of-kind.ensures ∙ c.in-0.is) c.requires.0
 
 pub returns-in-1 : goal.returns-in-1
 returns-in-1 c = simp (c.p2p_wanted.ensures, eq-eqb _ _ c.if-errors-eq0.true, sym c.kind_of-kind.ensures ∙ c.in-1.is)

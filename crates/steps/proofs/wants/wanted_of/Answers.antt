@@ -1,6 +1,6 @@
 use mathlib.Core.Path.{sym, ap₂, ◌∙◌}
 use Prim.Native.Nat.{ℕ}
-use Rattle.tables.specs.declared.Matched.{Matched}
+use Rattle.std.specs.Prelude.{Option}
 use Rattle.tables.specs.Rows.{rows_of, route_for}
 use Rattle.steps.specs.Wants.{match_wanted, wanted_of}
 use Rattle.steps.proofs.ByRows.{as_matched, as_missed}
@@ -13,7 +13,7 @@ pub returns-then-by_rows : goal.returns-then-by_rows
 unfolding wanted_of
 returns-then-by_rows c = let a = c.args in
     c.match_wanted.ensures
-    ∙ ap₂ (λ (m : Matched) (n : ℕ). match_wanted m n a.source a.t.monitor) (rw c.rows.ensures at c.route_for.ensures) c.mark_of.ensures
+    ∙ ap₂ (λ (m : Option ℕ) (n : ℕ). match_wanted m n a.source a.t.monitor) (rw c.rows.ensures at c.route_for.ensures) c.mark_of.ensures
     ∙ sym (as_matched a.errors a.p a.source (route_for a.p.word (rows_of a.tables.now.rows)) a.tables.now.codes a.tables.now.fixed a.t (sym c.by_rows.ensures ∙ c.if-by_rows.true))
 
 pub returns-else-by_rows : goal.returns-else-by_rows
