@@ -16,6 +16,7 @@ use sheet::storing::rows_of;
 use std::io;
 use std::num::wrapping_add_usize;
 use steps::Setting;
+use tables::lent::ChipTables;
 use tables::search::first_match;
 
 // Tells the pass of a packet at a chip, and answers what the chip has sent in this round after it.
@@ -78,9 +79,7 @@ fn pass_at(
     pass(
         first_bytes(&bytes, packed.length),
         source,
-        rows,
-        own,
-        fixed,
+        &ChipTables::new(rows, own, fixed),
         t,
         0,
     )

@@ -6,6 +6,7 @@ use packet::reading::read;
 use router::Pass;
 use router::call::pass;
 use steps::Setting;
+use tables::lent::ChipTables;
 
 // Lengths 0, 4, 6 and 10 are refused with 2, and C0 00 00 00 00, a fixed-route packet whose parity is even, is a parity error.
 pub fn case_13() -> bool
@@ -64,5 +65,5 @@ fn pass_with(bytes: &[u8], rows: &[u32]) -> Pass
         phase: 0,
         ready: 63,
     };
-    pass(bytes, 0, rows, &codes, 0, t, 0)
+    pass(bytes, 0, &ChipTables::new(rows, &codes, 0), t, 0)
 }

@@ -1,8 +1,8 @@
 // The one-router call: it takes anything, and answers or refuses.
 ghost use Rattle.std.specs.Prelude.{◌≡◌, cond, not, ◌&&◌, eqb, length, ◌/◌, ◌≤◌};
 ghost use Rattle.packet.specs.Refusal.{first_of};
+ghost use Rattle.packet.specs.Refused.{told};
 ghost use Rattle.tables.specs.Accept.{few_rows, routes_fine, route_fine, rows_fine};
-ghost use Rattle.tables.specs.Tables.{chip_tables};
 ghost use Rattle.groups.specs.Room.{room_short};
 ghost use Rattle.steps.specs.Deciding.{Checked, no_outcome, outcome_of};
 ghost use Rattle.router.specs.Call.{setting_fine, source_fine, setting_refusals, checked_of, place_of, pass_of};
@@ -12,6 +12,7 @@ use super::showing::shown;
 use groups::lending::short_for;
 use packet::bytes::{not_taken, take};
 use packet::control::is_direct;
+use packet::refused::{Refused, told};
 use packet::{Packet, Taken};
 use steps::deciding::{decide, no_outcome};
 use steps::errors::{errors_of, stamped_of};
@@ -25,21 +26,13 @@ use tables::size::{chips, size_fine};
 // One pass of one router. Refusals, the first that applies: 7 size, 6 phase, ready set or monitor, 16 too many rows, 17 route bits,
 // 18 fixed route, 11 codes, 29 room, 1 source, 2 length, 4 NN with T = 1. Groups never pay for one packet: of the room that is lent only
 // the length counts, and it stays as it came.
-pub fn pass(
-    bytes: &[u8],
-    source: u32,
-    rows: &[u32],
-    codes: &[u8],
-    fixed: u32,
-    t: Setting,
-    room: usize,
-) -> Pass
-    ensures { result ≡ pass_of bytes.now source (chip_tables rows.now codes.now fixed) t room }
+pub fn pass(bytes: &[u8], source: u32, tables: &ChipTables<'_>, t: Setting, room: usize) -> Pass
+    ensures { result ≡ pass_of bytes.now source tables.now t room }
 {
-    let taken = checked(bytes, source, rows, codes, fixed, t, room);
+    let taken = checked(bytes, source, tables, t, room);
     let p = taken.packet;
-    let o = outcome_unless(taken.refusal, p, source, rows, codes, fixed, t);
-    let place = place_of(taken.refusal, rows);
+    let o = outcome_unless(taken.refusal, p, source, tables, t);
+    let place = place_of(taken.refusal, tables.rows());
     shown(taken.refusal, place, o)
 }
 
@@ -49,19 +42,16 @@ fn outcome_unless(
     refusal: u32,
     p: Packet,
     source: u32,
-    rows: &[u32],
-    codes: &[u8],
-    fixed: u32,
+    tables: &ChipTables<'_>,
     t: Setting,
 ) -> Outcome
-    requires { refusal ≡ 0 → Checked p source (chip_tables rows.now codes.now fixed) t }
-    ensures { result ≡ cond (eqb refusal 0) (outcome_of p source (chip_tables rows.now codes.now fixed) t) no_outcome }
+    requires { refusal ≡ 0 → Checked p source tables.now t }
+    ensures { result ≡ cond (eqb refusal 0) (outcome_of p source tables.now t) no_outcome }
 {
     if refusal == 0 {
         let errors = errors_of(p, source, t.phase);
         let stamped = stamped_of(p, source, errors, t.phase);
-        let tables = ChipTables::new(rows, codes, fixed);
-        let wanted = wanted_of(errors, p, source, &tables, t);
+        let wanted = wanted_of(errors, p, source, tables, t);
         decide(errors, stamped, source, t.phase, wanted, t.ready)
     } else {
         no_outcome()
@@ -69,18 +59,10 @@ fn outcome_unless(
 }
 
 // The packet where nothing is refused, or the first refusal.
-fn checked(
-    bytes: &[u8],
-    source: u32,
-    rows: &[u32],
-    codes: &[u8],
-    fixed: u32,
-    t: Setting,
-    room: usize,
-) -> Taken
-    ensures { result ≡ checked_of bytes.now source (chip_tables rows.now codes.now fixed) t room }
+fn checked(bytes: &[u8], source: u32, tables: &ChipTables<'_>, t: Setting, room: usize) -> Taken
+    ensures { result ≡ checked_of bytes.now source tables.now t room }
 {
-    let refusal = setting_refusal(source, rows, codes, fixed, t, room);
+    let refusal = told(setting_refusal(source, tables, t, room));
     if refusal != 0 {
         return not_taken(refusal);
     }
@@ -97,61 +79,53 @@ fn checked(
 
 fn setting_refusal(
     source: u32,
-    rows: &[u32],
-    codes: &[u8],
-    fixed: u32,
+    tables: &ChipTables<'_>,
     t: Setting,
     room: usize,
-) -> u32
-    ensures { result ≡ first_of (setting_refusals source (chip_tables rows.now codes.now fixed) t room) }
+) -> Result<(), Refused>
+    ensures { told result ≡ first_of (setting_refusals source tables.now t room) }
 {
     if !size_fine(t.width, t.height) {
-        return 7;
+        return Err(Refused::Size);
     }
     if !setting_fine(t) {
-        return 6;
+        return Err(Refused::OutOfRange);
     }
-    if !rows_lent(rows, fixed) {
-        return rows_number(rows);
+    rows_refusal(tables.rows(), tables.fixed())?;
+    if !codes_fine(tables.codes(), chips(t.width, t.height)) {
+        return Err(Refused::Codes);
     }
-    if !codes_fine(codes, chips(t.width, t.height)) {
-        return 11;
-    }
-    last_refusal(source, rows.len() / 3, room)
-}
-
-// What comes after the tables: the room for so many rows, and the source.
-fn last_refusal(source: u32, rows: usize, room: usize) -> u32
-    requires { rows ≤ 1024 }
-    ensures { result ≡ cond (room_short room rows) 29 (cond (not (source_fine source)) 1 0) }
-{
-    if short_for(room, rows) {
-        return 29;
-    }
-    if !source_fine(source) {
-        return 1;
-    }
-    0
+    last_refusal(source, tables.rows().len() / 3, room)
 }
 
 // One chip's rows and its fixed route at once: where they are fine, which is mostly so, nothing more is asked.
-fn rows_lent(rows: &[u32], fixed: u32) -> bool
-    ensures { result ≡ (rows_fine rows.now && route_fine fixed) }
+fn rows_refusal(rows: &[u32], fixed: u32) -> Result<(), Refused>
+    ensures { told result ≡ cond (not (few_rows (length rows.now / 3))) 16 (cond (not (routes_fine rows.now)) 17 (cond (not (route_fine fixed)) 18 0)) }
 {
-    rows_fine(rows) & route_fine(fixed)
-}
-
-// Which of them is not fine, the first that applies.
-fn rows_number(rows: &[u32]) -> u32
-    ensures { result ≡ cond (not (few_rows (length rows.now / 3))) 16 (cond (not (routes_fine rows.now)) 17 18) }
-{
+    if rows_fine(rows) & route_fine(fixed) {
+        return Ok(());
+    }
     if MOST_ROWS < rows.len() / 3 {
-        return 16;
+        return Err(Refused::ManyRows);
     }
     if !routes_fine(rows) {
-        return 17;
+        return Err(Refused::RouteBits);
     }
-    18
+    Err(Refused::FixedRoutes)
+}
+
+// What comes after the tables: the room for so many rows, and the source.
+fn last_refusal(source: u32, rows: usize, room: usize) -> Result<(), Refused>
+    requires { rows ≤ 1024 }
+    ensures { told result ≡ cond (room_short room rows) 29 (cond (not (source_fine source)) 1 0) }
+{
+    if short_for(room, rows) {
+        return Err(Refused::GroupsRoom);
+    }
+    if !source_fine(source) {
+        return Err(Refused::Source);
+    }
+    Ok(())
 }
 
 // Where a refusal holds: the first bad row for 17, and 0 for all others.

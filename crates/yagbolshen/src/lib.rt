@@ -29,6 +29,7 @@ use packet::{Fields, FieldsRead, Packed};
 use records::{Call, Record, Written};
 use router::Pass;
 use steps::Setting;
+use tables::lent::ChipTables;
 use tables::{Row, RowFound};
 use trace::Replayed;
 use tree::Tree;
@@ -71,7 +72,8 @@ pub fn yagbolshen_pass(
         phase,
         ready,
     };
-    router::call::pass(packet, source, rows, codes, fixed, t, room.len())
+    let tables = ChipTables::new(rows, codes, fixed);
+    router::call::pass(packet, source, &tables, t, room.len())
 }
 
 // The first row of a table in row structs that takes a key.

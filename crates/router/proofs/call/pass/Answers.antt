@@ -7,29 +7,28 @@ use Rattle.router.proofs.Shown.{answer_shown, unless_none, unless_sets}
 use Rattle.router.specs.Showing.{pass_shown}
 use Rattle.router.specs.Call.{pass_of, answer}
 use Rattle.packet.specs.declared.Taken.{Taken}
-use Rattle.tables.specs.Tables.{chip_tables}
 use Rattle.router.proofs.call.pass.Goals as goal
 
 pub outcome_unless-o-requires : goal.outcome_unless-o-requires
 outcome_unless-o-requires c = let a = c.args in
     λ none.
-    let t = none_refused c.args.bytes.now c.args.source (chip_tables a.rows.now a.codes.now a.fixed) c.args.t a.room (sym (ap (λ (x : Taken). x.refusal) c.checked-taken.ensures) ∙ none) in
+    let t = none_refused c.args.bytes.now c.args.source a.tables.now c.args.t a.room (sym (ap (λ (x : Taken). x.refusal) c.checked-taken.ensures) ∙ none) in
     let control : c.checked-taken.result.packet.control < 256 =
     rw (c.checked-taken.ensures ∙ t.packet) (mod-lt _ (lit< tt)) in
-    checked _ _ (chip_tables a.rows.now a.codes.now a.fixed) _ control t.tests
+    checked _ _ a.tables.now _ control t.tests
 
 pub place_of-place-requires : goal.place_of-place-requires
 place_of-place-requires c = let a = c.args in
-    λ e. few_at_17 a.bytes.now a.source (chip_tables a.rows.now a.codes.now a.fixed) a.t a.room (sym (ap (λ (x : Taken). x.refusal) c.checked-taken.ensures) ∙ e)
+    rw c.rows.ensures (λ e. few_at_17 a.bytes.now a.source a.tables.now a.t a.room (sym (ap (λ (x : Taken). x.refusal) c.checked-taken.ensures) ∙ e))
 
 pub shown-requires : goal.shown-requires
 shown-requires c = let a = c.args in
-    let s = unless_sets c.checked-taken.result a.source (chip_tables a.rows.now a.codes.now a.fixed) a.t in
-    rw c.outcome_unless-o.ensures (unless_none c.checked-taken.result a.source (chip_tables a.rows.now a.codes.now a.fixed) a.t, (s.sent, (s.dropped, s.leg_dropped)))
+    let s = unless_sets c.checked-taken.result a.source a.tables.now a.t in
+    rw c.outcome_unless-o.ensures (unless_none c.checked-taken.result a.source a.tables.now a.t, (s.sent, (s.dropped, s.leg_dropped)))
 
 pub returns : goal.returns
 unfolding pass_of
 returns c = let a = c.args in
-    c.shown.ensures ∙ ap₂ (pass_shown _) c.place_of-place.ensures c.outcome_unless-o.ensures
-    ∙ answer_shown c.checked-taken.result a.source (chip_tables a.rows.now a.codes.now a.fixed) a.t
-    ∙ ap (λ (x : Taken). answer x a.source (chip_tables a.rows.now a.codes.now a.fixed) a.t) c.checked-taken.ensures
+    c.shown.ensures ∙ ap₂ (pass_shown _) (rw c.rows.ensures at c.place_of-place.ensures) c.outcome_unless-o.ensures
+    ∙ answer_shown c.checked-taken.result a.source a.tables.now a.t
+    ∙ ap (λ (x : Taken). answer x a.source a.tables.now a.t) c.checked-taken.ensures
