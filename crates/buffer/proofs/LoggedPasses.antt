@@ -1,5 +1,5 @@
 -- Passes one after the other: one is as the mesh's definition says, and some followed by others are all of them.
-use Rattle.std.proofs.Common.{◌≡◌, ℕ, zero, suc, ◌+◌, ◌-◌, ◌*◌, ◌/◌, ◌<◌, ◌≤◌, Bool, true, false, cond, List, [], ◌∷◌, ◌++◌, length, get_or, take, drop, sym, refl, ap, ◌∙◌, subst, le_trans, le_of_eq, le_refl, suc-mul, mul-le-mul, arith, lit<, length-append, length-drop, length-take-le, drop-cons, drop-drop, le-ltb, lt-ltb}
+use Rattle.std.proofs.Common.{◌≡◌, ℕ, zero, suc, ◌+◌, ◌-◌, ◌*◌, ◌/◌, ◌<◌, ◌≤◌, Bool, true, false, cond, List, [], ◌∷◌, ◌++◌, length, get_or, take, drop, sym, refl, ap, ◌∙◌, subst, le_trans, le_of_eq, le_refl, suc-mul, mul-le-mul, arith, lit<, length-append, length-drop, length-take-le, drop-cons, drop-drop}
 use mathlib.Core.List.{foldl, foldl-append}
 use native.Mathlib.Nat.{add-sub_cancel_left}
 use Rattle.steps.specs.declared.Outcome.{Outcome}
@@ -7,8 +7,8 @@ use Rattle.steps.specs.Deciding.{decided, outcome_of}
 use Rattle.tables.proofs.Starts.{starts_one_more, start_below, start_end}
 use Rattle.tables.specs.Tables.{ChipTables, chip_tables}
 use Rattle.std.specs.Prelude.{Option, Some, None}
-use Rattle.tables.specs.Rows.{Entry, matches, rows_of, first_match, next, found_at, matched_of, blank_entry, route_for}
-use Rattle.tables.proofs.RowsByNumber.{row_at}
+use Rattle.tables.specs.Rows.{Entry, matches, rows_of, first_match, next, matched_of, blank_entry, route_for}
+use Rattle.tables.proofs.RowsByNumber.{row_at, rows_many}
 use Rattle.steps.specs.declared.Setting.{Setting}
 use Rattle.steps.specs.Wants.{wanted_of, wanted_given}
 use Rattle.steps.specs.Errors.{errors_of, stamped_of}
@@ -198,42 +198,45 @@ unfolding mesh_of
 passed_chip t own chip xs l log n l' log' n' all e = passed_alike (pass_by own) (pass_at t same) xs l log n l' log' n' (at_one_chip t own chip xs (going_in l log n) all e)
 
 -- a row that is found by its number is all that a search needs
-first_matches : (key : ℕ) (rows : List Entry) (r : ℕ) → first_match key rows ≡ Some r → matches key (get_or rows r blank_entry).key (get_or rows r blank_entry).mask ≡ true
+abbrev Found : ℕ → List Entry → ℕ → Type 0
+Found key rows r = (r < length rows) × (matches key (get_or rows r blank_entry).key (get_or rows r blank_entry).mask ≡ true)
+
+found_first : (key : ℕ) (rows : List Entry) (r : ℕ) → first_match key rows ≡ Some r → Found key rows r
 unfolding first_match
-first_matches key [] r e = let z : ◌≡◌ {A = ℕ} 0 1 = cc in absurd (omega arith)
-first_matches key (row ∷ rows) r e = go (matches key row.key row.mask) refl r (λ m h. first_matches key rows m h) e
+found_first key [] r e = let z : ◌≡◌ {A = ℕ} 0 1 = cc in absurd (omega arith)
+found_first key (row ∷ rows) r e = go (matches key row.key row.mask) refl r (λ m h. found_first key rows m h) e
   where
-    on : (f : Option ℕ) (r : ℕ) → ((m : ℕ) → first_match key rows ≡ Some m → matches key (get_or rows m blank_entry).key (get_or rows m blank_entry).mask ≡ true) → first_match key rows ≡ f → next f ≡ Some r
-        → matches key (get_or (row ∷ rows) r blank_entry).key (get_or (row ∷ rows) r blank_entry).mask ≡ true
+    on : (f : Option ℕ) (r : ℕ) → ((m : ℕ) → first_match key rows ≡ Some m → Found key rows m) → first_match key rows ≡ f → next f ≡ Some r → Found key (row ∷ rows) r
     on (Some m) zero ih g z = let o : ◌≡◌ {A = ℕ} 0 1 = cc in absurd (omega arith)
-    on (Some m) (suc r) ih g z = let o : m ≡ r = cc in ih r (g ∙ ap Some o)
+    on (Some m) (suc r) ih g z = let o : m ≡ r = cc in let h = ih r (g ∙ ap Some o) in (omega (arith, h.0), h.1)
     on None r ih g z = let o : ◌≡◌ {A = ℕ} 0 1 = cc in absurd (omega arith)
 
-    go : (b : Bool) → matches key row.key row.mask ≡ b → (r : ℕ) → ((m : ℕ) → first_match key rows ≡ Some m → matches key (get_or rows m blank_entry).key (get_or rows m blank_entry).mask ≡ true)
-        → cond b (Some 0) (next (first_match key rows)) ≡ Some r → matches key (get_or (row ∷ rows) r blank_entry).key (get_or (row ∷ rows) r blank_entry).mask ≡ true
-    go true m zero ih z = m
+    go : (b : Bool) → matches key row.key row.mask ≡ b → (r : ℕ) → ((m : ℕ) → first_match key rows ≡ Some m → Found key rows m) → cond b (Some 0) (next (first_match key rows)) ≡ Some r
+        → Found key (row ∷ rows) r
+    go true m zero ih z = (omega arith, m)
     go true m (suc r) ih z = let o : ◌≡◌ {A = ℕ} 0 1 = cc in absurd (omega arith)
     go false m r ih z = on (first_match key rows) r ih refl z
 
-module _ (s : List ℕ) (key r : ℕ) (e : found_at (length s / 3) r ≡ first_match key (rows_of s)) where
-  pub row_found_lem : r < length s / 3 → (n : ℕ) → n ≡ 3 → route_for key (rows_of (take n (drop (r * 3) s))) ≡ route_for key (rows_of s)
+module _ (s : List ℕ) (key : ℕ) where
+  pub found_within : (r : ℕ) → first_match key (rows_of s) ≡ Some r → r * 3 + 3 ≤ length s
+  found_within r e = omega (arith, (found_first key (rows_of s) r e).0, rows_many s)
+
+  pub row_found_lem : (r : ℕ) → first_match key (rows_of s) ≡ Some r → (n : ℕ) → n ≡ 3 → route_for key (rows_of (take n (drop (r * 3) s))) ≡ route_for key (rows_of s)
   unfolding rows_of first_match
-  row_found_lem h n three =
-      let found : first_match key (rows_of s) ≡ Some r = sym e ∙ ap (λ (b : Bool). cond b (Some r) None) (lt-ltb r (length s / 3) h) in
+  row_found_lem r e n three =
+      let h = found_within r e in
       let row = get_or (rows_of s) r blank_entry in
       let there : row ≡ record { key = get_or s (r * 3) 0; mask = get_or s (r * 3 + 1) 0; route = get_or s (r * 3 + 2) 0 } = row_at s r (omega arith) in
       let cut : drop (r * 3) s ≡ get_or s (r * 3) 0 ∷ get_or s (r * 3 + 1) 0 ∷ get_or s (r * 3 + 2) 0 ∷ drop (r * 3 + 3) s = three_words s (r * 3) (omega arith) in
       ap (λ (k : ℕ). route_for key (rows_of (take k (drop (r * 3) s)))) three
       ∙ ap (λ (l : List ℕ). route_for key (rows_of (take 3 l))) cut
       ∙ ap (λ (x : Entry). route_for key (x ∷ [])) (sym there)
-      ∙ ap (λ (b : Bool). matched_of (row ∷ []) (cond b (Some 0) None)) (first_matches key (rows_of s) r found)
-      ∙ sym (ap (matched_of (rows_of s)) found)
+      ∙ ap (λ (b : Bool). matched_of (row ∷ []) (cond b (Some 0) None)) (found_first key (rows_of s) r e).1
+      ∙ sym (ap (matched_of (rows_of s)) e)
 
-  pub none_found : length s / 3 ≤ r → route_for key (rows_of []) ≡ route_for key (rows_of s)
+  pub none_found : first_match key (rows_of s) ≡ None → route_for key (rows_of []) ≡ route_for key (rows_of s)
   unfolding rows_of first_match
-  none_found h =
-      let found : first_match key (rows_of s) ≡ None = sym e ∙ ap (λ (b : Bool). cond b (Some r) None) (le-ltb r (length s / 3) h) in
-      sym (ap (matched_of (rows_of s)) found)
+  none_found e = sym (ap (matched_of (rows_of s)) e)
 
 -- a pass looks at the rows for the route of its packet alone
 outcome_by_route : (rows rows' codes : List ℕ) (fixed : ℕ) (p : Packet) (source : ℕ) (t : Setting) → route_for p.word (rows_of rows) ≡ route_for p.word (rows_of rows')

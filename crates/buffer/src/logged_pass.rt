@@ -1,7 +1,7 @@
 // One pass at a chip with its own tables, and its record in the log.
 ghost use Rattle.std.specs.Prelude.{◌≡◌, ◌*◌, ◌/◌, ◌<◌, ◌≤◌, [], ◌∷◌, length};
 ghost use Rattle.groups.specs.Groups.{top_of, GroupedFor};
-ghost use Rattle.tables.specs.Rows.{rows_of};
+ghost use Rattle.tables.specs.Rows.{rows_of, route_for};
 ghost use Rattle.tables.specs.Tables.{chip_tables};
 ghost use Rattle.buffer.specs.Layout.{chips_of};
 ghost use Rattle.buffer.specs.PassesInTurn.{arrival, pass_by, Due, Passed};
@@ -46,22 +46,19 @@ pub fn pass_found(
     requires { (Due (arrival chip source p ∷ []) mesh.old log.old n × (chips_of mesh.old ≤ length codes.now)) × ((length rows.now / 3 ≤ 1024) × (top_of p.word < 256 → GroupedFor (rows_of rows.now) room.now p.word)) }
     ensures { Passed (pass_by (chip_tables rows.now codes.now fixed)) (arrival chip source p ∷ []) mesh.old log.old n mesh.new log.new result }
 {
-    let row = grouped_row(rows, room, p.word);
-    if row < rows.len() / 3 {
-        let first = row * 3;
-        return pass_one(
-            mesh,
-            log,
-            n,
-            chip,
-            source,
-            p,
-            &rows[first..first + 3],
-            codes,
-            fixed,
-        );
+    let found = found_row(rows, room, p.word);
+    pass_one(mesh, log, n, chip, source, p, found, codes, fixed)
+}
+
+// The one row that a key's group finds, or none: the key's route in it is that in the whole table.
+fn found_row<'a>(rows: &'a [u32], room: &[u32], key: u32) -> &'a [u32]
+    requires { (length rows.now / 3 ≤ 1024) × (top_of key < 256 → GroupedFor (rows_of rows.now) room.now key) }
+    ensures { route_for key (rows_of result.now) ≡ route_for key (rows_of rows.now) }
+{
+    match grouped_row(rows, room, key) {
+        Some(row) => &rows[row * 3..row * 3 + 3],
+        None => &rows[..0],
     }
-    pass_one(mesh, log, n, chip, source, p, &rows[..0], codes, fixed)
 }
 
 // Where a row starts, three numbers a row.

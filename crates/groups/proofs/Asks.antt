@@ -14,7 +14,7 @@ use Rattle.lists.specs.Lists.{up_to, part}
 use Rattle.lists.proofs.Firsts.{lt_or_ge}
 use Rattle.tables.specs.Rows.{Entry}
 use Rattle.groups.specs.Groups.{top_of, group_of, is_in, marks_of, asked, group_word, block_of, room_after, room_for, GroupedFor}
-use Rattle.groups.specs.Asking.{Asked, Asking, marks_asked, tops_asked, count_asked}
+use Rattle.groups.specs.Asking.{Asked, Asking, is_asked, marks_asked, tops_asked, count_asked}
 use Rattle.groups.proofs.InOrder.{from_most}
 use Rattle.groups.proofs.Blocks.{block_end, blocks_long, blocks_at, ones_length, ones_at}
 use Rattle.groups.proofs.Listing.{in_here, in_else, in_none, one_more, bit_asked}
@@ -157,6 +157,13 @@ asking_next keys marks tops count key p small within = go (eqb (get_or marks (to
         → Asking (keys ++ key ∷ []) (cond (not b) marks (set marks (top_of key) 1)) (cond (not b) tops (set tops count (top_of key))) (cond (not b) count (count + 1))
     go true e = first keys marks tops count key p top (eqb-true (get_or marks (top_of key) 0) 0 e) within
     go false e = again keys marks tops count key p top (eqb-false (get_or marks (top_of key) 0) 0 e)
+
+pub tops_long : (marks tops : List ℕ) (count key : ℕ) → length (tops_asked marks tops count key) ≡ length tops
+tops_long marks tops count key = go (is_asked marks key)
+  where
+    go : (b : Bool) → length (cond b tops (set tops count (top_of key))) ≡ length tops
+    go true = refl
+    go false = length-set tops count (top_of key)
 
 -- the next of a list of keys
 pub asking_one : (keys marks tops : List ℕ) (count i : ℕ) → Asking (take i keys) marks tops count → i < length keys → get_or keys i 0 < 2 ^ 32 → length keys ≤ length tops

@@ -5,19 +5,16 @@ ghost use Rattle.groups.specs.Groups.{room_after, room_for};
 ghost use Rattle.groups.specs.Asking.{Asked};
 ghost use Rattle.groups.specs.Building.{sofar, Listed, PutFits, after_put, Placed, Kept};
 
-use super::top::{fixes_top, top_of, wide};
+use super::top::{fixes_top, top_of};
 
 // The groups of a chip's rows for the top bytes that are listed, which are those that are marked. What the room held counts for nothing, and stays where no number is written.
-pub fn build(rows: &[u32], tops: &[u32], marks: &[u8], room: &mut [u32])
+pub fn build(rows: &[u32], tops: &[u8], marks: &[u8], room: &mut [u32])
     requires { ((length rows.now / 3 ≤ 1024) × (room_for (length rows.now / 3) ≤ length room.old)) × ((length marks.now ≡ 256) × Asked marks.now tops.now) }
     ensures { room.new ≡ room_after marks.now (rows_of rows.now) room.old }
 {
     begin(marks, room);
-    let n = rows.len() / 3;
-    let mut i = 0;
-    while i < n {
+    for i in 0..rows.len() / 3 {
         place(rows, tops, room, i);
-        i += 1;
     }
 }
 
@@ -26,15 +23,13 @@ fn begin(marks: &[u8], room: &mut [u32])
     requires { (length marks.now ≡ 256) × (256 ≤ length room.old) }
     ensures { room.new ≡ marks.now ++ drop 256 room.old }
 {
-    let mut g = 0;
-    while g < marks.len() {
-        room[g] = marks[g] as u32;
-        g += 1;
+    for g in 0..marks.len() {
+        room[g] = u32::from(marks[g]);
     }
 }
 
 // Row i into its group, or into every group that is asked for where it fixes no top byte.
-fn place(rows: &[u32], tops: &[u32], room: &mut [u32], i: usize)
+fn place(rows: &[u32], tops: &[u8], room: &mut [u32], i: usize)
     requires rows_len_bound { (length rows.now / 3 ≤ 1024) × (room_for (length rows.now / 3) ≤ length room.old) }
     requires i_in_bounds { (i < length rows.now / 3) × (Listed tops.now × Placed tops.now (rows_of rows.now) (sofar (rows_of rows.now) i) room.old) }
     ensures placed { Placed tops.now (rows_of rows.now) (sofar (rows_of rows.now) (i + 1)) room.new }
@@ -46,10 +41,8 @@ fn place(rows: &[u32], tops: &[u32], room: &mut [u32], i: usize)
         put(room, n, top_of(rows[i * 3]), number);
         return;
     }
-    let mut k = 0;
-    while k < tops.len() {
-        put(room, n, wide(tops[k]), number);
-        k += 1;
+    for top in tops {
+        put(room, n, usize::from(*top), number);
     }
 }
 
@@ -60,7 +53,7 @@ fn put(room: &mut [u32], n: usize, g: usize, number: u32)
 {
     let count = room[g];
     if count != 0 {
-        room[256 + g * n + wide(count)] = number;
+        room[256 + g * n + (count as usize)] = number;
         room[g] = count + 1;
     }
 }

@@ -1,5 +1,5 @@
 // Whether groups pay.
-ghost use Rattle.std.specs.Prelude.{◌≡◌, cond, length, get_or, ◌*◌, ◌+◌, ◌/◌, ◌≤◌, ◌<◌};
+ghost use Rattle.std.specs.Prelude.{◌≡◌, length, get_or, ◌*◌, ◌+◌, ◌/◌, ◌≤◌, ◌<◌};
 ghost use Rattle.tables.specs.Rows.{rows_of, blank_entry};
 ghost use Rattle.groups.specs.Pays.{worth, is_taken, taken, pays};
 
@@ -10,13 +10,7 @@ pub fn worth(packets: usize, rows: usize) -> bool
     requires { packets ≤ 48 }
     ensures { result ≡ worth packets rows }
 {
-    if rows < 64 {
-        return false;
-    }
-    if rows > 1024 {
-        return false;
-    }
-    rows * 6 + 1600 < packets * (rows - 40)
+    (64..=1024).contains(&rows) && (rows * 6 + 1600 < packets * (rows - 40))
 }
 
 // With the marks of the groups that are asked for.
@@ -26,11 +20,7 @@ pub fn pays(packets: usize, rows: &[u32], marks: &[u8]) -> bool
 {
     let n = rows.len() / 3;
     let many = sampled(rows, marks);
-    let less = many * 40 + 40;
-    if n <= less {
-        return false;
-    }
-    n * 6 + many * 104 + 1600 < packets * (n - less)
+    n * 6 + many * 104 + 1600 < packets * n.saturating_sub(many * 40 + 40)
 }
 
 // How many of every thirteenth row go into a group.
@@ -38,27 +28,19 @@ fn sampled(rows: &[u32], marks: &[u8]) -> usize
     requires { (length rows.now / 3 ≤ 1024) × (length marks.now ≡ 256) }
     ensures { result ≡ taken marks.now (rows_of rows.now) }
 {
-    let all = rows.len() / 3 / 13;
     let mut many = 0;
-    let mut k = 0;
-    while k < all {
-        many += one_if_taken(rows, k * 13, marks);
-        k += 1;
+    for k in 0..rows.len() / 3 / 13 {
+        if is_taken(rows, k * 13, marks) {
+            many += 1;
+        }
     }
     many
 }
 
-fn one_if_taken(rows: &[u32], i: usize, marks: &[u8]) -> usize
+// Whether row i goes into a group.
+fn is_taken(rows: &[u32], i: usize, marks: &[u8]) -> bool
     requires { (i * 3 + 2 < length rows.now) × (length marks.now ≡ 256) }
-    ensures { result ≡ cond (is_taken marks.now (get_or (rows_of rows.now) i blank_entry)) 1 0 }
+    ensures { result ≡ is_taken marks.now (get_or (rows_of rows.now) i blank_entry) }
 {
-    if fixes_top(rows, i) {
-        if marks[top_of(rows[i * 3])] == 0 {
-            0
-        } else {
-            1
-        }
-    } else {
-        1
-    }
+    !fixes_top(rows, i) || (marks[top_of(rows[i * 3])] != 0)
 }

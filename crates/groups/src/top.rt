@@ -1,4 +1,4 @@
-// The top byte of keys and masks, and a word of the room as a number.
+// The top byte of keys and masks.
 ghost use Rattle.std.specs.Prelude.{◌≡◌, length, get_or, ◌*◌, ◌+◌, ◌<◌};
 ghost use Rattle.tables.specs.Rows.{rows_of, blank_entry};
 ghost use Rattle.groups.specs.Groups.{top_of, fixes_top};
@@ -16,10 +16,4 @@ pub fn fixes_top(rows: &[u32], i: usize) -> bool
     ensures { result ≡ fixes_top (get_or (rows_of rows.now) i blank_entry) }
 {
     top_of(rows[i * 3 + 1]) == 255
-}
-
-pub fn wide(word: u32) -> usize
-    ensures { result ≡ word }
-{
-    word as usize
 }

@@ -111,7 +111,3 @@ nine_of_lem (a ∷ b ∷ c ∷ d ∷ e ∷ f ∷ []) p = absurd (omega arith)
 nine_of_lem (a ∷ b ∷ c ∷ d ∷ e ∷ f ∷ g ∷ []) p = absurd (omega arith)
 nine_of_lem (a ∷ b ∷ c ∷ d ∷ e ∷ f ∷ g ∷ h ∷ []) p = absurd (omega arith)
 nine_of_lem (a ∷ b ∷ c ∷ d ∷ e ∷ f ∷ g ∷ h ∷ i ∷ j ∷ k) p = absurd (omega arith)
-
--- a call with its kind and packet written out
-abbrev pub written : Call → ℕ → ℕ → List ℕ → Call
-written c kind n b = record { kind = kind; chip = c.chip; link = c.link; up = c.up; length = n; bytes = b }

@@ -1,5 +1,5 @@
 use Prim.Native.Nat.{ℕ, ◌+◌, ◌*◌, ◌<◌, ◌≤◌, ◌/◌}
-use mathlib.Core.Path.{◌≡◌, refl, sym, ap, ◌∙◌, subst}
+use mathlib.Core.Path.{◌≡◌, sym, ap, ◌∙◌, subst}
 use native.Mathlib.Omega.{arith}
 use lib.ListN.{length, get_or}
 use Rattle.tables.specs.Rows.{Entry, rows_of}
@@ -33,63 +33,50 @@ returns-then-fixes_top c =
     (sym c.fixes_top.ensures ∙ c.if-fixes_top.true) top in
     record { placed = rw last found.0; kept = rw last found.1 }
 
-pub loop-k-init : goal.loop-k-init
-loop-k-init c =
+pub loop-top-init : goal.loop-top-init
+loop-top-init c =
     let words = c.args.rows.now in
     let rows = rows_of words in
     let tops = c.args.tops.now in
-    let room = c.args.room.now in (
-      omega arith,
-      (
-        refl,
-        (
-          partly_none tops rows (omega (arith, c.requires, rows_many words)) c.args.i (omega (arith, c.requires, rows_many words)) room c.requires.i_in_bounds.1.1,
-          kept_none tops (length rows) (partly tops rows c.args.i 0) room,
-        ),
-      ),
-    )
+    let room = c.args.room.now in
+    record {
+      placed = partly_none tops rows (omega (arith, c.requires, rows_many words)) c.args.i (omega (arith, c.requires, rows_many words)) room c.requires.i_in_bounds.1.1;
+      kept = kept_none tops (length rows) (partly tops rows c.args.i 0) room;
+    }
 
-pub put-requires-in-loop-k : goal.put-requires-in-loop-k
-put-requires-in-loop-k c =
+pub put-requires-in-loop-top : goal.put-requires-in-loop-top
+put-requires-in-loop-top c =
     let words = c.args.rows.now in
     let tops = c.args.tops.now in
-    let room = c.loop-k.room in
-    subst (λ (g : ℕ). PutFits room (length words / 3) g) (sym c.wide.ensures)
-    (subst (λ (n : ℕ). PutFits room n (get_or tops c.loop-k.k 0)) (rows_many words)
+    let room = c.loop-top.room in
+    subst (λ (g : ℕ). PutFits room (length words / 3) g) (sym c.from.ensures)
+    (subst (λ (n : ℕ). PutFits room n (get_or tops c.loop-top.top-index 0)) (rows_many words)
     (free_fits tops (rows_of words) (omega (arith, c.requires, rows_many words)) c.args.i (omega (arith, c.requires, rows_many words)) room
-    (omega (arith, c.requires, c.loop-k.invariant.1.0, rows_many words))
-    c.requires.i_in_bounds.1.0 c.loop-k.k (omega arith) c.loop-k.invariant.1.1.0))
+    (omega (arith, c.requires, c.loop-top.auto.room, rows_many words))
+    c.requires.i_in_bounds.1.0 c.loop-top.top-index (omega arith) c.loop-top.invariant.placed))
 
-pub loop-k-preserved : goal.loop-k-preserved
-loop-k-preserved c =
+pub loop-top-preserved : goal.loop-top-preserved
+loop-top-preserved c =
     let words = c.args.rows.now in
     let rows = rows_of words in
     let tops = c.args.tops.now in
-    let room = c.loop-k.room in
+    let room = c.loop-top.room in
     let i = c.args.i in
-    let k = c.loop-k.k in
+    let k = c.loop-top.top-index in
     let few : length rows ≤ 1024 = omega (arith, c.requires, rows_many words) in
     let here : i < length rows = omega (arith, c.requires, rows_many words) in
-    let fits : 257 + 256 * length rows ≤ length room = omega (arith, c.requires, c.loop-k.invariant.1.0, rows_many words) in
+    let fits : 257 + 256 * length rows ≤ length room = omega (arith, c.requires, c.loop-top.auto.room, rows_many words) in
     let within : k < length tops = omega arith in
     let free = sym c.fixes_top.ensures ∙ c.if-fixes_top.false in
-    let put = free_put tops rows few i here room fits c.requires.i_in_bounds.1.0 k within c.loop-k.invariant.1.1.0 free in
-    let last = c.put-in-loop-k.ensures ∙ (λ j. after_put room (sym (rows_many words) j) (c.wide.ensures j) i) in
+    let put = free_put tops rows few i here room fits c.requires.i_in_bounds.1.0 k within c.loop-top.invariant.placed free in
+    let last = c.put-in-loop-top.ensures ∙ (λ j. after_put room (sym (rows_many words) j) (c.from.ensures j) i) in
     let kept = kept_less tops (length rows) (partly tops rows i k) (partly tops rows i (k + 1)) c.args.room.now room
-    (λ g h e. partly_more tops rows few i here room fits c.requires.i_in_bounds.1.0 k within c.loop-k.invariant.1.1.0 g)
-    c.loop-k.invariant.1.1.1 in (
-      omega arith,
-      (
-        c.put-in-loop-k.auto.room ∙ c.loop-k.invariant.1.0,
-        (
-          rw last put.0,
-          rw last (kept_both tops (length rows) (partly tops rows i (k + 1)) c.args.room.now room (after_put room (length rows) (get_or tops k 0) i) kept put.1),
-        ),
-      ),
-    )
-
-pub shape_of-room : goal.shape_of-room
-shape_of-room c = c.loop-k.invariant.1.0
+    (λ g h e. partly_more tops rows few i here room fits c.requires.i_in_bounds.1.0 k within c.loop-top.invariant.placed g)
+    c.loop-top.invariant.kept in
+    record {
+      placed = rw last put.0;
+      kept = rw last (kept_both tops (length rows) (partly tops rows i (k + 1)) c.args.room.now room (after_put room (length rows) (get_or tops k 0) i) kept put.1);
+    }
 
 pub returns : goal.returns
 returns c =
@@ -99,9 +86,9 @@ returns c =
     let i = c.args.i in
     let few : length rows ≤ 1024 = omega (arith, c.requires, rows_many words) in
     let here : i < length rows = omega (arith, c.requires, rows_many words) in
-    let all : c.loop-k.k ≡ length tops = omega arith in
+    let all : c.loop-top.top-index ≡ length tops = omega arith in
     let free = sym c.fixes_top.ensures ∙ c.if-fixes_top.false in
     record {
-      placed = partly_all tops rows few i here c.loop-k.room free (rw all at c.loop-k.invariant.1.1.0);
-      kept = kept_all tops rows few i here c.loop-k.room free c.args.room.now (rw all at c.loop-k.invariant.1.1.1);
+      placed = partly_all tops rows few i here c.loop-top.room free (rw all at c.loop-top.invariant.placed);
+      kept = kept_all tops rows few i here c.loop-top.room free c.args.room.now (rw all at c.loop-top.invariant.kept);
     }
