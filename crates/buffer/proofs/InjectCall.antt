@@ -1,6 +1,6 @@
 -- An injection that is accepted: what is due, and what its pass leaves.
 use Rattle.std.proofs.Common.{◌≡◌, ℕ, ◌*◌, ◌<◌, ◌≤◌, true, List, [], ◌∷◌, length, get_or, sym, refl, ap, ◌∙◌, subst, inr, arith, lit<}
-use Rattle.packet.specs.declared.Taken.{Taken}
+use Rattle.packet.specs.Bytes.{Taken}
 use Rattle.packet.specs.Bytes.{packet_at, taken_of}
 use Rattle.packet.specs.Refusal.{first_of}
 use Rattle.buffer.specs.Layout.{mesh_of, words_for, chips_of}

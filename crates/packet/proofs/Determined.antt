@@ -6,7 +6,7 @@ use Prim.Native.Nat.{ℕ}
 use Rattle.packet.specs.declared.Fields.{Fields}
 use Rattle.packet.specs.declared.Packet.{Packet}
 use Rattle.packet.specs.declared.Packed.{Packed}
-use Rattle.packet.specs.declared.Taken.{Taken}
+use Rattle.packet.specs.Bytes.{Taken}
 use Rattle.packet.specs.declared.FieldsRead.{FieldsRead}
 use Rattle.packet.specs.Bytes.{taken_of, packed_bytes}
 use Rattle.packet.specs.Fields.{fields_of, read_of}

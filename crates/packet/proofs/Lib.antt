@@ -3,6 +3,7 @@ pub mod FieldsBack
 pub mod First
 pub mod Folded
 pub mod Masks
+pub mod Numbers
 pub mod Packing
 pub mod Ranges
 pub mod Refusals

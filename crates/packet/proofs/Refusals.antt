@@ -8,7 +8,7 @@ use lib.Dec.{eqb}
 use borrow.Author.Tests.{eqb-true}
 use Rattle.packet.specs.declared.Fields.{Fields}
 use Rattle.packet.specs.declared.Packed.{Packed}
-use Rattle.packet.specs.declared.Taken.{Taken}
+use Rattle.packet.specs.Bytes.{Taken}
 use Rattle.packet.specs.declared.FieldsRead.{FieldsRead}
 use Rattle.packet.specs.Bytes.{control_at, right_length, packet_at, not_taken, taken_of, packed_as}
 use Rattle.packet.specs.Fields.{fields_of, no_fields, read_from, read_of}

@@ -1,8 +1,9 @@
 -- A packet as bytes: "Five bytes, or nine with a payload: a control byte, a 32-bit word, a 32-bit payload, both big-endian."
-use Rattle.std.specs.Prelude.{ℕ, ◌+◌, ◌*◌, ◌/◌, ◌%◌, ◌<◌, List, [], ◌∷◌, ◌++◌, Bool, cond, ◌||◌, length, get_or, take, eqb}
+use Rattle.std.specs.Prelude.{ℕ, ◌+◌, ◌*◌, ◌/◌, ◌%◌, ◌<◌, List, [], ◌∷◌, ◌++◌, Bool, cond, ◌||◌, length, get_or, take, eqb, Result, Ok, Err}
 use Rattle.packet.specs.declared.Packet.{Packet}
-use Rattle.packet.specs.declared.Taken.{Taken}
 use Rattle.packet.specs.declared.Packed.{Packed}
+use Rattle.packet.specs.declared.refused.Refused.{Refused}
+use Rattle.packet.specs.Refused.{number_of}
 
 -- ---- from bytes
 
@@ -28,6 +29,11 @@ packet_at s =
 abbrev pub nothing : Packet
 nothing = record { control = 0; nine = 0; word = 0; payload = 0 }
 
+-- What taking tells, in numbers: 0 and the packet, or the refusal's number and nothing.
+pub record Taken : Type 0 where
+  pub refusal : ℕ
+  pub packet : Packet
+
 abbrev pub not_taken : ℕ → Taken
 not_taken n = record { refusal = n; packet = nothing }
 
@@ -37,6 +43,11 @@ right_length s = eqb (length s) 5 || eqb (length s) 9
 
 abbrev pub taken_of : List ℕ → Taken
 taken_of s = cond (right_length s) (record { refusal = 0; packet = packet_at s }) (not_taken 2)
+
+-- A packet that was taken, or why none was, as it is told in numbers.
+abbrev pub as_taken : Result Packet Refused → Taken
+as_taken (Ok p) = record { refusal = 0; packet = p }
+as_taken (Err r) = not_taken (number_of r)
 
 -- ---- to bytes
 

@@ -3,7 +3,7 @@ use Rattle.std.specs.Prelude.{ℕ, ◌/◌, ◌%◌, List, cond, eqb}
 use Rattle.packet.specs.declared.Packet.{Packet}
 use Rattle.packet.specs.declared.Fields.{Fields}
 use Rattle.packet.specs.declared.FieldsRead.{FieldsRead}
-use Rattle.packet.specs.declared.Taken.{Taken}
+use Rattle.packet.specs.Bytes.{Taken}
 use Rattle.packet.specs.Control.{kind_of, mark_of, sequence_of, stamp_of, direct_of, route_of, carries_of, parity_of}
 use Rattle.packet.specs.Bytes.{taken_of}
 

@@ -1,23 +1,22 @@
 // A packet from bytes, and back to bytes.
 ghost use Rattle.std.specs.Prelude.{◌≡◌, length, ◌+◌, ◌/◌, ◌%◌, ◌≤◌, ◌<◌};
-ghost use Rattle.packet.specs.Bytes.{word_at, packet_at, not_taken, taken_of, packed_as, packed_bytes};
+ghost use Rattle.packet.specs.Bytes.{word_at, packet_at, as_taken, taken_of, packed_as, packed_bytes};
 ghost use Rattle.packet.specs.Refusal.{first_of, packet_refusals};
+ghost use Rattle.packet.specs.Refused.{told};
 
 use super::control::is_direct;
-use super::{Packed, Packet, Taken};
+use super::refused::Refused;
+use super::{Packed, Packet};
 
 // The packet that stands in the bytes: 2 for a length other than 5 or 9.
-pub fn take(s: &[u8]) -> Taken
-    ensures { result ≡ taken_of s.now }
+pub fn take(s: &[u8]) -> Result<Packet, Refused>
+    ensures { as_taken result ≡ taken_of s.now }
 {
-    let n = s.len();
-    if n == 5 {
-        return taken(five(s));
+    match s.len() {
+        5 => Ok(five(s)),
+        9 => Ok(nine(s)),
+        _ => Err(Refused::Length),
     }
-    if n == 9 {
-        return taken(nine(s));
-    }
-    not_taken(2)
 }
 
 // The packet's bytes again.
@@ -31,32 +30,15 @@ pub fn bytes_of(p: Packet) -> Packed
     }
 }
 
-// A refusal: its number, and zeros elsewhere.
-pub fn not_taken(refusal: u32) -> Taken
-    ensures { result ≡ not_taken refusal }
+// What a packet that is to pass is refused for: 2 length, 4 NN with T = 1.
+pub fn packet_refusal(bytes: &[u8]) -> Result<(), Refused>
+    ensures { told result ≡ first_of (packet_refusals bytes.now) }
 {
-    let packet = Packet {
-        control: 0,
-        nine: 0,
-        word: 0,
-        payload: 0,
-    };
-    Taken { refusal, packet }
-}
-
-// What a packet that is to pass is refused for, or 0: 2 length, 4 NN with T = 1.
-pub fn packet_refusal(bytes: &[u8]) -> u32
-    ensures { result ≡ first_of (packet_refusals bytes.now) }
-{
-    let taken = take(bytes);
-    if taken.refusal != 0 {
-        return taken.refusal;
-    }
-    let p = taken.packet;
+    let p = take(bytes)?;
     if is_direct(p.control) {
-        return 4;
+        return Err(Refused::Direct);
     }
-    0
+    Ok(())
 }
 
 // A byte as a number.
@@ -94,15 +76,6 @@ fn nine(s: &[u8]) -> Packet
         nine: 1,
         word: word_at(s, 1),
         payload: word_at(s, 5),
-    }
-}
-
-fn taken(p: Packet) -> Taken
-    ensures { result ≡ record { refusal = 0; packet = p } }
-{
-    Taken {
-        refusal: 0,
-        packet: p,
     }
 }
 

@@ -37,14 +37,6 @@ pub struct Fields {
     pub payload: u32,
 }
 
-// What taking a packet from bytes answers.
-#[repr(C)]
-#[derive(Clone, Copy)]
-pub struct Taken {
-    pub refusal: u32,
-    pub packet: Packet,
-}
-
 // What reading answers.
 #[repr(C)]
 #[derive(Clone, Copy)]

@@ -1,6 +1,6 @@
 // Reading a packet into its fields, and packing fields.
 ghost use Rattle.std.specs.Prelude.{◌≡◌, true, ◌⊎◌};
-ghost use Rattle.packet.specs.Fields.{end_fields, marked_fields, p2p_fields, nn_fields, fields_of, no_fields, read_from, read_of};
+ghost use Rattle.packet.specs.Fields.{end_fields, marked_fields, p2p_fields, nn_fields, fields_of, no_fields, read_of};
 ghost use Rattle.packet.specs.Packing.{marked_in_range, p2p_in_range, nn_in_range, end_in_range, not_packed, packed_of};
 
 use super::bytes::{bytes_of, take};
@@ -8,13 +8,22 @@ use super::control::{
     beside, carries_of, control_byte, direct_of, kind_of, mark_of, parity_of, route_of,
     sequence_of, stamp_of,
 };
-use super::{Fields, FieldsRead, Packed, Packet, Taken};
+use super::{Fields, FieldsRead, Packed, Packet};
 
 // The fields of a packet in bytes: 2 for a length other than 5 or 9.
 pub fn read(s: &[u8]) -> FieldsRead
     ensures { result ≡ read_of s.now }
 {
-    read_from(take(s))
+    match take(s) {
+        Ok(packet) => FieldsRead {
+            refusal: 0,
+            fields: fields_of(packet),
+        },
+        Err(refused) => FieldsRead {
+            refusal: u32::from(refused),
+            fields: no_fields(),
+        },
+    }
 }
 
 // The bytes of a packet of fields: 6 for a field out of range.
@@ -41,22 +50,6 @@ pub fn fields_of(p: Packet) -> Fields
         1 => p2p_fields(p),
         2 => nn_fields(p),
         _ => marked_fields(kind, p),
-    }
-}
-
-fn read_from(t: Taken) -> FieldsRead
-    ensures { result ≡ read_from t }
-{
-    if t.refusal == 0 {
-        let packet = t.packet;
-        let fields = fields_of(packet);
-        FieldsRead { refusal: 0, fields }
-    } else {
-        let fields = no_fields();
-        FieldsRead {
-            refusal: t.refusal,
-            fields,
-        }
     }
 }
 

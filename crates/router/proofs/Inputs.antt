@@ -9,7 +9,7 @@ use lib.Dec.{eqb, leb}
 use lib.ListN.{length}
 use borrow.Author.Tests.{leb-true, eqb-true, eq-eqb, ne_eqb, not-false}
 use Rattle.packet.specs.declared.Packet.{Packet}
-use Rattle.packet.specs.declared.Taken.{Taken}
+use Rattle.packet.specs.Bytes.{Taken}
 use Rattle.packet.specs.Bytes.{control_at, packet_at, not_taken, taken_of}
 use Rattle.packet.specs.Refusal.{first_of, packet_refusals}
 use Rattle.packet.proofs.Refusals.{packet_first, take_refused}

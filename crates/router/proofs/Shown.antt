@@ -8,7 +8,7 @@ use lib.Dec.{eqb, ltb, leb, lit<}
 use lib.ListN.{get_or}
 use borrow.Author.Tests.{eqb-true, ltb-true, ltb-false, le-leb, lt-leb}
 use Rattle.packet.specs.declared.Packet.{Packet}
-use Rattle.packet.specs.declared.Taken.{Taken}
+use Rattle.packet.specs.Bytes.{Taken}
 use Rattle.packet.specs.Bytes.{nothing}
 use Rattle.kept.specs.declared.Counters.{Counters}
 use Rattle.steps.specs.declared.Outcome.{Outcome}

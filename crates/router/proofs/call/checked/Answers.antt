@@ -4,7 +4,7 @@ use Rattle.packet.specs.Refusal.{first_of}
 use Rattle.packet.specs.Bytes.{control_at, taken_of}
 use Rattle.packet.specs.Control.{is_direct}
 use Rattle.router.specs.Call.{setting_refusals}
-use Rattle.packet.specs.declared.Taken.{Taken}
+use Rattle.packet.specs.Bytes.{Taken}
 use Rattle.router.proofs.Inputs.{refused_setting, refused_packet, refused_direct, accepted}
 use Rattle.packet.proofs.Refusals.{taken_whole}
 use Rattle.router.proofs.call.checked.Goals as goal

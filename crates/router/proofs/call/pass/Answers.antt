@@ -6,7 +6,7 @@ use Rattle.router.proofs.Inputs.{checked, none_refused, few_at_17}
 use Rattle.router.proofs.Shown.{answer_shown, unless_none, unless_sets}
 use Rattle.router.specs.Showing.{pass_shown}
 use Rattle.router.specs.Call.{pass_of, answer}
-use Rattle.packet.specs.declared.Taken.{Taken}
+use Rattle.packet.specs.Bytes.{Taken}
 use Rattle.router.proofs.call.pass.Goals as goal
 
 pub outcome_unless-o-requires : goal.outcome_unless-o-requires
