@@ -1,8 +1,10 @@
 -- No reason for a refusal has the number 0, which is told where nothing is refused, and no two have the same.
-use Rattle.std.proofs.Common.{◌≡◌, refl, ℕ, false, eqb}
+use Rattle.std.proofs.Common.{◌≡◌, refl, sym, ap, ◌∙◌, arith, ℕ, true≢false, false, cond, eqb, eq-eqb, Result, Ok, Err}
+use Rattle.packet.specs.declared.Packet.{Packet}
 use Rattle.packet.specs.declared.refused.Refused.{Refused}
 use Rattle.packet.specs.declared.refused.Refused.TheVariants.{Source, Length, Direct, OutOfRange, Size, NoMesh, NotThere, LogRoom, Codes, CutShort, Version, Record, Starts, ManyRows, RouteBits, FixedRoutes, OffMesh, Targets, KeyBits, TreeRoom, RecordRoom, FewerRoom, GroupsRoom}
 use Rattle.packet.specs.Refused.{number_of}
+use Rattle.packet.specs.Bytes.{Taken, as_taken}
 
 pub told_some : (r : Refused) → eqb (number_of r) 0 ≡ false
 told_some Source = refl
@@ -28,3 +30,69 @@ told_some TreeRoom = refl
 told_some RecordRoom = refl
 told_some FewerRoom = refl
 told_some GroupsRoom = refl
+
+-- the reason that a number stands for
+abbrev reason : ℕ → Refused
+reason n =
+    (cond (eqb n 1) Source
+    (cond (eqb n 2) Length
+    (cond (eqb n 4) Direct
+    (cond (eqb n 6) OutOfRange
+    (cond (eqb n 7) Size
+    (cond (eqb n 8) NoMesh
+    (cond (eqb n 9) NotThere
+    (cond (eqb n 10) LogRoom
+    (cond (eqb n 11) Codes
+    (cond (eqb n 12) CutShort
+    (cond (eqb n 13) Version
+    (cond (eqb n 14) Record
+    (cond (eqb n 15) Starts
+    (cond (eqb n 16) ManyRows
+    (cond (eqb n 17) RouteBits
+    (cond (eqb n 18) FixedRoutes
+    (cond (eqb n 19) OffMesh
+    (cond (eqb n 20) Targets
+    (cond (eqb n 21) KeyBits
+    (cond (eqb n 26) TreeRoom
+    (cond (eqb n 27) RecordRoom
+    (cond (eqb n 28) FewerRoom
+    GroupsRoom))))))))))))))))))))))
+
+reason_back : (r : Refused) → reason (number_of r) ≡ r
+reason_back Source = refl
+reason_back Length = refl
+reason_back Direct = refl
+reason_back OutOfRange = refl
+reason_back Size = refl
+reason_back NoMesh = refl
+reason_back NotThere = refl
+reason_back LogRoom = refl
+reason_back Codes = refl
+reason_back CutShort = refl
+reason_back Version = refl
+reason_back Record = refl
+reason_back Starts = refl
+reason_back ManyRows = refl
+reason_back RouteBits = refl
+reason_back FixedRoutes = refl
+reason_back OffMesh = refl
+reason_back Targets = refl
+reason_back KeyBits = refl
+reason_back TreeRoom = refl
+reason_back RecordRoom = refl
+reason_back FewerRoom = refl
+reason_back GroupsRoom = refl
+
+pub same_reason : (r s : Refused) → number_of r ≡ number_of s → r ≡ s
+same_reason r s e = sym (reason_back r) ∙ ap reason e ∙ reason_back s
+
+-- ---- what is told of taking says which packet was taken, or why none was
+
+pub taken_packet : (r : Result Packet Refused) (p : Packet) → as_taken r ≡ record { refusal = 0; packet = p } → r ≡ Ok p
+taken_packet (Ok q) p e = ap (λ (t : Taken). Ok t.packet) e
+taken_packet (Err s) p e = absurd (true≢false (sym (eq-eqb (number_of s) 0 (ap (λ (t : Taken). t.refusal) e)) ∙ told_some s))
+
+pub taken_alike : (a b : Result Packet Refused) → as_taken a ≡ as_taken b → a ≡ b
+taken_alike a (Ok p) e = taken_packet a p e
+taken_alike (Ok p) (Err s) e = sym (taken_packet (Err s) p (sym e))
+taken_alike (Err r) (Err s) e = ap Err (same_reason r s (ap (λ (t : Taken). t.refusal) e))

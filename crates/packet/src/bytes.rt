@@ -1,5 +1,5 @@
 // A packet from bytes, and back to bytes.
-ghost use Rattle.std.specs.Prelude.{◌≡◌, length, ◌+◌, ◌/◌, ◌%◌, ◌≤◌, ◌<◌};
+ghost use Rattle.std.specs.Prelude.{◌≡◌, length, IfOk, ◌+◌, ◌/◌, ◌%◌, ◌≤◌, ◌<◌};
 ghost use Rattle.packet.specs.Bytes.{word_at, packet_at, as_taken, taken_of, packed_as, packed_bytes};
 ghost use Rattle.packet.specs.Refusal.{first_of, packet_refusals};
 ghost use Rattle.packet.specs.Refused.{told};
@@ -30,15 +30,16 @@ pub fn bytes_of(p: Packet) -> Packed
     }
 }
 
-// What a packet that is to pass is refused for: 2 length, 4 NN with T = 1.
-pub fn packet_refusal(bytes: &[u8]) -> Result<(), Refused>
-    ensures { told result ≡ first_of (packet_refusals bytes.now) }
+// The packet in bytes, where it may pass: 2 length, 4 NN with T = 1.
+pub fn packet_to_pass(bytes: &[u8]) -> Result<Packet, Refused>
+    ensures refusal { told result ≡ first_of (packet_refusals bytes.now) }
+    ensures packet { IfOk result (λ p. p ≡ packet_at bytes.now) }
 {
     let p = take(bytes)?;
     if is_direct(p.control) {
         return Err(Refused::Direct);
     }
-    Ok(())
+    Ok(p)
 }
 
 // A byte as a number.
