@@ -1,7 +1,9 @@
 -- An injection that is accepted: what is due, and what its pass leaves.
-use Rattle.std.proofs.Common.{◌≡◌, ℕ, ◌*◌, ◌<◌, ◌≤◌, true, List, [], ◌∷◌, length, get_or, sym, refl, ap, ◌∙◌, subst, inr, arith, lit<}
-use Rattle.packet.specs.Bytes.{Taken}
-use Rattle.packet.specs.Bytes.{packet_at, taken_of}
+use Rattle.std.proofs.Common.{◌≡◌, Result, Ok, ℕ, ◌*◌, ◌<◌, ◌≤◌, true, List, [], ◌∷◌, length, get_or, sym, refl, ap, ◌∙◌, subst, inr, arith, lit<}
+use Rattle.packet.specs.declared.Packet.{Packet}
+use Rattle.packet.specs.declared.refused.Refused.{Refused}
+use Rattle.packet.specs.Bytes.{packet_at, taken_of, as_taken}
+use Rattle.packet.proofs.Numbers
 use Rattle.packet.specs.Refusal.{first_of}
 use Rattle.buffer.specs.Layout.{mesh_of, words_for, chips_of}
 use Rattle.mesh.specs.Lending.{Tables}
@@ -37,10 +39,10 @@ module _ (t : Tables) (l log : List ℕ) (chip : ℕ) (bytes : List ℕ) (none :
   inject_lent = (go.lent, go.there)
 
   -- the packet is the one that was taken from the bytes
-  pub taken_packet : (r : Taken) → r ≡ taken_of bytes → r.packet ≡ packet_at bytes
+  pub taken_packet : (r : Result Packet Refused) → as_taken r ≡ taken_of bytes → r ≡ Ok (packet_at bytes)
   taken_packet r e =
       let taken : taken_of bytes ≡ record { refusal = 0; packet = packet_at bytes } = simp go.whole in
-      ap (λ (x : Taken). x.packet) (e ∙ taken)
+      Numbers.taken_packet r (packet_at bytes) (e ∙ taken)
 
   pub inject_due : Due (arrival chip 7 (packet_at bytes) ∷ []) l log 0
   unfolding All

@@ -85,8 +85,7 @@ pub fn inject_tested(
             place: place_told(tested, refusal),
         };
     }
-    let taken = take(bytes);
-    let p = taken.packet;
+    let p = take(bytes).unwrap();
     let n = pass_there(mesh, log, chip as usize, p, rows, starts, codes, fixed);
     let added = n as u32;
     Added {

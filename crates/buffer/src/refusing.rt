@@ -10,7 +10,8 @@ ghost use Rattle.buffer.specs.Testing.{inject_number, round_number, place_told};
 use super::flight::in_flight;
 use super::testing::Tested;
 use links::offsets::{HEIGHT, WIDTH};
-use packet::bytes::packet_refusal;
+use packet::bytes::packet_to_pass;
+use packet::refused::told;
 use tables::size::chips;
 
 // Injection: 8 no mesh, 9 chip, 15 starts, 16 too many rows, 17 route bits, 18 fixed routes, 11 codes, 29 room, 10 log, 2 length, 4 NN with T = 1.
@@ -30,7 +31,7 @@ pub fn inject_refusal(mesh: &[u32], tested: Tested, room: usize, chip: u32, byte
     if room < 6 {
         return 10;
     }
-    packet_refusal(bytes)
+    told(packet_to_pass(bytes))
 }
 
 // A round: 8 no mesh, 15 starts, 16 too many rows, 17 route bits, 18 fixed routes, 11 codes, 29 room, 10 log.

@@ -1,5 +1,5 @@
 -- No reason for a refusal has the number 0, which is told where nothing is refused, and no two have the same.
-use Rattle.std.proofs.Common.{◌≡◌, refl, sym, ap, ◌∙◌, arith, ℕ, true≢false, false, cond, eqb, eq-eqb, Result, Ok, Err}
+use Rattle.std.proofs.Common.{◌≡◌, refl, sym, ap, ◌∙◌, ℕ, true≢false, false, cond, eqb, eq-eqb, Result, Ok, Err}
 use Rattle.packet.specs.declared.Packet.{Packet}
 use Rattle.packet.specs.declared.refused.Refused.{Refused}
 use Rattle.packet.specs.declared.refused.Refused.TheVariants.{Source, Length, Direct, OutOfRange, Size, NoMesh, NotThere, LogRoom, Codes, CutShort, Version, Record, Starts, ManyRows, RouteBits, FixedRoutes, OffMesh, Targets, KeyBits, TreeRoom, RecordRoom, FewerRoom, GroupsRoom}

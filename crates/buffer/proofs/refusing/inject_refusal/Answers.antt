@@ -22,4 +22,4 @@ pub returns-then-room-lt6 : goal.returns-then-room-lt6
 returns-then-room-lt6 c = simp (not-false c.args.tested.holds c.if-not-tested.false, lt-ltb _ _ (rw c.chips.ensures at c.if-chips-chip.false), eq-eqb c.args.tested.tables 0 c.if-tested-ne0.false, lt-ltb _ _ c.if-room-lt6.true)
 
 pub returns : goal.returns
-returns c = simp (not-false c.args.tested.holds c.if-not-tested.false, lt-ltb _ _ (rw c.chips.ensures at c.if-chips-chip.false), eq-eqb c.args.tested.tables 0 c.if-tested-ne0.false, le-ltb _ _ c.if-room-lt6.false) c.packet_refusal.ensures
+returns c = simp (not-false c.args.tested.holds c.if-not-tested.false, lt-ltb _ _ (rw c.chips.ensures at c.if-chips-chip.false), eq-eqb c.args.tested.tables 0 c.if-tested-ne0.false, le-ltb _ _ c.if-room-lt6.false) (c.told.ensures ∙ c.packet_to_pass.ensures.refusal)

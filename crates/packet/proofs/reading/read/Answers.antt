@@ -1,5 +1,4 @@
 use Rattle.std.proofs.Common.{◌≡◌, ℕ, sym, ap, ◌∙◌}
-use Rattle.packet.specs.declared.FieldsRead.{FieldsRead}
 use Rattle.packet.specs.Bytes.{not_taken}
 use Rattle.packet.specs.Refused.{number_of}
 use Rattle.packet.specs.Fields.{no_fields, read_from, read_of}
