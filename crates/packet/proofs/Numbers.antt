@@ -3,7 +3,7 @@ use Rattle.std.proofs.Common.{◌≡◌, refl, sym, ap, ◌∙◌, ℕ, true≢f
 use Rattle.packet.specs.declared.Packet.{Packet}
 use Rattle.packet.specs.declared.refused.Refused.{Refused}
 use Rattle.packet.specs.declared.refused.Refused.TheVariants.{Source, Length, Direct, OutOfRange, Size, NoMesh, NotThere, LogRoom, Codes, CutShort, Version, Record, Starts, ManyRows, RouteBits, FixedRoutes, OffMesh, Targets, KeyBits, TreeRoom, RecordRoom, FewerRoom, GroupsRoom}
-use Rattle.packet.specs.Refused.{number_of}
+use Rattle.packet.specs.Refused.{number_of, told}
 use Rattle.packet.specs.Bytes.{Taken, as_taken}
 
 pub told_some : (r : Refused) → eqb (number_of r) 0 ≡ false
@@ -87,6 +87,10 @@ pub same_reason : (r s : Refused) → number_of r ≡ number_of s → r ≡ s
 same_reason r s e = sym (reason_back r) ∙ ap reason e ∙ reason_back s
 
 -- ---- what is told of taking says which packet was taken, or why none was
+
+pub told_taken : (r : Result Packet Refused) → (as_taken r).refusal ≡ told r
+told_taken (Ok p) = refl
+told_taken (Err s) = refl
 
 pub taken_packet : (r : Result Packet Refused) (p : Packet) → as_taken r ≡ record { refusal = 0; packet = p } → r ≡ Ok p
 taken_packet (Ok q) p e = ap (λ (t : Taken). Ok t.packet) e

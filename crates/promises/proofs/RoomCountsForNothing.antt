@@ -7,8 +7,7 @@ use native.Mathlib.Omega.{arith}
 use lib.Dec.{eqb, ltb}
 use lib.ListN.{length}
 use borrow.Author.Tests.{eqb-true}
-use Rattle.packet.specs.Bytes.{Taken}
-use Rattle.packet.specs.Bytes.{packet_at, not_taken}
+use Rattle.packet.specs.Bytes.{Taken, packet_at, not_taken}
 use Rattle.packet.specs.Refusal.{Refusal, refuse, first_of, packet_refusals}
 use Rattle.tables.specs.Accept.{starts_right, rows_few, few_rows, routes_fine, route_fine, fixed_fine, codes_fine}
 use Rattle.tables.specs.Sizes.{size_fine}

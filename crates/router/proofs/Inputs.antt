@@ -2,17 +2,19 @@
 use mathlib.Core.Path.{◌≡◌, refl, sym, ap, ◌∙◌}
 use mathlib.Core.Bool.{Bool, true, false, cond, not, ◌&&◌, and-eq-true_iff, true≢false}
 use mathlib.Core.List.{List}
+use Rattle.std.specs.Prelude.{Result, Ok, Err, IfOk}
 use Prim.Native.Nat.{ℕ, zero, suc, ◌*◌, ◌/◌, ◌≤◌, ◌<◌}
-use native.Mathlib.Nat.{le_of_eq}
+use native.Mathlib.Nat.{le_of_eq, mod-lt}
 use native.Mathlib.Omega.{arith}
-use lib.Dec.{eqb, leb}
+use lib.Dec.{eqb, leb, lit<}
 use lib.ListN.{length}
 use borrow.Author.Tests.{leb-true, eqb-true, eq-eqb, ne_eqb, not-false}
 use Rattle.packet.specs.declared.Packet.{Packet}
-use Rattle.packet.specs.Bytes.{Taken}
-use Rattle.packet.specs.Bytes.{control_at, packet_at, not_taken, taken_of}
+use Rattle.packet.specs.declared.refused.Refused.{Refused}
+use Rattle.packet.specs.Refused.{number_of, told}
+use Rattle.packet.specs.Bytes.{Taken, packet_at, not_taken, as_taken}
 use Rattle.packet.specs.Refusal.{first_of, packet_refusals}
-use Rattle.packet.proofs.Refusals.{packet_first, take_refused}
+use Rattle.packet.proofs.Numbers.{told_some}
 use Rattle.packet.proofs.First.{first_append, not_refused}
 use Rattle.tables.specs.Accept.{few_rows, codes_fine, all_codes}
 use Rattle.steps.specs.declared.Setting.{Setting}
@@ -21,7 +23,6 @@ use Rattle.tables.specs.Sizes.{size_fine}
 use Rattle.tables.proofs.Sizes.{Size, size}
 use Rattle.tables.specs.Tables.{ChipTables}
 use Rattle.router.specs.Call.{setting_fine, source_fine, setting_refusals, pass_refusals, checked_of}
-use Rattle.packet.specs.Control.{is_direct}
 
 source_small : (source : ℕ) → source_fine source ≡ true → source < 8
 source_small source e = go (leb source 5) refl
@@ -69,32 +70,25 @@ module _ (bytes : List ℕ) (source : ℕ) (tables : ChipTables) (t : Setting) (
   found : ℕ → Taken
   found n = cond (eqb n 0) (record { refusal = 0; packet = packet_at bytes }) (not_taken n)
 
+  -- the setting is asked before the packet
+  pub before_packet : (n : ℕ) → first_of (setting_refusals source tables t room) ≡ n → eqb n 0 ≡ false → first_of (pass_refusals bytes source tables t room) ≡ n
+  before_packet n e some = first_append (setting_refusals source tables t room) (packet_refusals bytes) refl ∙ simp (e, some)
+
+  pub after_setting : first_of (setting_refusals source tables t room) ≡ 0 → first_of (pass_refusals bytes source tables t room) ≡ first_of (packet_refusals bytes)
+  after_setting e = first_append (setting_refusals source tables t room) (packet_refusals bytes) refl ∙ simp e
+
   pub refused_setting : (n : ℕ) → first_of (setting_refusals source tables t room) ≡ n → (n ≡ 0 → ⊥) → checked_of bytes source tables t room ≡ not_taken n
   unfolding checked_of found
-  refused_setting n e some =
-      let first : first_of (pass_refusals bytes source tables t room) ≡ n =
-      first_append (setting_refusals source tables t room) (packet_refusals bytes) refl ∙ simp (e, ne_eqb n 0 some) in
-      ap found first ∙ simp (ne_eqb n 0 some)
+  refused_setting n e some = ap found (before_packet n e (ne_eqb n 0 some)) ∙ simp (ne_eqb n 0 some)
 
-  module _ (fine-setting : first_of (setting_refusals source tables t room) ≡ 0) where
-    by_packet : checked_of bytes source tables t room ≡ found (cond (eqb (taken_of bytes).refusal 0) (cond (is_direct (control_at bytes)) 4 0) (taken_of bytes).refusal)
-    unfolding checked_of found
-    by_packet =
-        let first : first_of (pass_refusals bytes source tables t room) ≡ first_of (packet_refusals bytes) =
-        first_append (setting_refusals source tables t room) (packet_refusals bytes) refl ∙ simp fine-setting in
-        ap found (first ∙ packet_first bytes)
-
-    pub refused_packet : ((taken_of bytes).refusal ≡ 0 → ⊥) → checked_of bytes source tables t room ≡ taken_of bytes
-    unfolding found
-    refused_packet some = by_packet ∙ simp (ne_eqb _ _ some) (sym (take_refused bytes some))
-
-    pub refused_direct : (taken_of bytes).refusal ≡ 0 → is_direct (control_at bytes) ≡ true → checked_of bytes source tables t room ≡ not_taken 4
-    unfolding found
-    refused_direct e d = by_packet ∙ simp (eq-eqb _ _ e, d)
-
-    pub accepted : (taken_of bytes).refusal ≡ 0 → is_direct (control_at bytes) ≡ false → checked_of bytes source tables t room ≡ record { refusal = 0; packet = packet_at bytes }
-    unfolding found
-    accepted e d = by_packet ∙ simp (eq-eqb _ _ e, d)
+  -- where the first refusal is told, and else the packet in the bytes is taken
+  pub told_checked : (r : Result Packet Refused) → told r ≡ first_of (pass_refusals bytes source tables t room) → IfOk r (λ p. p ≡ packet_at bytes)
+      → as_taken r ≡ checked_of bytes source tables t room
+  unfolding checked_of found
+  told_checked (Ok p) e w = ap (λ (q : Packet). as_taken (Ok q)) w ∙ ap found e
+  told_checked (Err s) e w =
+      let refused : found (number_of s) ≡ not_taken (number_of s) = simp (told_some s) in
+      sym refused ∙ ap found e
 
 -- where nothing is refused, each test has passed, and the packet is the one that stands in the bytes
 pub record NoneRefused (bytes : List ℕ) (source : ℕ) (tables : ChipTables) (t : Setting) (room : ℕ) : Type 0 where
@@ -115,6 +109,15 @@ none_refused bytes source tables t room e = go (first_of (setting_refusals sourc
         let some : suc n ≡ 0 → ⊥ = λ z. omega arith in
         let wrong : (checked_of bytes source tables t room).refusal ≡ suc n = ap (λ (x : Taken). x.refusal) (refused_setting bytes source tables t room (suc n) f some) in
         absurd (omega arith)
+
+-- the packet that is then taken may pass
+pub checked_packet : (bytes : List ℕ) (source : ℕ) (tables : ChipTables) (t : Setting) (room : ℕ) (r : Result Packet Refused)
+    → as_taken r ≡ checked_of bytes source tables t room → IfOk r (λ p. Checked p source tables t)
+checked_packet bytes source tables t room (Err s) e = tt
+checked_packet bytes source tables t room (Ok p) e =
+    let n = none_refused bytes source tables t room (sym (ap (λ (x : Taken). x.refusal) e)) in
+    let whole : p ≡ packet_at bytes = ap (λ (x : Taken). x.packet) (e ∙ n.packet) in
+    checked p source tables t (rw whole (mod-lt _ (lit< tt))) n.tests
 
 -- ---- which of the tables' numbers it is
 

@@ -8,8 +8,7 @@ use lib.Dec.{eqb, ltb, leb, lit<}
 use lib.ListN.{get_or}
 use borrow.Author.Tests.{eqb-true, ltb-true, ltb-false, le-leb, lt-leb}
 use Rattle.packet.specs.declared.Packet.{Packet}
-use Rattle.packet.specs.Bytes.{Taken}
-use Rattle.packet.specs.Bytes.{nothing}
+use Rattle.packet.specs.Bytes.{Taken, nothing}
 use Rattle.kept.specs.declared.Counters.{Counters}
 use Rattle.steps.specs.declared.Outcome.{Outcome}
 use Rattle.steps.specs.declared.Setting.{Setting}
@@ -32,7 +31,7 @@ module _ (taken : Taken) (source : ℕ) (tables : ChipTables) (t : Setting) wher
       go true e = ap (λ (n : ℕ). pass_shown n (place_of n tables.rows) (outcome_of taken.packet source tables t)) (eqb-true _ _ e)
       go false e = simp e
 
-  abbrev unless : Bool → Outcome
+  abbrev pub unless : Bool → Outcome
   unless b = cond b (outcome_of taken.packet source tables t) no_outcome
 
   pub unless_none : unless (eqb taken.refusal 0) ≡ cond (eqb taken.refusal 0) (unless (eqb taken.refusal 0)) no_outcome

@@ -1,7 +1,6 @@
 -- The one-router call: what it refuses, in order, and what it answers.
 use Rattle.std.specs.Prelude.{ℕ, ◌*◌, ◌/◌, Bool, cond, ◌&&◌, ◌||◌, not, List, [], ◌∷◌, ◌++◌, eqb, leb, length}
-use Rattle.packet.specs.Bytes.{Taken}
-use Rattle.packet.specs.Bytes.{packet_at, not_taken}
+use Rattle.packet.specs.Bytes.{Taken, packet_at, not_taken}
 use Rattle.packet.specs.Refusal.{Refusal, refuse, first_of, packet_refusals}
 use Rattle.tables.specs.Sizes.{size_fine}
 use Rattle.tables.specs.Accept.{few_rows, routes_fine, route_fine, codes_fine}

@@ -1,5 +1,6 @@
 // The one-router call: it takes anything, and answers or refuses.
-ghost use Rattle.std.specs.Prelude.{◌≡◌, cond, not, ◌&&◌, eqb, length, ◌/◌, ◌≤◌};
+ghost use Rattle.std.specs.Prelude.{◌≡◌, IfOk, cond, not, ◌&&◌, eqb, length, ◌/◌, ◌≤◌};
+ghost use Rattle.packet.specs.Bytes.{as_taken};
 ghost use Rattle.packet.specs.Refusal.{first_of};
 ghost use Rattle.packet.specs.Refused.{told};
 ghost use Rattle.tables.specs.Accept.{few_rows, routes_fine, route_fine, rows_fine};
@@ -10,10 +11,9 @@ ghost use Rattle.router.specs.Call.{setting_fine, source_fine, setting_refusals,
 use super::Pass;
 use super::showing::shown;
 use groups::lending::short_for;
-use packet::bytes::{not_taken, take};
-use packet::control::is_direct;
+use packet::Packet;
+use packet::bytes::packet_to_pass;
 use packet::refused::{Refused, told};
-use packet::{Packet, Taken};
 use steps::deciding::{decide, no_outcome};
 use steps::errors::{errors_of, stamped_of};
 use steps::wants::wanted_of;
@@ -30,51 +30,46 @@ pub fn pass(bytes: &[u8], source: u32, tables: &ChipTables<'_>, t: Setting, room
     ensures { result ≡ pass_of bytes.now source tables.now t room }
 {
     let taken = checked(bytes, source, tables, t, room);
-    let p = taken.packet;
-    let o = outcome_unless(taken.refusal, p, source, tables, t);
-    let place = place_of(taken.refusal, tables.rows());
-    shown(taken.refusal, place, o)
+    let refusal = told(taken);
+    let o = outcome_unless(taken, source, tables, t);
+    let place = place_of(refusal, tables.rows());
+    shown(refusal, place, o)
 }
 
 // What a pass does, or nothing where it is refused. The steps stand here as in `outcome_of`, which the mesh calls: with two callers
 // the compiler would not put it in place in either.
 fn outcome_unless(
-    refusal: u32,
-    p: Packet,
+    taken: Result<Packet, Refused>,
     source: u32,
     tables: &ChipTables<'_>,
     t: Setting,
 ) -> Outcome
-    requires { refusal ≡ 0 → Checked p source tables.now t }
-    ensures { result ≡ cond (eqb refusal 0) (outcome_of p source tables.now t) no_outcome }
+    requires { IfOk taken (λ p. Checked p source tables.now t) }
+    ensures { result ≡ cond (eqb (as_taken taken).refusal 0) (outcome_of (as_taken taken).packet source tables.now t) no_outcome }
 {
-    if refusal == 0 {
-        let errors = errors_of(p, source, t.phase);
-        let stamped = stamped_of(p, source, errors, t.phase);
-        let wanted = wanted_of(errors, p, source, tables, t);
-        decide(errors, stamped, source, t.phase, wanted, t.ready)
-    } else {
-        no_outcome()
+    match taken {
+        Ok(p) => {
+            let errors = errors_of(p, source, t.phase);
+            let stamped = stamped_of(p, source, errors, t.phase);
+            let wanted = wanted_of(errors, p, source, tables, t);
+            decide(errors, stamped, source, t.phase, wanted, t.ready)
+        }
+        Err(_) => no_outcome(),
     }
 }
 
 // The packet where nothing is refused, or the first refusal.
-fn checked(bytes: &[u8], source: u32, tables: &ChipTables<'_>, t: Setting, room: usize) -> Taken
-    ensures { result ≡ checked_of bytes.now source tables.now t room }
+fn checked(
+    bytes: &[u8],
+    source: u32,
+    tables: &ChipTables<'_>,
+    t: Setting,
+    room: usize,
+) -> Result<Packet, Refused>
+    ensures { as_taken result ≡ checked_of bytes.now source tables.now t room }
 {
-    let refusal = told(setting_refusal(source, tables, t, room));
-    if refusal != 0 {
-        return not_taken(refusal);
-    }
-    let taken = take(bytes);
-    if taken.refusal != 0 {
-        return taken;
-    }
-    let p = taken.packet;
-    if is_direct(p.control) {
-        return not_taken(4);
-    }
-    taken
+    setting_refusal(source, tables, t, room)?;
+    packet_to_pass(bytes)
 }
 
 fn setting_refusal(

@@ -1,34 +1,21 @@
-use mathlib.Core.Path.{◌≡◌, sym, ap, ◌∙◌}
-use mathlib.Core.Bool.{true, false}
-use Rattle.packet.specs.Refusal.{first_of}
-use Rattle.packet.specs.Bytes.{control_at, taken_of}
-use Rattle.packet.specs.Control.{is_direct}
-use Rattle.router.specs.Call.{setting_refusals}
-use Rattle.packet.specs.Bytes.{Taken}
-use Rattle.router.proofs.Inputs.{refused_setting, refused_packet, refused_direct, accepted}
-use Rattle.packet.proofs.Refusals.{taken_whole}
+use Rattle.std.proofs.Common.{◌≡◌, ℕ, IfOk, ◌∙◌, sym, rules}
+use Rattle.packet.specs.Bytes.{packet_at}
+use Rattle.packet.specs.Refused.{number_of, told}
+use Rattle.packet.proofs.Numbers.{told_some}
+use Rattle.router.proofs.Inputs.{told_checked, before_packet, after_setting}
 use Rattle.router.proofs.call.checked.Goals as goal
 
-pub returns-then-refusal-ne0 : goal.returns-then-refusal-ne0
-returns-then-refusal-ne0 c = c.not_taken.ensures ∙ sym (refused_setting _ _ _ _ _ _ (sym (c.told-refusal.ensures ∙ c.setting_refusal.ensures)) c.if-refusal-ne0.true)
-
-pub returns-then-taken-ne0 : goal.returns-then-taken-ne0
-returns-then-taken-ne0 c = c.take-taken.ensures ∙ sym (refused_packet _ _ _ _ _ (sym (c.told-refusal.ensures ∙ c.setting_refusal.ensures) ∙ c.if-refusal-ne0.false) (rw c.take-taken.ensures at c.if-taken-ne0.true))
-
-pub returns-then-is_direct : goal.returns-then-is_direct
-returns-then-is_direct c = let a = c.args in
-    let bytes = a.bytes.now in
-    let whole = taken_whole bytes c.take-taken.result c.take-taken.ensures c.if-taken-ne0.false in
-    let none : first_of (setting_refusals a.source a.tables.now a.t a.room) ≡ 0 = sym (c.told-refusal.ensures ∙ c.setting_refusal.ensures) ∙ c.if-refusal-ne0.false in
-    let direct : is_direct (control_at bytes) ≡ true = sym (c.is_direct.ensures ∙ ap (λ (x : Taken). is_direct x.packet.control) whole) ∙ c.if-is_direct.true in
-    let taken : (taken_of bytes).refusal ≡ 0 = ap (λ (x : Taken). x.refusal) (sym c.take-taken.ensures ∙ whole) in
-    c.not_taken-then-is_direct.ensures ∙ sym (refused_direct bytes a.source a.tables.now a.t a.room none taken direct)
+pub returns-in_err-setting_refusal : goal.returns-in_err-setting_refusal
+returns-in_err-setting_refusal c = let a = c.args in
+    let n : ℕ = number_of c.in_err-setting_refusal.field-0.0 in
+    let said : told c.from_residual.result ≡ n = search rules in
+    let none : IfOk c.from_residual.result (λ p. p ≡ packet_at a.bytes.now) = search rules in
+    told_checked a.bytes.now a.source a.tables.now a.t a.room c.from_residual.result
+    (said ∙ sym (before_packet a.bytes.now a.source a.tables.now a.t a.room n (sym c.in_err-setting_refusal.ensures) (told_some c.in_err-setting_refusal.field-0.0)))
+    none
 
 pub returns : goal.returns
 returns c = let a = c.args in
-    let bytes = a.bytes.now in
-    let whole = taken_whole bytes c.take-taken.result c.take-taken.ensures c.if-taken-ne0.false in
-    let none : first_of (setting_refusals a.source a.tables.now a.t a.room) ≡ 0 = sym (c.told-refusal.ensures ∙ c.setting_refusal.ensures) ∙ c.if-refusal-ne0.false in
-    let direct : is_direct (control_at bytes) ≡ false = sym (c.is_direct.ensures ∙ ap (λ (x : Taken). is_direct x.packet.control) whole) ∙ c.if-is_direct.false in
-    let taken : (taken_of bytes).refusal ≡ 0 = ap (λ (x : Taken). x.refusal) (sym c.take-taken.ensures ∙ whole) in
-    whole ∙ sym (accepted bytes a.source a.tables.now a.t a.room none taken direct)
+    told_checked a.bytes.now a.source a.tables.now a.t a.room c.packet_to_pass.result
+    (c.packet_to_pass.ensures.refusal ∙ sym (after_setting a.bytes.now a.source a.tables.now a.t a.room (sym c.in_ok-setting_refusal.ensures)))
+    c.packet_to_pass.ensures.packet
