@@ -20,12 +20,12 @@ pub record Steps (width height east north far back down : ℕ) : Type 0 where
   pub westward : back ≡ (width - east) % width
   pub southward : down ≡ (height - north) % height
 
-pub steps : {width height east north far back down : ℕ} → (size_fine width height ≡ true) × ((east < width) × (north < height)) → far ≡ max east north → back ≡ (width - east) % width
+pub steps : {width height east north far back down : ℕ} → size_fine width height ≡ true → (east < width) × (north < height) → far ≡ max east north → back ≡ (width - east) % width
     → down ≡ (height - north) % height → Steps width height east north far back down
-steps there furthest westward southward = record {
-  fine = there.0;
-  east_there = there.1.0;
-  north_there = there.1.1;
+steps fine there furthest westward southward = record {
+  fine = fine;
+  east_there = there.0;
+  north_there = there.1;
   furthest = furthest;
   westward = westward;
   southward = southward;

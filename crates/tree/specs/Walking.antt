@@ -1,9 +1,11 @@
 -- No rule of the model, but what the steps of growing a tree promise each other: the least of four ways, a way's links by their places, and the part of a way that is left.
-use Rattle.std.specs.Prelude.{ℕ, ◌+◌, ◌-◌, ◌*◌, ◌%◌, ◌≤◌, ◌<◌, max, ◌≡◌, cond, List, [], ◌∷◌, ◌++◌, ltb, pos, neg_ℤ, nat_abs, length, take, drop, replicate}
+use Rattle.std.specs.Int.Bits.{bit_or}
+use Rattle.std.specs.Prelude.{ℕ, ◌+◌, ◌-◌, ◌*◌, ◌%◌, ◌^◌, get_or, set, ◌≤◌, ◌<◌, max, ◌≡◌, cond, List, [], ◌∷◌, ◌++◌, ltb, pos, neg_ℤ, nat_abs, length, take, drop, replicate}
 use Rattle.tree.specs.declared.Way.{Way}
 use Rattle.tree.specs.declared.Counted.{Counted}
 use Rattle.tree.specs.declared.Legs.{Legs}
 use Rattle.tree.specs.declared.Rest.{Rest}
+use Rattle.tree.specs.declared.places.Place.{Place}
 use Rattle.tree.specs.Way.{shared, links_in, diagonal_link, sideways_link, upright_link}
 use Rattle.tree.specs.Growing.{Target, Grown, Part, most_chips}
 use Rattle.tree.specs.Rows.{needs_row}
@@ -74,10 +76,14 @@ pub record Stands (width height x y : ℕ) : Type 0 where
   pub east_low : x < width
   pub north_low : y < height
 
--- The chip that such a part leaves stands at its x and y.
+-- Chips by number y * W + x.
+abbrev pub number_of : ℕ → Place → ℕ
+number_of width place = place.y * width + place.x
+
+-- The chip that such a part leaves stands at its place.
 pub record LeavesFrom (width height : ℕ) (rest : Rest) : Type 0 where
-  pub there : rest.chip ≡ rest.y * width + rest.x
-  pub stands : Stands width height rest.x rest.y
+  pub there : rest.chip ≡ number_of width rest.place
+  pub stands : Stands width height rest.place.x rest.place.y
 
 -- ---- the tree
 
@@ -90,6 +96,13 @@ grown_of entered routes = record { entered = entered; routes = routes }
 
 abbrev pub target_of : ℕ → ℕ → Target
 target_of chip processors = record { chip = chip; processors = processors }
+
+-- A link more, from a chip to another; and a chip's processors.
+abbrev pub with_link : Grown → ℕ → ℕ → ℕ → Grown
+with_link t from link to = record { entered = set t.entered to link; routes = set t.routes from (bit_or (get_or t.routes from 0) (2 ^ link)) }
+
+abbrev pub with_set : Grown → ℕ → ℕ → Grown
+with_set t chip processors = record { entered = t.entered; routes = set t.routes chip (bit_or (get_or t.routes chip 0) (processors * 64)) }
 
 -- ---- its rows
 

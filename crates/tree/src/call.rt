@@ -1,12 +1,15 @@
 // The call: what it refuses, the tree, and its rows.
 ghost use Rattle.std.specs.Prelude.{◌≡◌};
 ghost use Rattle.packet.specs.Refusal.{first_of};
+ghost use Rattle.packet.specs.Refused.{told};
 ghost use Rattle.tree.specs.Call.{tree_refusals, tree_of, rows_after, starts_after};
 
 use super::Tree;
-use super::growing::{OUTSIDE, grow};
-use super::rows::{SOURCE, write_rows};
+use super::growing::Grown;
+use super::places::Size;
+use super::rows::write_rows;
 use super::targets::{all_there, named_again, sets_fine};
+use packet::refused::Refused;
 use tables::size::{chips, size_fine};
 
 // Writes the rows that lead a packet with this key from the source to the processors of the targets, two words each, chip and processor set, and where each chip's rows start. Refusals, the first
@@ -26,7 +29,7 @@ pub fn tree(
     ensures rows_after { rows.new ≡ rows_after width height source key mask targets.now rows.old starts.old }
     ensures starts_after { starts.new ≡ starts_after width height source key mask targets.now rows.old starts.old }
 {
-    let refusal = refusal_of(
+    let checked = checked(
         width,
         height,
         source,
@@ -36,32 +39,22 @@ pub fn tree(
         rows.len(),
         starts.len(),
     );
-    if refusal != 0 {
+    if let Err(refused) = checked {
         return Tree {
-            refusal: refusal,
+            refusal: u32::from(refused),
             rows: 0,
         };
     }
-    let mut entered = [OUTSIDE; 144];
-    let mut routes = [0u32; 144];
-    entered[source as usize] = SOURCE;
-    grow(width, height, source, targets, &mut entered, &mut routes);
-    let count = write_rows(
-        key,
-        mask,
-        chips(width, height),
-        &entered,
-        &routes,
-        rows,
-        starts,
-    );
+    let mut grown = Grown::source_alone(source);
+    grown.grow(Size { width, height }, source, targets);
+    let count = write_rows(key, mask, chips(width, height), &grown, rows, starts);
     Tree {
         refusal: 0,
         rows: count as u32,
     }
 }
 
-fn refusal_of(
+fn checked(
     width: u32,
     height: u32,
     source: u32,
@@ -70,34 +63,25 @@ fn refusal_of(
     targets: &[u32],
     rows_room: usize,
     starts_room: usize,
-) -> u32
-    ensures { result ≡ first_of (tree_refusals width height source key mask targets.now rows_room starts_room) }
+) -> Result<(), Refused>
+    ensures { told result ≡ first_of (tree_refusals width height source key mask targets.now rows_room starts_room) }
 {
     if !size_fine(width, height) {
-        return 7;
+        return Err(Refused::Size);
     }
     let all = chips(width, height);
     let last = all as u32;
-    if last <= source {
-        return 19;
+    if (last <= source) || !all_there(targets, last) {
+        return Err(Refused::OffMesh);
     }
-    if !all_there(targets, last) {
-        return 19;
-    }
-    if named_again(targets) {
-        return 20;
-    }
-    if !sets_fine(targets) {
-        return 20;
+    if named_again(targets) || !sets_fine(targets) {
+        return Err(Refused::Targets);
     }
     if (key & mask) != key {
-        return 21;
+        return Err(Refused::KeyBits);
     }
-    if rows_room < 3 * all {
-        return 26;
+    if (rows_room < 3 * all) || (starts_room != all + 1) {
+        return Err(Refused::TreeRoom);
     }
-    if starts_room != all + 1 {
-        return 26;
-    }
-    0
+    Ok(())
 }

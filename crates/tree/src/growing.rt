@@ -1,143 +1,157 @@
 // The tree grows, target by target: for each chip the link by which it was entered, and its route.
-ghost use Rattle.std.specs.Prelude.{◌≡◌, true, ◌+◌, ◌*◌, ◌<◌};
-ghost use Rattle.tables.specs.Sizes.{size_fine};
-ghost use Rattle.tree.specs.Way.{links_of};
-ghost use Rattle.tree.specs.Growing.{targets_of, last_shared, with_part, with_target, grown_by};
-ghost use Rattle.tree.specs.Call.{all_there, sets_fine};
-ghost use Rattle.tree.specs.Walking.{Small, Marks, LeavesFrom, grown_of, target_of, part_from, whole_way};
-
-use super::targets::{count_of, set_at};
-use super::walking::{legs_of, link_at};
+use super::places::Size;
+use super::targets::set_of;
 use super::ways::way_between;
 use super::{Rest, Way};
-use links::across::{east_of, north_of};
+use std::marker::Model;
 use steps::wants::bit;
 
-// The mark of a chip outside the tree.
-pub const OUTSIDE: u8 = 7;
+// The marks of the source, which no link enters, and of a chip outside the tree: they stand beside the links' numbers, as `needs_row` and `within` have them.
+const SOURCE: u8 = 6;
 
-pub fn grow(
-    width: u32,
-    height: u32,
-    source: u32,
-    targets: &[u32],
-    entered: &mut [u8; 144],
-    routes: &mut [u32; 144],
-)
-    requires height_value { (size_fine width height ≡ true) × (source < height * width) }
-    requires targets_value { (all_there (height * width) (targets_of targets.now) ≡ true) × (sets_fine (targets_of targets.now) ≡ true) }
-    requires marks { Marks entered.old routes.old }
-    ensures { grown_of entered.new routes.new ≡ grown_by width height source (grown_of entered.old routes.old) (targets_of targets.now) }
-{
-    let count = count_of(targets);
-    let mut k = 0;
-    while k < count {
-        add_target(
-            width,
-            height,
-            source,
-            targets[k * 2],
-            set_at(targets, k * 2),
+const OUTSIDE: u8 = 7;
+
+// The tree so far, chip by chip.
+#[derive(Drop)]
+pub struct Grown {
+    entered: [u8; 144],
+    routes: [u32; 144],
+}
+
+impl Model for Grown {
+    ghost use Rattle.tree.specs.Growing.{Grown};
+    ghost use Rattle.tree.specs.Walking.{grown_of, Marks};
+
+    ghost Value = { Grown };
+
+    ghost view = { λ t. grown_of t.entered t.routes };
+
+    ghost invariant = { λ t. Marks t.entered t.routes };
+}
+
+impl Grown {
+    ghost use Rattle.std.specs.Prelude.{◌≡◌, true, Some, None, cond, ◌*◌, ◌<◌};
+    ghost use Rattle.tree.specs.Way.{links_of};
+    ghost use Rattle.tree.specs.Growing.{targets_of, last_shared, source_alone, within, with_part, with_target, grown_by};
+    ghost use Rattle.tree.specs.Rows.{has_row, route_at};
+    ghost use Rattle.tree.specs.Call.{all_there, sets_fine};
+    ghost use Rattle.tree.specs.Walking.{Small, LeavesFrom, target_of, part_from, whole_way, with_link, with_set};
+
+    // The source alone, with nowhere to go.
+    pub fn source_alone(source: u32) -> Self
+        requires { source < 144 }
+        ensures { result ≡ source_alone source }
+    {
+        let mut entered = [OUTSIDE; 144];
+        entered[source as usize] = SOURCE;
+        Grown {
             entered,
-            routes,
-        );
-        k += 1;
-    }
-}
-
-// The part of the way to a chip that is new, and the chip's processors.
-fn add_target(
-    width: u32,
-    height: u32,
-    source: u32,
-    chip: u32,
-    set: u32,
-    entered: &mut [u8; 144],
-    routes: &mut [u32; 144],
-)
-    requires height_value { (size_fine width height ≡ true) × ((source < height * width) × ((chip < height * width) × (set < 1048576))) }
-    requires marks { Marks entered.old routes.old }
-    ensures routes_after { grown_of entered.new routes.new ≡ with_target width height source (grown_of entered.old routes.old) (target_of chip set) }
-    ensures marks_2 { Marks entered.new routes.new }
-{
-    let way = way_between(width, height, source, chip);
-    let rest = last_shared(width, height, source, way, entered);
-    add_links(width, height, rest, way, entered, routes);
-    let at = chip as usize;
-    routes[at] = routes[at] | (set << 6);
-}
-
-// The part of a way after its last chip within the tree.
-fn last_shared(width: u32, height: u32, source: u32, way: Way, entered: &[u8; 144]) -> Rest
-    requires { (size_fine width height ≡ true) × ((source < height * width) × Small way) }
-    ensures result_value { part_from (links_of way) result ≡ last_shared width height entered.now (whole_way source (links_of way)) source (links_of way) }
-    ensures leaves_from { LeavesFrom width height result }
-{
-    let legs = legs_of(way);
-    let end = legs.end;
-    let mut x = source % width;
-    let mut y = source / width;
-    let mut rest = Rest {
-        chip: source,
-        x: x,
-        y: y,
-        at: 0,
-    };
-    let mut j: usize = 0;
-    while j < end {
-        let link = link_at(legs, j);
-        x = east_of(width, x, link);
-        y = north_of(height, y, link);
-        j += 1;
-        let chip = number_of(width, height, x, y);
-        if entered[chip as usize] != OUTSIDE {
-            rest = Rest {
-                chip: chip,
-                x: x,
-                y: y,
-                at: j,
-            };
+            routes: [0; 144],
         }
     }
-    rest
-}
 
-// The links of that part, one after the other.
-fn add_links(
-    width: u32,
-    height: u32,
-    rest: Rest,
-    way: Way,
-    entered: &mut [u8; 144],
-    routes: &mut [u32; 144],
-)
-    requires height_value { (size_fine width height ≡ true) × (LeavesFrom width height rest × Small way) }
-    requires marks { Marks entered.old routes.old }
-    ensures routes_after { grown_of entered.new routes.new ≡ with_part width height (grown_of entered.old routes.old) (part_from (links_of way) rest) }
-    ensures marks_2 { Marks entered.new routes.new }
-{
-    let legs = legs_of(way);
-    let end = legs.end;
-    let mut chip = rest.chip;
-    let mut x = rest.x;
-    let mut y = rest.y;
-    let mut j = rest.at;
-    while j < end {
-        let link = link_at(legs, j);
-        let from = chip as usize;
-        routes[from] = routes[from] | bit(link);
-        x = east_of(width, x, link);
-        y = north_of(height, y, link);
-        chip = number_of(width, height, x, y);
-        entered[chip as usize] = link as u8;
-        j += 1;
+    // Target by target, two words each.
+    pub fn grow(&mut self, size: Size, source: u32, targets: &[u32])
+        requires there { source < size.height * size.width }
+        requires targets { (all_there (size.height * size.width) (targets_of targets.now) ≡ true) × (sets_fine (targets_of targets.now) ≡ true) }
+        ensures { self.new ≡ grown_by size.width size.height source self.old (targets_of targets.now) }
+    {
+        for target in targets.chunks(2) {
+            self.add_target(size, source, target[0], set_of(target));
+        }
     }
-}
 
-// Chips by number y * W + x.
-fn number_of(width: u32, height: u32, x: u32, y: u32) -> u32
-    requires { (size_fine width height ≡ true) × ((x < width) × (y < height)) }
-    ensures { (result ≡ y * width + x) × (result < height * width) }
-{
-    y * width + x
+    // A chip's route, where it needs a row: one that the packet goes straight through needs none, the source always one.
+    pub fn row(&self, chip: usize) -> Option<u32>
+        requires { chip < 144 }
+        ensures { result ≡ cond (has_row self.now chip) (Some (route_at self.now chip)) None }
+    {
+        let entered = self.entered[chip];
+        let route = self.routes[chip];
+        let needed = if entered < SOURCE {
+            route != bit(u32::from(entered))
+        } else {
+            entered == SOURCE
+        };
+        if needed { Some(route) } else { None }
+    }
+
+    // The part of the way to a chip that is new, and the chip's processors.
+    fn add_target(&mut self, size: Size, source: u32, chip: u32, set: u32)
+        requires { (source < size.height * size.width) × ((chip < size.height * size.width) × (set < 1048576)) }
+        ensures { self.new ≡ with_target size.width size.height source self.old (target_of chip set) }
+    {
+        let way = way_between(size, source, chip);
+        let rest = self.last_shared(size, source, way);
+        self.add_links(size, rest, way);
+        self.add_processors(chip, set);
+    }
+
+    // The part of a way after its last chip within the tree.
+    fn last_shared(&self, size: Size, source: u32, way: Way) -> Rest
+        requires { (source < size.height * size.width) × Small way }
+        ensures part { part_from (links_of way) result ≡ last_shared size.width size.height self.now.entered (whole_way source (links_of way)) source (links_of way) }
+        ensures leaves { LeavesFrom size.width size.height result }
+    {
+        let legs = way.legs();
+        let mut place = size.place(source);
+        let mut rest = Rest {
+            chip: source,
+            place,
+            at: 0,
+        };
+        for j in 0..legs.end {
+            place = size.across(place, legs.link_at(j));
+            let chip = size.number(place);
+            if self.holds(chip) {
+                rest = Rest {
+                    chip,
+                    place,
+                    at: j + 1,
+                };
+            }
+        }
+        rest
+    }
+
+    // The links of that part, one after the other.
+    fn add_links(&mut self, size: Size, rest: Rest, way: Way)
+        requires { LeavesFrom size.width size.height rest × Small way }
+        ensures { self.new ≡ with_part size.width size.height self.old (part_from (links_of way) rest) }
+    {
+        let legs = way.legs();
+        let mut chip = rest.chip;
+        let mut place = rest.place;
+        for j in rest.at..legs.end {
+            let link = legs.link_at(j);
+            place = size.across(place, link);
+            let next = size.number(place);
+            self.add_link(chip, link, next);
+            chip = next;
+        }
+    }
+
+    fn holds(&self, chip: u32) -> bool
+        requires { chip < 144 }
+        ensures { result ≡ within self.now.entered chip }
+    {
+        self.entered[chip as usize] != OUTSIDE
+    }
+
+    fn add_link(&mut self, from: u32, link: u32, to: u32)
+        requires { (from < 144) × ((link < 6) × (to < 144)) }
+        ensures { self.new ≡ with_link self.old from link to }
+    {
+        let from = from as usize;
+        self.routes[from] |= bit(link);
+        self.entered[to as usize] = link as u8;
+    }
+
+    fn add_processors(&mut self, chip: u32, set: u32)
+        requires { (chip < 144) × (set < 1048576) }
+        ensures { self.new ≡ with_set self.old chip set }
+    {
+        let at = chip as usize;
+        self.routes[at] |= set << 6;
+    }
 }

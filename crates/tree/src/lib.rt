@@ -3,10 +3,13 @@
 
 pub mod call;
 mod growing;
+mod places;
 mod rows;
 mod targets;
 mod walking;
 mod ways;
+
+use places::Place;
 
 // What the call answers: the refusal, and how many rows are written, over all chips.
 #[repr(C)]
@@ -16,7 +19,7 @@ pub struct Tree {
     pub rows: u32,
 }
 
-// A way from a chip to another: signed steps east and north.
+// A way from a chip to another: signed steps east and north. It has no bound of its own, since `LeastOfAll` speaks of all pairs of numbers.
 #[derive(Clone, Copy)]
 struct Way {
     east: i32,
@@ -41,11 +44,10 @@ struct Legs {
     upright: u32,
 }
 
-// The part of a way that is still to be added: it leaves `chip`, which stands at x and y, by the link at place `at`.
+// The part of a way that is still to be added: it leaves `chip`, which stands at `place`, by the link at place `at`.
 #[derive(Clone, Copy)]
 struct Rest {
     chip: u32,
-    x: u32,
-    y: u32,
+    place: Place,
     at: usize,
 }

@@ -1,5 +1,5 @@
 // The list of targets, two words each: which chips and processor sets it names.
-ghost use Rattle.std.specs.Prelude.{◌≡◌, true, [], length, get_or, ◌+◌, ◌/◌, ◌%◌, ◌<◌};
+ghost use Rattle.std.specs.Prelude.{◌≡◌, true, [], get_or};
 ghost use Rattle.tree.specs.Growing.{targets_of};
 ghost use Rattle.tree.specs.Call.{all_there, named_again, set_fine, sets_fine};
 
@@ -7,13 +7,10 @@ ghost use Rattle.tree.specs.Call.{all_there, named_again, set_fine, sets_fine};
 pub fn all_there(targets: &[u32], all: u32) -> bool
     ensures { result ≡ all_there all (targets_of targets.now) }
 {
-    let count = count_of(targets);
-    let mut k = 0;
-    while k < count {
-        if all <= targets[k * 2] {
+    for target in targets.chunks(2) {
+        if all <= target[0] {
             return false;
         }
-        k += 1;
     }
     true
 }
@@ -23,16 +20,13 @@ pub fn named_again(targets: &[u32]) -> bool
     requires { all_there 144 (targets_of targets.now) ≡ true }
     ensures { result ≡ named_again [] (targets_of targets.now) }
 {
-    let count = count_of(targets);
-    let mut named = [0u8; 144];
-    let mut k = 0;
-    while k < count {
-        let chip = targets[k * 2] as usize;
-        if named[chip] == 1 {
+    let mut named = [false; 144];
+    for target in targets.chunks(2) {
+        let chip = target[0] as usize;
+        if named[chip] {
             return true;
         }
-        named[chip] = 1;
-        k += 1;
+        named[chip] = true;
     }
     false
 }
@@ -41,33 +35,23 @@ pub fn named_again(targets: &[u32]) -> bool
 pub fn sets_fine(targets: &[u32]) -> bool
     ensures { result ≡ sets_fine (targets_of targets.now) }
 {
-    let count = count_of(targets);
-    let mut k = 0;
-    while k < count {
-        if !set_fine(set_at(targets, k * 2)) {
+    for target in targets.chunks(2) {
+        if !set_fine(set_of(target)) {
             return false;
         }
-        k += 1;
     }
     true
 }
 
-// How many targets the list names: a word past the last pair is one.
-pub fn count_of(targets: &[u32]) -> usize
-    ensures { result ≡ length targets.now / 2 + length targets.now % 2 }
+// The processors of a target: none where a chip's number is the list's last word.
+pub fn set_of(target: &[u32]) -> u32
+    ensures { result ≡ get_or target.now 1 0 }
 {
-    targets.len() / 2 + targets.len() % 2
-}
-
-// The processors of the target whose chip stands at a place: none where the list ends there.
-pub fn set_at(targets: &[u32], at: usize) -> u32
-    requires { at < length targets.now }
-    ensures { result ≡ get_or targets.now (at + 1) 0 }
-{
-    if at < targets.len() - 1 {
-        return targets[at + 1];
+    if let Some(set) = target.get(1) {
+        *set
+    } else {
+        0
     }
-    0
 }
 
 fn set_fine(set: u32) -> bool

@@ -1,19 +1,20 @@
 // The way that is taken to a chip: signed steps east and north, least over all ways round the mesh.
-ghost use Rattle.std.specs.Prelude.{◌≡◌, true, pos, neg_ℤ, ◌+◌, ◌*◌, ◌-◌, ◌%◌, ◌≤◌, ◌<◌, max};
-ghost use Rattle.tables.specs.Sizes.{size_fine};
+ghost use Rattle.std.specs.Prelude.{◌≡◌, pos, neg_ℤ, ◌+◌, ◌*◌, ◌-◌, ◌%◌, ◌≤◌, ◌<◌};
 ghost use Rattle.tree.specs.Way.{offset, way_to, way_between};
 ghost use Rattle.tree.specs.Walking.{Small, CountedRight, nearer};
 
+use super::places::Size;
 use super::{Counted, Way};
 use links::across::wrapped;
 
-pub fn way_between(width: u32, height: u32, from: u32, to: u32) -> Way
-    requires { (size_fine width height ≡ true) × ((from < height * width) × (to < height * width)) }
-    ensures { (result ≡ way_between width height from to) × Small result }
+pub fn way_between(size: Size, from: u32, to: u32) -> Way
+    requires { (from < size.height * size.width) × (to < size.height * size.width) }
+    ensures { (result ≡ way_between size.width size.height from to) × Small result }
 {
+    let width = size.width;
     let east = forward(width, from % width, to % width);
-    let north = forward(height, from / width, to / width);
-    way_to(width, height, east, north)
+    let north = forward(size.height, from / width, to / width);
+    way_to(size, east, north)
 }
 
 // The steps forwards on a ring from a place to another.
@@ -25,11 +26,13 @@ fn forward(size: u32, from: u32, to: u32) -> u32
 }
 
 // The least way of each pair of directions, and the least of the four. Forwards in both, steps beyond the smaller number cost nothing up to the larger, and are taken.
-fn way_to(width: u32, height: u32, east: u32, north: u32) -> Way
-    requires { (size_fine width height ≡ true) × ((east < width) × (north < height)) }
-    ensures { (result ≡ way_to width height east north) × Small result }
+fn way_to(size: Size, east: u32, north: u32) -> Way
+    requires { (east < size.width) × (north < size.height) }
+    ensures { (result ≡ way_to size.width size.height east north) × Small result }
 {
-    let far = larger(east, north);
+    let width = size.width;
+    let height = size.height;
+    let far = east.max(north);
     let back = wrapped(width - east, width);
     let down = wrapped(height - north, height);
     let forwards = Counted {
@@ -58,7 +61,7 @@ fn way_to(width: u32, height: u32, east: u32, north: u32) -> Way
             east: negative(back),
             north: negative(down),
         },
-        links: larger(back, down),
+        links: back.max(down),
     };
     fewer_links(
         fewer_links(fewer_links(forwards, east_south), west_north),
@@ -79,7 +82,7 @@ fn fewer_links(first: Counted, other: Counted) -> Counted
     }
 }
 
-// What is left of so many steps once whole turns of a ring are taken out.
+// What is left of so many steps once whole turns of a ring are taken out: mostly there are none, and then nothing is divided.
 fn within_ring(steps: u32, size: u32) -> u32
     requires { 0 < size }
     ensures { result ≡ steps % size }
@@ -87,12 +90,7 @@ fn within_ring(steps: u32, size: u32) -> u32
     if steps < size { steps } else { steps % size }
 }
 
-fn larger(a: u32, b: u32) -> u32
-    ensures { result ≡ max a b }
-{
-    if a < b { b } else { a }
-}
-
+// `count as i32`, of which nothing is known but its bits until a clause says so.
 fn signed(count: u32) -> i32
     requires { count ≤ 11 }
     ensures { result ≡ pos count }

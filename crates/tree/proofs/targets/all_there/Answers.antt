@@ -1,37 +1,19 @@
-use mathlib.Core.Path.{refl, sym, ◌∙◌}
-use native.Mathlib.Omega.{arith}
+use Rattle.std.proofs.Common.{sym, ◌∙◌}
+use Rattle.std.specs.Slice.Iter.{chunks_rest}
 use Rattle.tree.proofs.TargetByTarget.{there_on, there_not, there_end}
 use Rattle.tree.proofs.targets.all_there.Goals as goal
 
-pub count_of-count-requires : goal.count_of-count-requires
-count_of-count-requires c = tt
+pub returns-then-all-target : goal.returns-then-all-target
+returns-then-all-target c = let at = c.loop-target in
+    sym (at.invariant.same ∙ there_not (chunks_rest at.target-iterator) c.in-Some.target.now (chunks_rest c.next.new.self) at.invariant.pairs c.in-Some.ensures.steps.1 c.args.all c.if-all-target.true)
 
-pub loop-k-init : goal.loop-k-init
-loop-k-init c = refl
-
-pub overflow_mul-k : goal.overflow_mul-k
-overflow_mul-k c = omega (arith, c.count_of-count.ensures)
-
-pub offset_bounds-targets-k : goal.offset_bounds-targets-k
-offset_bounds-targets-k c = omega (arith, c.count_of-count.ensures)
-
-pub bounds-targets-k : goal.bounds-targets-k
-bounds-targets-k c = omega (arith, c.count_of-count.ensures)
-
-pub returns-then-all-targets : goal.returns-then-all-targets
-returns-then-all-targets c = let at = c.loop-k in
-    sym (at.invariant ∙ there_not c.args.targets.now at.k c.args.all (omega (arith, c.count_of-count.ensures)) c.if-all-targets.true)
-
-pub overflow_add-k : goal.overflow_add-k
-overflow_add-k c = omega (arith, c.count_of-count.ensures)
-
-pub loop-k-smaller : goal.loop-k-smaller
-loop-k-smaller c = omega arith
-
-pub loop-k-preserved : goal.loop-k-preserved
-loop-k-preserved c = let at = c.loop-k in
-    at.invariant ∙ there_on c.args.targets.now at.k c.args.all (omega (arith, c.count_of-count.ensures)) c.if-all-targets.false
+pub loop-target-preserved : goal.loop-target-preserved
+loop-target-preserved c = let at = c.loop-target in
+    record {
+      pairs = c.in-Some.ensures.steps.0 ∙ at.invariant.pairs;
+      same = at.invariant.same ∙ there_on (chunks_rest at.target-iterator) c.in-Some.target.now (chunks_rest c.next.new.self) at.invariant.pairs c.in-Some.ensures.steps.1 c.args.all c.if-all-target.false;
+    }
 
 pub returns : goal.returns
-returns c = let at = c.loop-k in
-    sym (at.invariant ∙ there_end c.args.targets.now at.k c.args.all (omega (arith, c.count_of-count.ensures)))
+returns c = let at = c.loop-target in
+    sym (at.invariant.same ∙ there_end c.args.all _ c.in-None.ensures.steps.1.0)

@@ -1,59 +1,39 @@
-use Prim.Native.Nat.{◌*◌, ◌<◌}
-use mathlib.Core.Path.{refl, sym, ◌∙◌}
-use native.Mathlib.Omega.{arith}
-use lib.ListN.{length, length-set, get_or-replicate}
-use Rattle.tree.specs.Call.{is_in}
-use Rattle.tree.proofs.TargetByTarget.{chips_before, there_chip, there_after, again_yes, again_on, again_end, named_more, one_is, one_is_not}
+use Rattle.std.proofs.Common.{◌≡◌, refl, sym, ap, ◌∙◌, arith, length-set}
+use Rattle.std.specs.Slice.Iter.{chunks_rest, chunks_size}
+use Rattle.tree.proofs.TargetByTarget.{there_chip, there_after, none_marked, again_yes, again_on, again_end}
 use Rattle.tree.proofs.targets.named_again.Goals as goal
 
-pub count_of-count-requires : goal.count_of-count-requires
-count_of-count-requires c = tt
-
-pub loop-k-init : goal.loop-k-init
-unfolding chips_before is_in
-loop-k-init c = (refl, (refl, (c.requires, λ n h. get_or-replicate 144 n 0 0 h)))
-
-pub overflow_mul-chip : goal.overflow_mul-chip
-overflow_mul-chip c = omega (arith, c.count_of-count.ensures)
-
-pub offset_bounds-targets-k : goal.offset_bounds-targets-k
-offset_bounds-targets-k c = omega (arith, c.count_of-count.ensures)
-
-pub bounds-targets-k : goal.bounds-targets-k
-bounds-targets-k c = omega (arith, c.count_of-count.ensures)
-
-pub overflow_cast-chip : goal.overflow_cast-chip
-overflow_cast-chip c = omega (arith, c.shared_slice_known-in-loop-k-1.given (c.loop-k.k * 2))
+pub loop-target-init : goal.loop-target-init
+loop-target-init c = let items = c.chunks-target-items.ensures in
+    let same = c.into_iter-target-iterator.ensures.into_iter_gives in
+    let rest : chunks_rest c.into_iter-target-iterator.result ≡ c.args.targets.now = ap chunks_rest same ∙ items.rest in
+    record { long = refl; pairs = ap chunks_size same ∙ items.size; low = rw rest c.requires; same = rw rest (none_marked _ c.requires) }
 
 pub bounds-named-chip : goal.bounds-named-chip
-bounds-named-chip c = let at = c.loop-k in
-    omega (arith, at.invariant.0, there_chip c.args.targets.now at.k 144 (omega (arith, c.count_of-count.ensures)) at.invariant.1.1.0)
+bounds-named-chip c = let at = c.loop-target in
+    let chip = there_chip (chunks_rest at.target-iterator) c.in-Some.target.now (chunks_rest c.next.new.self) at.invariant.pairs c.in-Some.ensures.steps.1 144 at.invariant.low in
+    omega (arith, at.invariant.long)
 
-pub returns-then-named-chip-eq1 : goal.returns-then-named-chip-eq1
-returns-then-named-chip-eq1 c = let at = c.loop-k in
-    let ws = c.args.targets.now in
-    let here : at.k * 2 < length ws = omega (arith, c.count_of-count.ensures) in
-    let small = there_chip ws at.k 144 here at.invariant.1.1.0 in
-    sym (at.invariant.1.0 ∙ again_yes ws at.k here (one_is _ (sym (at.invariant.1.1.1 _ small) ∙ c.if-named-chip-eq1.true)))
+pub bounds-named-chip-in-loop-target : goal.bounds-named-chip-in-loop-target
+bounds-named-chip-in-loop-target c = let at = c.loop-target in
+    let chip = there_chip (chunks_rest at.target-iterator) c.in-Some.target.now (chunks_rest c.next.new.self) at.invariant.pairs c.in-Some.ensures.steps.1 144 at.invariant.low in
+    omega (arith, at.invariant.long)
 
-pub bounds-named-chip-in-loop-k : goal.bounds-named-chip-in-loop-k
-bounds-named-chip-in-loop-k c = let at = c.loop-k in
-    omega (arith, at.invariant.0, there_chip c.args.targets.now at.k 144 (omega (arith, c.count_of-count.ensures)) at.invariant.1.1.0)
+pub returns-then-named-chip : goal.returns-then-named-chip
+returns-then-named-chip c = let at = c.loop-target in
+    sym (at.invariant.same ∙ again_yes (chunks_rest at.target-iterator) c.in-Some.target.now (chunks_rest c.next.new.self) at.invariant.pairs c.in-Some.ensures.steps.1 at.named c.if-named-chip.true)
 
-pub overflow_add-k : goal.overflow_add-k
-overflow_add-k c = omega (arith, c.count_of-count.ensures)
-
-pub loop-k-smaller : goal.loop-k-smaller
-loop-k-smaller c = omega arith
-
-pub loop-k-preserved : goal.loop-k-preserved
-loop-k-preserved c = let at = c.loop-k in
-    let ws = c.args.targets.now in
-    let here : at.k * 2 < length ws = omega (arith, c.count_of-count.ensures) in
-    let small = there_chip ws at.k 144 here at.invariant.1.1.0 in
-    let new = one_is_not _ (λ e. c.if-named-chip-eq1.false (at.invariant.1.1.1 _ small ∙ e)) in
-    (simp length-set at.invariant.0, (at.invariant.1.0 ∙ again_on ws at.k here new, (there_after ws at.k 144 here at.invariant.1.1.0, named_more ws at.k at.named at.invariant.0 small at.invariant.1.1.1)))
+pub loop-target-preserved : goal.loop-target-preserved
+loop-target-preserved c = let at = c.loop-target in
+    let words = chunks_rest at.target-iterator in
+    let cut = c.in-Some.ensures.steps.1 in
+    record {
+      long = simp length-set at.invariant.long;
+      pairs = c.in-Some.ensures.steps.0 ∙ at.invariant.pairs;
+      low = there_after words c.in-Some.target.now (chunks_rest c.next.new.self) at.invariant.pairs cut 144 at.invariant.low;
+      same = at.invariant.same ∙ again_on words c.in-Some.target.now (chunks_rest c.next.new.self) at.invariant.pairs cut at.named c.if-named-chip.false;
+    }
 
 pub returns : goal.returns
-returns c = let at = c.loop-k in
-    sym (at.invariant.1.0 ∙ again_end c.args.targets.now at.k (omega (arith, c.count_of-count.ensures)))
+returns c = let at = c.loop-target in
+    sym (at.invariant.same ∙ again_end at.named _ c.in-None.ensures.steps.1.0)
