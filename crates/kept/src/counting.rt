@@ -1,20 +1,11 @@
 // The ten counters of a chip.
-ghost use Rattle.std.specs.Prelude.{◌≡◌, ◌<◌, true, count_ones};
+ghost use Rattle.std.specs.Prelude.{◌≡◌, ◌<◌, true};
 ghost use Rattle.kept.specs.Counting.{delivered, swallows, swallowed, sent_count, counts_of, only_sent, counted_of, zeros};
 
 use super::Counters;
 use super::keeping::drop_count;
 use packet::control::{is_marked, mark_of};
-use std::num::wrapping_add_u32;
 use steps::Outcome;
-use steps::errors::flag_of;
-
-// Bits 0, 8 and 16: what is multiplied by it stands three times side by side.
-const THREE_TIMES: u64 = 0x10101;
-
-// Bits 0, 3, 9, 12, 18 and 21: at each the repeated set has another of its six bits, and from each to the last of them it is as far as
-// from the first to another.
-const SIX_PLACES: u64 = 0x24_1209;
 
 // The counters after a pass.
 pub fn counted_of(c: Counters, o: Outcome) -> Counters
@@ -24,16 +15,16 @@ pub fn counted_of(c: Counters, o: Outcome) -> Counters
     let e = o.errors;
     Counters {
         count: [
-            wrapping_add_u32(c.count[0], 1),
-            wrapping_add_u32(c.count[1], e % 2),
-            wrapping_add_u32(c.count[2], e / 2 % 2),
-            wrapping_add_u32(c.count[3], e / 4 % 2),
-            wrapping_add_u32(c.count[4], e / 8 % 2),
-            wrapping_add_u32(c.count[5], sent_count(o)),
-            wrapping_add_u32(c.count[6], delivered_count(o)),
-            wrapping_add_u32(c.count[7], drop_count(o)),
-            wrapping_add_u32(c.count[8], swallowed_count(o)),
-            wrapping_add_u32(c.count[9], o.missed),
+            c.count[0].wrapping_add(1),
+            c.count[1].wrapping_add(e % 2),
+            c.count[2].wrapping_add(e / 2 % 2),
+            c.count[3].wrapping_add(e / 4 % 2),
+            c.count[4].wrapping_add(e / 8 % 2),
+            c.count[5].wrapping_add(sent_count(o)),
+            c.count[6].wrapping_add(delivered_count(o)),
+            c.count[7].wrapping_add(drop_count(o)),
+            c.count[8].wrapping_add(swallowed_count(o)),
+            c.count[9].wrapping_add(o.missed),
         ],
     }
 }
@@ -41,7 +32,7 @@ pub fn counted_of(c: Counters, o: Outcome) -> Counters
 pub fn no_counts() -> Counters
     ensures { result ≡ zeros }
 {
-    Counters { count: [0; 10] }
+    Counters::default()
 }
 
 // Whether a pass shows no error, and delivers, drops and swallows nothing, as most passes of a round: three counters are then all that changes.
@@ -55,21 +46,7 @@ pub fn sent_count(o: Outcome) -> u32
     requires { o.sent < 64 }
     ensures { result ≡ sent_count o }
 {
-    let sent = links_in(o.sent);
-    if o.leg_sent == 0 {
-        return sent;
-    }
-    sent + u32::count_ones(o.leg_sent)
-}
-
-// How many of six links a set has, by two products: the first repeats the set so that its six bits can be taken three places or more
-// apart, the second adds these up in the bits 21 to 23.
-fn links_in(set: u32) -> u32
-    requires { set < 64 }
-    ensures { result ≡ count_ones set }
-{
-    let apart = (set as u64 * THREE_TIMES) & SIX_PLACES;
-    ((apart * SIX_PLACES >> 21) % 8) as u32
+    o.sent.count_ones() + o.leg_sent.count_ones()
 }
 
 fn delivered_count(o: Outcome) -> u32
@@ -81,16 +58,13 @@ fn delivered_count(o: Outcome) -> u32
     if o.wanted < 64 {
         return 0;
     }
-    u32::count_ones(o.wanted / 64)
+    (o.wanted / 64).count_ones()
 }
 
 fn swallowed_count(o: Outcome) -> u32
     ensures { result ≡ swallowed o }
 {
-    if o.wanted != 0 {
-        return 0;
-    }
-    flag_of(swallows_pass(o), 1)
+    u32::from(swallows_pass(o))
 }
 
 fn swallows_pass(o: Outcome) -> bool

@@ -4,7 +4,6 @@ ghost use Rattle.kept.specs.Keeping.{empty, is_empty, drop_count, most_units, ca
 
 use super::Registers;
 use steps::Outcome;
-use steps::errors::flag_of;
 
 // "Stopping at 65,535".
 pub const MOST_UNITS: u32 = 65535;
@@ -28,17 +27,7 @@ pub fn kept_of(r: Registers, o: Outcome) -> Registers
 pub fn empty_registers() -> Registers
     ensures { result ≡ empty }
 {
-    Registers {
-        control: 0,
-        word: 0,
-        payload: 0,
-        link: 0,
-        leg: 0,
-        more: 0,
-        source: 0,
-        phase: 0,
-        units: 0,
-    }
+    Registers::default()
 }
 
 pub fn drop_count(o: Outcome) -> u32
@@ -47,13 +36,13 @@ pub fn drop_count(o: Outcome) -> u32
     if (o.dropped == 0) & (o.leg_dropped == 0) {
         return 0;
     }
-    u32::count_ones(o.dropped) + u32::count_ones(o.leg_dropped)
+    o.dropped.count_ones() + o.leg_dropped.count_ones()
 }
 
 pub fn more_of(units: u32) -> u32
     ensures { result ≡ more_of units }
 {
-    flag_of(1 < units, 1)
+    u32::from(1 < units)
 }
 
 fn is_empty(r: Registers) -> bool
@@ -65,16 +54,17 @@ fn is_empty(r: Registers) -> bool
 fn capped_units(n: u32) -> u32
     ensures { (result ≡ capped n) × (result ≤ most_units) }
 {
-    if MOST_UNITS < n { MOST_UNITS } else { n }
+    n.min(MOST_UNITS)
 }
 
 fn with_units(r: Registers, n: u32) -> Registers
     ensures { result ≡ with_units r n }
 {
-    let mut k = r;
-    k.more = more_of(n);
-    k.units = n;
-    k
+    Registers {
+        more: more_of(n),
+        units: n,
+        ..r
+    }
 }
 
 fn first_drop(o: Outcome) -> Registers
@@ -83,24 +73,19 @@ fn first_drop(o: Outcome) -> Registers
 {
     let p = o.packet;
     let units = capped_units(drop_count(o));
-    let mut r = Registers {
+    let leg = o.dropped == 0;
+    let set = if leg { o.leg_dropped } else { o.dropped };
+    Registers {
         control: p.control,
         word: p.word,
         payload: p.payload,
-        link: 0,
-        leg: 0,
+        link: lowest_link(set),
+        leg: u32::from(leg),
         more: more_of(units),
         source: o.source,
         phase: o.phase,
         units,
-    };
-    if o.dropped == 0 {
-        r.link = lowest_link(o.leg_dropped);
-        r.leg = 1;
-        return r;
     }
-    r.link = lowest_link(o.dropped);
-    r
 }
 
 // The lowest link of a set that has one; 5 of an empty set.
@@ -108,5 +93,5 @@ fn lowest_link(set: u32) -> u32
     requires { set < 64 }
     ensures { result ≡ lowest set }
 {
-    u32::trailing_zeros(set | 32)
+    (set | 32).trailing_zeros()
 }

@@ -8,7 +8,7 @@ pub mod lent;
 // The first dropped unit since the registers were last read, where it came in and in which phase, how many were dropped since then, stopping at 65,535, and whether that is
 // more than one. Empty ones are all zeros.
 #[repr(C)]
-#[derive(Clone, Copy)]
+#[derive(Clone, Copy, Default)]
 pub struct Registers {
     pub control: u32,
     pub word: u32,
@@ -23,7 +23,7 @@ pub struct Registers {
 
 // Passes, parity, age, length, bad local, sent, delivered, dropped, swallowed, local misses.
 #[repr(C)]
-#[derive(Clone, Copy)]
+#[derive(Clone, Copy, Default)]
 pub struct Counters {
     pub count: [u32; 10],
 }
