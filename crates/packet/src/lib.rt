@@ -10,7 +10,7 @@ pub mod refused;
 
 // A packet's bytes: control, whether nine bytes are there (1) or five (0), word, and payload, which is 0 for five bytes.
 #[repr(C)]
-#[derive(Clone, Copy)]
+#[derive(Clone, Copy, Default)]
 pub struct Packet {
     pub control: u32,
     pub nine: u32,

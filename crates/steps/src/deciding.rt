@@ -29,25 +29,7 @@ pub fn outcome_of(p: Packet, source: u32, tables: &ChipTables<'_>, t: Setting) -
 pub fn no_outcome() -> Outcome
     ensures { result ≡ no_outcome }
 {
-    let packet = Packet {
-        control: 0,
-        nine: 0,
-        word: 0,
-        payload: 0,
-    };
-    Outcome {
-        source: 0,
-        errors: 0,
-        packet,
-        wanted: 0,
-        missed: 0,
-        sent: 0,
-        carried: 0,
-        dropped: 0,
-        leg_sent: 0,
-        leg_dropped: 0,
-        phase: 0,
-    }
+    Outcome::default()
 }
 
 // What link i sends in step 5 or 7.
@@ -85,34 +67,31 @@ pub fn decide(errors: u32, p: Packet, source: u32, phase: u32, w: Wanted, ready:
 {
     let leg = leg_set(errors, p, source);
     let links = w.set % 64;
-    if is_marked(p.control) {
-        Outcome {
-            source,
-            errors,
-            packet: p,
-            wanted: w.set,
-            missed: w.missed,
-            sent: send_set(links, ready),
-            carried: carry_set(links, ready),
-            dropped: drop_set(links, ready),
-            leg_sent: plain_send_set(leg, ready),
-            leg_dropped: plain_drop_set(leg, ready),
-            phase,
-        }
+    let (sent, carried, dropped) = if is_marked(p.control) {
+        (
+            send_set(links, ready),
+            carry_set(links, ready),
+            drop_set(links, ready),
+        )
     } else {
-        Outcome {
-            source,
-            errors,
-            packet: p,
-            wanted: w.set,
-            missed: w.missed,
-            sent: plain_send_set(links, ready),
-            carried: 0,
-            dropped: plain_drop_set(links, ready),
-            leg_sent: plain_send_set(leg, ready),
-            leg_dropped: plain_drop_set(leg, ready),
-            phase,
-        }
+        (
+            plain_send_set(links, ready),
+            0,
+            plain_drop_set(links, ready),
+        )
+    };
+    Outcome {
+        source,
+        errors,
+        packet: p,
+        wanted: w.set,
+        missed: w.missed,
+        sent,
+        carried,
+        dropped,
+        leg_sent: plain_send_set(leg, ready),
+        leg_dropped: plain_drop_set(leg, ready),
+        phase,
     }
 }
 
@@ -130,12 +109,7 @@ fn mark_on(o: Outcome, i: u32) -> u32
 fn has_leg(errors: u32, p: Packet) -> bool
     ensures { result ≡ has_leg errors p }
 {
-    if is_marked(p.control) {
-        let mark = mark_of(p.control);
-        (errors == 0) & (1 <= mark) & (mark <= 2)
-    } else {
-        false
-    }
+    is_marked(p.control) && (errors == 0) & matches!(mark_of(p.control), 1 | 2)
 }
 
 fn leg_set(errors: u32, p: Packet, source: u32) -> u32

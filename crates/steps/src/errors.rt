@@ -10,7 +10,7 @@ pub fn errors_of(p: Packet, source: u32, phase: u32) -> u32
     requires { phase ≤ 3 }
     ensures { (result ≡ errors_of p source phase) × (result ≤ 15) }
 {
-    flag_of(!is_odd(p), 1) + flag_of(wrong_length(p), 4) + source_errors(p.control, source, phase)
+    u32::from(!is_odd(p)) + flag_of(wrong_length(p), 4) + source_errors(p.control, source, phase)
 }
 
 pub fn stamped_of(p: Packet, source: u32, errors: u32, phase: u32) -> Packet
@@ -23,6 +23,7 @@ pub fn stamped_of(p: Packet, source: u32, errors: u32, phase: u32) -> Packet
     }
 }
 
+// A number where something is so, else 0: `u32::from(b) * n` says it no plainer.
 pub fn flag_of(b: bool, n: u32) -> u32
     ensures { (result ≡ flag b n) × (result ≤ n) }
 {

@@ -18,7 +18,7 @@ pub struct Setting {
     pub ready: u32,
 }
 
-// The wanted set of a packet, and whether a local MC packet found no row (1).
+// The wanted set of a packet, and whether a local MC packet found no row: 1, which `counts_of` adds to a count as it stands, else 0.
 #[derive(Clone, Copy)]
 pub struct Wanted {
     pub set: u32,
@@ -28,7 +28,7 @@ pub struct Wanted {
 // What a pass does: where the packet came from, the errors found, the packet after stamping, the wanted set, whether a local packet found
 // no row, the links that send the packet and those of them that carry a detour, the links dropped for, the second leg's link as a set,
 // where it is sent and where it is dropped, and the phase. Source and phase stand apart for speed (docs/DECISIONS.md).
-#[derive(Clone, Copy)]
+#[derive(Clone, Copy, Default)]
 pub struct Outcome {
     pub source: u32,
     pub errors: u32,

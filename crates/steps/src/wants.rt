@@ -40,11 +40,7 @@ pub fn wanted_of(errors: u32, p: Packet, source: u32, tables: &ChipTables<'_>, t
 pub fn looked_up(goes: bool, key: u32, rows: &[u32]) -> Option<u32>
     ensures { result ≡ cond goes (route_for key (rows_of rows.now)) None }
 {
-    if goes {
-        route_for(rows, key)
-    } else {
-        None
-    }
+    if goes { route_for(rows, key) } else { None }
 }
 
 // The wanted set, given what the rows say to the packet.
