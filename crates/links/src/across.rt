@@ -52,33 +52,20 @@ fn step_east(width: u32, i: u32) -> u32
     requires { (1 ≤ width) × (width ≤ 12) }
     ensures { (result ≡ step_east width i) × (result ≤ width) }
 {
-    if i <= 1 {
-        return 1;
+    match i {
+        0 | 1 => 1,
+        3 | 4 => width - 1,
+        _ => 0,
     }
-    if i == 3 {
-        return width - 1;
-    }
-    if i == 4 {
-        return width - 1;
-    }
-    0
 }
 
 fn step_north(height: u32, i: u32) -> u32
     requires { (1 ≤ height) × (height ≤ 12) }
     ensures { (result ≡ step_north height i) × (result ≤ height) }
 {
-    if i == 1 {
-        return 1;
+    match i {
+        1 | 2 => 1,
+        4 | 5 => height - 1,
+        _ => 0,
     }
-    if i == 2 {
-        return 1;
-    }
-    if i == 4 {
-        return height - 1;
-    }
-    if i == 5 {
-        return height - 1;
-    }
-    0
 }

@@ -37,11 +37,7 @@ pub fn set_state(words: &mut [u32], up: bool)
     requires { length words.old ≡ link_long }
     ensures { words.new ≡ set words.old state_at (state_of up) }
 {
-    if up {
-        words[STATE] = 0;
-    } else {
-        words[STATE] = 1;
-    }
+    words[STATE] = u32::from(!up);
 }
 
 // Puts a packet behind those that the link holds.
