@@ -1,6 +1,6 @@
 // The ten counters of a chip.
 ghost use Rattle.std.specs.Prelude.{◌≡◌, ◌<◌, true};
-ghost use Rattle.kept.specs.Counting.{delivered, swallows, swallowed, sent_count, counts_of, only_sent, counted_of, zeros};
+ghost use Rattle.kept.specs.Counting.{delivered, swallows, swallowed, sent_count, counts_of, only_sent, counted_of};
 
 use super::Counters;
 use super::keeping::drop_count;
@@ -27,12 +27,6 @@ pub fn counted_of(c: Counters, o: Outcome) -> Counters
             c.count[9].wrapping_add(o.missed),
         ],
     }
-}
-
-pub fn no_counts() -> Counters
-    ensures { result ≡ zeros }
-{
-    Counters::default()
 }
 
 // Whether a pass shows no error, and delivers, drops and swallows nothing, as most passes of a round: three counters are then all that changes.

@@ -4,7 +4,7 @@ use lib.Dec.{eqb}
 use Rattle.packet.specs.Bytes.{Taken, as_taken}
 use Rattle.packet.proofs.Numbers.{told_taken}
 use Rattle.router.proofs.Inputs.{checked_packet, few_at_17}
-use Rattle.router.proofs.Shown.{answer_shown, unless, unless_none, unless_sets}
+use Rattle.router.proofs.Shown.{answer_shown, unless, unless_sets}
 use Rattle.router.specs.Showing.{pass_shown}
 use Rattle.router.specs.Call.{place_of, pass_of, answer}
 use Rattle.router.proofs.call.pass.Goals as goal
@@ -20,10 +20,8 @@ place_of-place-requires c = let a = c.args in
 
 pub shown-requires : goal.shown-requires
 shown-requires c = let a = c.args in
-    let taken = as_taken c.checked-taken.result in
-    let s = unless_sets taken a.source a.tables.now a.t in
-    let refusal = told_taken c.checked-taken.result ∙ sym c.told-refusal.ensures in
-    rw (c.outcome_unless-o.ensures, sym refusal) (unless_none taken a.source a.tables.now a.t, (s.sent, (s.dropped, s.leg_dropped)))
+    let s = unless_sets (as_taken c.checked-taken.result) a.source a.tables.now a.t in
+    rw c.outcome_unless-o.ensures (s.sent, (s.dropped, s.leg_dropped))
 
 pub returns : goal.returns
 unfolding pass_of

@@ -10,9 +10,3 @@ use Rattle.router.proofs.call.place_of.Goals as goal
 pub overflow_cast-result : goal.overflow_cast-result
 overflow_cast-result c = let rows = c.args.rows.now in
     omega (arith, c.requires c.if-refusal-eq17.true, c.route_place.ensures, first_most (row_wrong rows) (length rows / 3 + 1))
-
-pub returns-then-refusal-eq17 : goal.returns-then-refusal-eq17
-returns-then-refusal-eq17 c = c.route_place.ensures ∙ simp (eq-eqb c.args.refusal 17 c.if-refusal-eq17.true)
-
-pub returns : goal.returns
-returns c = simp (ne_eqb c.args.refusal 17 c.if-refusal-eq17.false)
