@@ -1,5 +1,6 @@
 // A flood of FILE: all codes as the links then are. Where FILE is checked, how many pairs of chips have no way, and the first of them.
 use flood::flooding::flood;
+use packet::refused::told;
 use report::course::{Course, answered};
 use report::telling::{number, place, text};
 use script::cells::{between, byte_at};
@@ -33,7 +34,7 @@ pub fn all_codes(b: Board) -> usize {
 // Floods the first codes of the room.
 fn flood_first(mesh: &[u32; WORDS], codes: &mut [u8], all: usize) -> u32 {
     if all <= codes.len() {
-        return flood(mesh, &mut codes[0..all]);
+        return told(flood(mesh, &mut codes[0..all]));
     }
     11
 }

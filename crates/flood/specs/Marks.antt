@@ -1,5 +1,5 @@
 -- No rule of the model, but what the steps of a flood promise each other. One destination's marks, one a chip: the fewest links of a way to it.
-use Rattle.std.specs.Prelude.{ℕ, ◌+◌, ◌*◌, ◌/◌, ◌%◌, ◌<◌, ◌≡◌, Bool, true, false, cond, ◌&&◌, List, eqb, ltb, length, get_or}
+use Rattle.std.specs.Prelude.{ℕ, ◌+◌, ◌*◌, ◌/◌, ◌%◌, ◌<◌, ◌≡◌, Bool, true, false, cond, ◌&&◌, List, eqb, ltb, length, get_or, Option, MatchOption}
 use Rattle.tables.specs.Sizes.{size_fine}
 use Rattle.lists.specs.Firsts.{first_below}
 use Rattle.mesh.specs.Mesh.{Mesh, many}
@@ -40,6 +40,10 @@ module _ (around marks : List ℕ) where
   -- A chip's code by the marks.
   abbrev pub code_on : ℕ → ℕ
   code_on chip = cond (eqb (get_or marks chip 0) 0) 7 (cond (eqb (get_or marks chip 0) 255) 6 (first_on (get_or marks chip 0) chip))
+
+-- The lowest link by its number, where 6 stands for none.
+abbrev pub IsFirst : ℕ → Option ℕ → Type 0
+IsFirst n r = MatchOption r (n ≡ 6) (λ i. (n ≡ i) × (i < 6))
 
 -- The marks after a level, and whether it marked any chip.
 pub record Spread (around : List ℕ) (all level : ℕ) (before after : List ℕ) (more : Bool) : Type 0 where

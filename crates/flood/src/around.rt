@@ -16,12 +16,9 @@ pub fn around_all(mesh: &[u32]) -> [u8; 864]
     requires { holds_mesh mesh.now ≡ true }
     ensures { Around (mesh_of mesh.now) (chips_of mesh.now) result }
 {
-    let count = chips(mesh[WIDTH], mesh[HEIGHT]) * 6;
     let mut around = [DOWN; 864];
-    let mut k = 0;
-    while k < count {
+    for k in 0..chips(mesh[WIDTH], mesh[HEIGHT]) * 6 {
         around[k] = lead_of(mesh, k / 6, k % 6);
-        k += 1;
     }
     around
 }

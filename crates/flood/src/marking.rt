@@ -1,9 +1,9 @@
 // One destination's marks, one a chip: how many links a way of fewest links to it has. Level by level, and a chip's code from them.
 ghost use Rattle.std.specs.Prelude.{◌≡◌, length, get_or, ℕ, ◌-◌, ◌≤◌, ◌<◌};
 ghost use Rattle.mesh.specs.Mesh.{Mesh};
-ghost use Rattle.flood.specs.Marks.{mark_after, Around, is_below, first_on, is_next, code_on, Spread};
+ghost use Rattle.flood.specs.Marks.{mark_after, Around, is_below, first_on, is_next, code_on, IsFirst, Spread};
 
-// The mark of a chip that no level has reached.
+// The mark of a chip that no level has reached: above every level, so that one comparison asks for a mark and for a low one.
 const UNREACHED: u8 = 255;
 
 // The code that leads nowhere.
@@ -19,12 +19,10 @@ pub fn marks_to(around: &[u8; 864], all: usize, to: usize) -> [u8; 144]
 {
     let mut marks = [UNREACHED; 144];
     marks[to] = 0;
-    let most = (all - 1) as u8;
-    let mut level: u8 = 0;
-    let mut more = true;
-    while more & (level < most) {
-        level += 1;
-        more = spread(around, all, level, &mut marks);
+    for level in 1..all as u8 {
+        if !spread(around, all, level, &mut marks) {
+            break;
+        }
     }
     marks
 }
@@ -34,14 +32,11 @@ pub fn code_on(around: &[u8; 864], marks: &[u8; 144], chip: usize) -> u8
     requires { chip < 144 }
     ensures { result ≡ code_on around.now marks.now chip }
 {
-    let mark = marks[chip];
-    if mark == 0 {
-        return ONESELF;
+    match marks[chip] {
+        0 => ONESELF,
+        UNREACHED => NOWHERE,
+        mark => first_on(around, marks, mark, chip).unwrap_or(NOWHERE),
     }
-    if mark == UNREACHED {
-        return NOWHERE;
-    }
-    first_on(around, marks, mark, chip)
 }
 
 // One level: marks each chip that has no mark and an up link to one that had. Whether there is any.
@@ -50,13 +45,11 @@ fn spread(around: &[u8; 864], all: usize, level: u8, marks: &mut [u8; 144]) -> b
     ensures { Spread around.now all level marks.old marks.new result }
 {
     let mut more = false;
-    let mut chip = 0;
-    while chip < all {
+    for chip in 0..all {
         if is_next(around, marks, level, chip) {
             marks[chip] = level;
             more = true;
         }
-        chip += 1;
     }
     more
 }
@@ -65,36 +58,26 @@ fn is_next(around: &[u8; 864], marks: &[u8; 144], level: u8, chip: usize) -> boo
     requires { chip < 144 }
     ensures { result ≡ is_next around.now marks.now level chip }
 {
-    if marks[chip] == UNREACHED {
-        first_on(around, marks, level, chip) < 6
-    } else {
-        false
-    }
+    (marks[chip] == UNREACHED) && first_on(around, marks, level, chip).is_some()
 }
 
-// The lowest link of a chip that is up and leads to a mark below a level; 6 where none does. A chip that this level marks has the level for its mark,
+// The lowest link of a chip that is up and leads to a mark below a level. A chip that this level marks has the level for its mark,
 // and so counts from the next on.
-fn first_on(around: &[u8; 864], marks: &[u8; 144], level: u8, chip: usize) -> u8
+fn first_on(around: &[u8; 864], marks: &[u8; 144], level: u8, chip: usize) -> Option<u8>
     requires { chip < 144 }
-    ensures { result ≡ first_on around.now marks.now level chip }
+    ensures { IsFirst (first_on around.now marks.now level chip) result }
 {
-    let mut i: usize = 0;
-    while i < 6 {
+    for i in 0..6 {
         if is_below(marks, level, around[chip * 6 + i]) {
-            return i as u8;
+            return Some(i as u8);
         }
-        i += 1;
     }
-    NOWHERE
+    None
 }
 
 // A link that is down leads to no chip.
 fn is_below(marks: &[u8; 144], level: u8, lead: u8) -> bool
     ensures { result ≡ is_below marks.now level lead }
 {
-    if lead < 144 {
-        marks[lead as usize] < level
-    } else {
-        false
-    }
+    (lead < 144) && (marks[usize::from(lead)] < level)
 }

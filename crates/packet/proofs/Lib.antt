@@ -10,4 +10,5 @@ pub mod Refusals
 pub mod Rewrite
 pub mod RoundTrip
 pub mod Small
+pub mod Told
 pub mod Types

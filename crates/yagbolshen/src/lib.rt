@@ -26,6 +26,7 @@ use buffer::opening::SizeRead;
 use fewer::Fewer;
 use mesh::{Added, CountRead, FlightRead, LinkRead, MeshRead, RegistersRead};
 use packet::{Fields, FieldsRead, Packed};
+use packet::refused::told;
 use records::{Call, Record, Written};
 use router::Pass;
 use steps::Setting;
@@ -229,7 +230,7 @@ pub fn yagbolshen_flood(mesh: &[u32], codes: &mut [u8]) -> u32
     ensures value { result ≡ flood_refusal (holds_mesh mesh.now) (mesh_of mesh.now) codes.old }
     ensures codes_after { codes.new ≡ flooded (holds_mesh mesh.now) (mesh_of mesh.now) codes.old }
 {
-    flood::flooding::flood(mesh, codes)
+    told(flood::flooding::flood(mesh, codes))
 }
 
 // The rows of a table made fewer, with the numbers of those that went.
