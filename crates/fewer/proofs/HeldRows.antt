@@ -1,5 +1,5 @@
 -- The rows in hand by their places: how many there are, which words are a row's, and one put in another's place.
-use Prim.Native.Nat.{ℕ, zero, suc, ◌+◌, ◌*◌, ◌/◌, ◌<◌}
+use Prim.Native.Nat.{ℕ, zero, suc, ◌+◌, ◌*◌, ◌<◌}
 use mathlib.Core.Path.{◌≡◌, refl, sym, ap, ◌∙◌}
 use mathlib.Core.List.{List, [], ◌∷◌, ◌++◌, append_assoc}
 use native.Mathlib.Omega.{arith}
@@ -9,49 +9,35 @@ use lib.Seq.{take-suc, take-suc-set, take_at, drop_at, drop-drop, length-take-le
 use Rattle.tables.specs.Rows.{Entry, blank_entry}
 use Rattle.fewer.specs.Process.{Numbered, numbered, blank, row_at}
 use Rattle.fewer.specs.Call.{words_of}
-use Rattle.fewer.specs.Hand.{held_of}
+use Rattle.fewer.specs.declared.Held.{Held}
+use Rattle.fewer.specs.Hand.{numbered_of, held_of}
 
-pub held_many : (w : List ℕ) → length (held_of w) ≡ length w / 4
+pub held_many : (w : List Held) → length (held_of w) ≡ length w
 unfolding held_of
 held_many [] = refl
-held_many (k ∷ []) = refl
-held_many (k ∷ m ∷ []) = refl
-held_many (k ∷ m ∷ r ∷ []) = refl
-held_many (k ∷ m ∷ r ∷ n ∷ rest) = omega (arith, held_many rest)
+held_many (r ∷ rs) = ap suc (held_many rs)
 
-pub held_at : (w : List ℕ) (i : ℕ) → i * 4 + 3 < length w
-    → record { entry = record { key = get_or w (i * 4) 0; mask = get_or w (i * 4 + 1) 0; route = get_or w (i * 4 + 2) 0 }; number = get_or w (i * 4 + 3) 0 } ≡ get_or (held_of w) i blank
+-- what a read past the end would give
+abbrev pub none_held : Held
+none_held = record { key = 0; mask = 0; route = 0; number = 0 }
+
+pub held_at : (w : List Held) (i : ℕ) → i < length w → numbered_of (get_or w i none_held) ≡ get_or (held_of w) i blank
 unfolding held_of
 held_at [] i h = absurd (omega arith)
-held_at (k ∷ []) i h = absurd (omega arith)
-held_at (k ∷ m ∷ []) i h = absurd (omega arith)
-held_at (k ∷ m ∷ r ∷ []) i h = absurd (omega arith)
-held_at (k ∷ m ∷ r ∷ n ∷ rest) zero h = refl
-held_at (k ∷ m ∷ r ∷ n ∷ rest) (suc i) h =
-    let w : List ℕ = k ∷ m ∷ r ∷ n ∷ rest in
-    let a : suc i * 4 ≡ suc (suc (suc (suc (i * 4)))) = omega arith in
-    let b : suc i * 4 + 1 ≡ suc (suc (suc (suc (i * 4 + 1)))) = omega arith in
-    let c : suc i * 4 + 2 ≡ suc (suc (suc (suc (i * 4 + 2)))) = omega arith in
-    let d : suc i * 4 + 3 ≡ suc (suc (suc (suc (i * 4 + 3)))) = omega arith in
-    (λ j. record { entry = record { key = get_or w (a j) 0; mask = get_or w (b j) 0; route = get_or w (c j) 0 }; number = get_or w (d j) 0 }) ∙ held_at rest i (omega arith)
+held_at (r ∷ rs) zero h = refl
+held_at (r ∷ rs) (suc i) h = held_at rs i (omega arith)
 
-pub held_put : (w : List ℕ) (i key mask route number : ℕ) → i * 4 + 3 < length w
-    → held_of (set (set (set (set w (i * 4) key) (i * 4 + 1) mask) (i * 4 + 2) route) (i * 4 + 3) number)
-    ≡ set (held_of w) i (record { entry = record { key = key; mask = mask; route = route }; number = number })
+pub held_put : (w : List Held) (i : ℕ) (row : Held) → held_of (set w i row) ≡ set (held_of w) i (numbered_of row)
 unfolding held_of
-held_put [] i key mask route number h = absurd (omega arith)
-held_put (k ∷ []) i key mask route number h = absurd (omega arith)
-held_put (k ∷ m ∷ []) i key mask route number h = absurd (omega arith)
-held_put (k ∷ m ∷ r ∷ []) i key mask route number h = absurd (omega arith)
-held_put (k ∷ m ∷ r ∷ n ∷ rest) zero key mask route number h = refl
-held_put (k ∷ m ∷ r ∷ n ∷ rest) (suc i) key mask route number h =
-    let w : List ℕ = k ∷ m ∷ r ∷ n ∷ rest in
-    let row : Numbered = record { entry = record { key = k; mask = m; route = r }; number = n } in
-    let a : suc i * 4 ≡ suc (suc (suc (suc (i * 4)))) = omega arith in
-    let b : suc i * 4 + 1 ≡ suc (suc (suc (suc (i * 4 + 1)))) = omega arith in
-    let c : suc i * 4 + 2 ≡ suc (suc (suc (suc (i * 4 + 2)))) = omega arith in
-    let d : suc i * 4 + 3 ≡ suc (suc (suc (suc (i * 4 + 3)))) = omega arith in
-    (λ j. held_of (set (set (set (set w (a j) key) (b j) mask) (c j) route) (d j) number)) ∙ ap (λ (l : List Numbered). row ∷ l) (held_put rest i key mask route number (omega arith))
+held_put [] i row = refl
+held_put (r ∷ rs) zero row = refl
+held_put (r ∷ rs) (suc i) row = ap (λ (l : List Numbered). numbered_of r ∷ l) (held_put rs i row)
+
+pub held_take : (n : ℕ) (w : List Held) → held_of (take n w) ≡ take n (held_of w)
+unfolding held_of
+held_take zero w = refl
+held_take (suc n) [] = refl
+held_take (suc n) (r ∷ rs) = ap (λ (l : List Numbered). numbered_of r ∷ l) (held_take n rs)
 
 -- ---- the rows of a table, with their numbers
 

@@ -7,6 +7,7 @@ use lib.ListN.{length, take, drop, set, length-set, drop_of_length-le}
 use lib.Seq.{length-take-le, take-take, take-suc-set, drop-drop, drop-set-lt}
 use Rattle.fewer.specs.declared.Walk.{Walk}
 use Rattle.fewer.specs.Process.{Numbered, step}
+use Rattle.fewer.specs.declared.Held.{Held}
 use Rattle.fewer.specs.Hand.{held_of, with_left, end_from, Onward, Stays, walk_rows, Walking, WentOn, TookOut}
 use Rattle.fewer.proofs.HeldRows.{held_many}
 use Rattle.fewer.proofs.Steps.{end_step}
@@ -19,11 +20,11 @@ drop_further s t i j h e =
 take_less : (s t : List Numbered) (i j : ℕ) → i ≤ j → take j s ≡ take j t → take i s ≡ take i t
 take_less s t i j h e = sym (take-take i j s h) ∙ ap (take i) e ∙ take-take i j t h
 
-module _ (held gone : List ℕ) (rows : List Numbered) where
+module _ (held : List Held) (gone : List ℕ) (rows : List Numbered) where
   pub onward_none : Onward held gone rows held gone rows
   onward_none = record { words = refl; room = refl; fewer = omega arith; ends = refl; rest = refl }
 
-pub onward_on : {held₀ gone₀ held₁ gone₁ held₂ gone₂ : List ℕ} {rows₀ rows₁ rows₂ : List Numbered} → Onward held₀ gone₀ rows₀ held₁ gone₁ rows₁ → Onward held₁ gone₁ rows₁ held₂ gone₂ rows₂
+pub onward_on : {held₀ held₁ held₂ : List Held} {gone₀ gone₁ gone₂ : List ℕ} {rows₀ rows₁ rows₂ : List Numbered} → Onward held₀ gone₀ rows₀ held₁ gone₁ rows₁ → Onward held₁ gone₁ rows₁ held₂ gone₂ rows₂
     → Onward held₀ gone₀ rows₀ held₂ gone₂ rows₂
 onward_on {gone₀ = gone₀} {gone₁ = gone₁} {gone₂ = gone₂} {rows₁ = rows₁} {rows₂ = rows₂} a b =
     record {
@@ -35,7 +36,7 @@ onward_on {gone₀ = gone₀} {gone₁ = gone₁} {gone₂ = gone₂} {rows₁ =
     }
 
 -- by a step, which lists one number more
-module _ (held held' gone : List ℕ) (rows rows' : List Numbered) (n number : ℕ) (words : length held' ≡ length held) (many : length rows ≡ n) (room : n ≤ length gone)
+module _ (held held' : List Held) (gone : List ℕ) (rows rows' : List Numbered) (n number : ℕ) (words : length held' ≡ length held) (many : length rows ≡ n) (room : n ≤ length gone)
     (fewer : suc (length rows') ≡ length rows)
     (stepped : step (with_left rows gone) ≡ record { left = rows'; gone = take (length gone - length rows) gone ++ number ∷ [] }) where
   gone' : List ℕ
@@ -65,10 +66,10 @@ module _ (held held' gone : List ℕ) (rows rows' : List Numbered) (n number : �
 
 -- ---- walks
 
-pub went_none : (held gone : List ℕ) (w : Walk) → WentOn held gone w held gone w
+pub went_none : (held : List Held) (gone : List ℕ) (w : Walk) → WentOn held gone w held gone w
 went_none held gone w = record { onward = onward_none held gone (walk_rows held w); same = refl; more = omega arith; front = refl; matching = λ all. all }
 
-pub went_on : {held₀ gone₀ held₁ gone₁ held₂ gone₂ : List ℕ} {w₀ w₁ w₂ : Walk} → WentOn held₀ gone₀ w₀ held₁ gone₁ w₁ → WentOn held₁ gone₁ w₁ held₂ gone₂ w₂
+pub went_on : {held₀ held₁ held₂ : List Held} {gone₀ gone₁ gone₂ : List ℕ} {w₀ w₁ w₂ : Walk} → WentOn held₀ gone₀ w₀ held₁ gone₁ w₁ → WentOn held₁ gone₁ w₁ held₂ gone₂ w₂
     → WentOn held₀ gone₀ w₀ held₂ gone₂ w₂
 went_on {held₁ = held₁} {held₂ = held₂} {w₀ = w₀} {w₁ = w₁} a b =
     record {
@@ -79,7 +80,7 @@ went_on {held₁ = held₁} {held₂ = held₂} {w₀ = w₀} {w₁ = w₁} a b 
       matching = λ all. b.matching (a.matching all);
     }
 
-module _ (lo hi : ℕ) (held₀ gone₀ : List ℕ) (w₀ : Walk) (held gone : List ℕ) (w : Walk) (walking : Walking lo hi held gone w) (over : w.count ≤ w.next) (went : WentOn held₀ gone₀ w₀ held gone w) where
+module _ (lo hi : ℕ) (held₀ : List Held) (gone₀ : List ℕ) (w₀ : Walk) (held : List Held) (gone : List ℕ) (w : Walk) (walking : Walking lo hi held gone w) (over : w.count ≤ w.next) (went : WentOn held₀ gone₀ w₀ held gone w) where
   pub took_out : TookOut held₀ gone₀ w₀ held gone w.kept
   took_out =
       record {

@@ -11,13 +11,14 @@ use lib.Seq.{length-take-le, take_at, take-take, take-set-lt, take-suc-set, drop
 use Rattle.fewer.specs.declared.Pairs.{Pairs}
 use Rattle.fewer.specs.declared.Walk.{Walk}
 use Rattle.fewer.specs.Process.{Numbered, blank, pair, joins, with_pair, step}
+use Rattle.fewer.specs.declared.Held.{Held}
 use Rattle.fewer.specs.Hand.{held_of, joined_of, with_left, Onward, AllMatch, Walked, walk_rows, Walking, TookOut, AtPairs, WentPast, JoinedAll}
 use Rattle.fewer.proofs.HeldRows.{held_many}
 use Rattle.fewer.proofs.Onwards.{onward_none, onward_on, one_step}
 use Rattle.fewer.proofs.Pairing.{nothing_left, pair_step, walk_from_pair, match_with_pair, none_above}
 use Rattle.fewer.proofs.Steps.{steps_same, length_pair}
 
-module _ (held gone : List ℕ) (p : Pairs) (now : AtPairs held gone p) (more : p.at + 1 < p.rows) (upper lower : Numbered)
+module _ (held : List Held) (gone : List ℕ) (p : Pairs) (now : AtPairs held gone p) (more : p.at + 1 < p.rows) (upper lower : Numbered)
     (is-upper : upper ≡ get_or (held_of held) p.at blank) (is-lower : lower ≡ get_or (held_of held) (p.at + 1) blank) where
   abbrev H : List Numbered
   H = held_of held
@@ -53,7 +54,7 @@ module _ (held gone : List ℕ) (p : Pairs) (now : AtPairs held gone p) (more : 
     record { onward = onward_none held gone L; nearer = omega arith },
   )
 
-  module _ (is : pair upper.entry lower.entry ≡ true) (held₁ : List ℕ) (words : length held₁ ≡ length held) (put : held_of held₁ ≡ set H p.at (joined_of upper lower)) where
+  module _ (is : pair upper.entry lower.entry ≡ true) (held₁ : List Held) (words : length held₁ ≡ length held) (put : held_of held₁ ≡ set H p.at (joined_of upper lower)) where
     abbrev gone₁ : List ℕ
     gone₁ = set gone (length gone - p.rows) lower.number
 
@@ -102,7 +103,7 @@ module _ (held gone : List ℕ) (p : Pairs) (now : AtPairs held gone p) (more : 
       subst AllMatch (sym made_one) (match_with_pair L now.quiet p.at below joins_there),
     )
 
-    module _ (held₂ gone₂ : List ℕ) (r : ℕ) (took : TookOut held₁ gone₁ walk held₂ gone₂ r) where
+    module _ (held₂ : List Held) (gone₂ : List ℕ) (r : ℕ) (took : TookOut held₁ gone₁ walk held₂ gone₂ r) where
       same_front : take (p.at + 1) (take r (held_of held₂)) ≡ take (p.at + 1) (with_pair L p.at)
       same_front =
           take-take (p.at + 1) r (held_of held₂) took.more
@@ -127,7 +128,7 @@ module _ (held gone : List ℕ) (p : Pairs) (now : AtPairs held gone p) (more : 
 
 -- ---- past the last pair
 
-module _ (held₀ gone₀ : List ℕ) (count : ℕ) (held gone : List ℕ) (p : Pairs) (now : AtPairs held gone p) (last : p.rows ≤ p.at + 1)
+module _ (held₀ : List Held) (gone₀ : List ℕ) (count : ℕ) (held : List Held) (gone : List ℕ) (p : Pairs) (now : AtPairs held gone p) (last : p.rows ≤ p.at + 1)
     (onward : Onward held₀ gone₀ (take count (held_of held₀)) held gone (take p.rows (held_of held))) where
   pub all_joined : JoinedAll held₀ gone₀ count held gone p.rows
   all_joined =

@@ -11,6 +11,7 @@ use lib.Seq.{length-take-le, take_at, take-set-le, take-set-lt, take-suc-set, dr
 use Rattle.tables.specs.Rows.{Entry}
 use Rattle.fewer.specs.declared.Walk.{Walk}
 use Rattle.fewer.specs.Process.{Numbered, blank, row_at, number_at, covers, matches_some, without, step}
+use Rattle.fewer.specs.declared.Held.{Held}
 use Rattle.fewer.specs.Hand.{held_of, with_left, end_from, Onward, AllMatch, Walked, walk_rows, Walking, Tested, WentOn}
 use Rattle.fewer.proofs.HeldRows.{held_many}
 use Rattle.fewer.proofs.Onwards.{one_step}
@@ -58,7 +59,7 @@ module _ (rows : List Numbered) (kept next count : ℕ) (behind : kept ≤ next)
       sym (drop-drop 1 kept these) ∙ ap (drop 1) (drop_at (take kept rows) tail kept long) ∙ drop-drop 1 next (take count rows) in
       λ k. sym (take_at (take kept rows) tail kept long) k ++ sym rest k
 
-module _ (lo hi : ℕ) (held gone : List ℕ) (w : Walk) (walking : Walking lo hi held gone w) (more : w.next < w.count) (row : Numbered) (is : row ≡ get_or (held_of held) w.next blank) where
+module _ (lo hi : ℕ) (held : List Held) (gone : List ℕ) (w : Walk) (walking : Walking lo hi held gone w) (more : w.next < w.count) (row : Numbered) (is : row ≡ get_or (held_of held) w.next blank) where
   abbrev H : List Numbered
   H = held_of held
 
@@ -87,7 +88,7 @@ module _ (lo hi : ℕ) (held gone : List ℕ) (w : Walk) (walking : Walking lo h
       (λ (c : (i : ℕ) × ((i < min hi w.kept) × (covers (row_at H i) row.entry ≡ true))).
       inr (c.0, (c.1.0, (λ j. covers (above c.0 (omega (arith, c.1.0)) j) (there j)) ∙ c.1.1))) t
 
-  pub keeps_on : (held' : List ℕ) → length held' ≡ length held → held_of held' ≡ set H w.kept row → Tested H row.entry lo (min hi w.kept) true
+  pub keeps_on : (held' : List Held) → length held' ≡ length held → held_of held' ≡ set H w.kept row → Tested H row.entry lo (min hi w.kept) true
       → (Walking lo hi held' gone (record { kept = w.kept + 1; next = w.next + 1; count = w.count }))
       × (WentOn held gone w held' gone (record { kept = w.kept + 1; next = w.next + 1; count = w.count }))
   keeps_on held' same e t = (walking', record { onward = onward; same = refl; more = omega arith; front = ap (take w.kept) e ∙ take-set-le w.kept H w.kept row (omega arith); matching = subst AllMatch (sym rows_same) })
@@ -158,7 +159,7 @@ module _ (lo hi : ℕ) (held gone : List ℕ) (w : Walk) (walking : Walking lo h
 
 -- ---- below a joined row
 
-module _ (at count : ℕ) (held₀ gone₀ held gone : List ℕ) (w : Walk) (walking : Walking at (at + 1) held gone w) (more : w.next < w.count)
+module _ (at count : ℕ) (held₀ : List Held) (gone₀ : List ℕ) (held : List Held) (gone : List ℕ) (w : Walk) (walking : Walking at (at + 1) held gone w) (more : w.next < w.count)
     (went : WentOn held₀ gone₀ (record { kept = at + 1; next = at + 2; count = count }) held gone w) (all : AllMatch (walk_rows held₀ (record { kept = at + 1; next = at + 2; count = count })))
     (one row : Numbered) (is_one : one ≡ get_or (held_of held₀) at blank) (is : row ≡ get_or (held_of held) w.next blank) where
   one_there : row_at (held_of held) at ≡ one.entry

@@ -1,4 +1,4 @@
--- No rule of the model, but what the steps of the code promise each other of the rows in hand: four words each, key, mask, route and the number that the row first had.
+-- No rule of the model, but what the steps of the code promise each other of the rows in hand: each with the number that it first had.
 use Rattle.std.specs.Prelude.{ℕ, ◌-◌, ◌*◌, ◌≤◌, ◌<◌, min, ◌≡◌, Bool, true, false, List, [], ◌∷◌, ◌++◌, ◌⊎◌, length, get_or, take, drop}
 use Rattle.tables.specs.Rows.{Entry}
 use Rattle.fewer.specs.declared.Held.{Held}
@@ -12,12 +12,9 @@ use Rattle.fewer.specs.Call.{words_of}
 abbrev pub numbered_of : Held → Numbered
 numbered_of r = record { entry = record { key = r.key; mask = r.mask; route = r.route }; number = r.number }
 
-unfoldable pub held_of : List ℕ → List Numbered
+unfoldable pub held_of : List Held → List Numbered
 held_of [] = []
-held_of (k ∷ []) = []
-held_of (k ∷ m ∷ []) = []
-held_of (k ∷ m ∷ r ∷ []) = []
-held_of (k ∷ m ∷ r ∷ n ∷ rest) = record { entry = record { key = k; mask = m; route = r }; number = n } ∷ held_of rest
+held_of (r ∷ rs) = numbered_of r ∷ held_of rs
 
 -- The process with these rows left, the room for numbers being as long as there were rows: the others are listed.
 abbrev pub with_left : List Numbered → List ℕ → Process
@@ -29,7 +26,7 @@ abbrev pub end_from : Process → Process
 end_from p = steps (length p.left) p
 
 -- The words are as many as they were, the process has come no other way, and the room past what is listed is as it was.
-pub record Onward (held₀ gone₀ : List ℕ) (rows₀ : List Numbered) (held gone : List ℕ) (rows : List Numbered) : Type 0 where
+pub record Onward (held₀ : List Held) (gone₀ : List ℕ) (rows₀ : List Numbered) (held : List Held) (gone : List ℕ) (rows : List Numbered) : Type 0 where
   pub words : length held ≡ length held₀
   pub room : length gone ≡ length gone₀
   pub fewer : length rows ≤ length rows₀
@@ -62,14 +59,14 @@ NoneJoin rows n = (i : ℕ) → i < n → joins rows i ≡ false
 -- ---- a walk down the rows in hand
 
 -- Those that are kept, and those that it has not come to.
-abbrev pub walk_rows : List ℕ → Walk → List Numbered
+abbrev pub walk_rows : List Held → Walk → List Numbered
 walk_rows held w = take w.kept (held_of held) ++ drop w.next (take w.count (held_of held))
 
-pub record Walking (lo hi : ℕ) (held gone : List ℕ) (w : Walk) : Type 0 where
+pub record Walking (lo hi : ℕ) (held : List Held) (gone : List ℕ) (w : Walk) : Type 0 where
   pub behind : w.kept ≤ w.next
   pub within : w.next ≤ w.count
   pub listed : w.count ≤ length gone
-  pub fits : w.count * 4 ≤ length held
+  pub fits : w.count ≤ length held
   pub lower : lo ≤ w.kept
   pub walked : Walked lo hi (walk_rows held w) w.kept
 
@@ -84,7 +81,7 @@ Covered rows r lo upto true = (i : ℕ) × ((i < upto) × (covers (row_at rows i
 Covered rows r lo upto false = (i : ℕ) → lo ≤ i → i < upto → covers (row_at rows i) r ≡ false
 
 -- The walk has gone on: it keeps what it kept.
-pub record WentOn (held₀ gone₀ : List ℕ) (w₀ : Walk) (held gone : List ℕ) (w : Walk) : Type 0 where
+pub record WentOn (held₀ : List Held) (gone₀ : List ℕ) (w₀ : Walk) (held : List Held) (gone : List ℕ) (w : Walk) : Type 0 where
   pub onward : Onward held₀ gone₀ (walk_rows held₀ w₀) held gone (walk_rows held w)
   pub same : w.count ≡ w₀.count
   pub more : w₀.kept ≤ w.kept
@@ -92,13 +89,13 @@ pub record WentOn (held₀ gone₀ : List ℕ) (w₀ : Walk) (held gone : List �
   pub matching : AllMatch (walk_rows held₀ w₀) → AllMatch (walk_rows held w)
 
 -- Past a row, by what a test of it told.
-abbrev pub Passes : List ℕ → List ℕ → Walk → Numbered → Bool → List ℕ → List ℕ → Walk → Type 0
+abbrev pub Passes : List Held → List ℕ → Walk → Numbered → Bool → List Held → List ℕ → Walk → Type 0
 Passes held₀ gone₀ w₀ row told held gone w =
     (lo hi : ℕ) → Walking lo hi held₀ gone₀ w₀ → row ≡ get_or (held_of held₀) w₀.next blank → Tested (held_of held₀) row.entry lo (min hi w₀.kept) told
     → (Walking lo hi held gone w) × (WentOn held₀ gone₀ w₀ held gone w)
 
 -- The walk is over: r rows are kept, and none of them goes.
-pub record TookOut (held₀ gone₀ : List ℕ) (w₀ : Walk) (held gone : List ℕ) (r : ℕ) : Type 0 where
+pub record TookOut (held₀ : List Held) (gone₀ : List ℕ) (w₀ : Walk) (held : List Held) (gone : List ℕ) (r : ℕ) : Type 0 where
   pub onward : Onward held₀ gone₀ (walk_rows held₀ w₀) held gone (take r (held_of held))
   pub more : w₀.kept ≤ r
   pub most : r ≤ w₀.count
@@ -112,20 +109,20 @@ abbrev pub joined_of : Numbered → Numbered → Numbered
 joined_of upper lower = record { entry = joined upper.entry lower.entry; number = upper.number }
 
 -- None of the rows in hand goes, and no two neighbours above a place make a pair.
-pub record AtPairs (held gone : List ℕ) (p : Pairs) : Type 0 where
+pub record AtPairs (held : List Held) (gone : List ℕ) (p : Pairs) : Type 0 where
   pub within : p.at ≤ p.rows
   pub listed : p.rows ≤ length gone
-  pub fits : p.rows * 4 ≤ length held
+  pub fits : p.rows ≤ length held
   pub quiet : AllStay (take p.rows (held_of held))
   pub above : NoneJoin (take p.rows (held_of held)) p.at
 
 -- Either the place is one further on, or two rows are one and the place is one back.
-pub record WentPast (held₀ gone₀ : List ℕ) (p₀ : Pairs) (held gone : List ℕ) (p : Pairs) : Type 0 where
+pub record WentPast (held₀ : List Held) (gone₀ : List ℕ) (p₀ : Pairs) (held : List Held) (gone : List ℕ) (p : Pairs) : Type 0 where
   pub onward : Onward held₀ gone₀ (take p₀.rows (held_of held₀)) held gone (take p.rows (held_of held))
   pub nearer : 2 * p.rows - p.at < 2 * p₀.rows - p₀.at
 
 -- The end of the process.
-pub record JoinedAll (held₀ gone₀ : List ℕ) (count : ℕ) (held gone : List ℕ) (r : ℕ) : Type 0 where
+pub record JoinedAll (held₀ : List Held) (gone₀ : List ℕ) (count : ℕ) (held : List Held) (gone : List ℕ) (r : ℕ) : Type 0 where
   pub onward : Onward held₀ gone₀ (take count (held_of held₀)) held gone (take r (held_of held))
   pub most : r ≤ count
   pub over : end_from (with_left (take r (held_of held)) gone) ≡ with_left (take r (held_of held)) gone
