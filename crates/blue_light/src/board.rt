@@ -15,7 +15,6 @@ use buffer::moving::{inject, round};
 use buffer::opening::open;
 use mesh::LinkRead;
 use packet::control::mark_of;
-use std::num::wrapping_add_u32;
 
 // No mesh needs more than 4,096 words a chip and 1,024 besides.
 pub const WORDS: usize = 37888;
@@ -108,11 +107,9 @@ pub fn sums(mesh: &[u32; WORDS]) -> Totals
 fn sum(mesh: &[u32; WORDS], counter: u32) -> u32
     ensures { result ≡ sum_of mesh.now counter 9 }
 {
-    let mut all = 0;
-    let mut chip = 0;
-    while chip < CHIPS {
-        all = wrapping_add_u32(all, read_counter(mesh, chip, counter).count);
-        chip += 1;
+    let mut all: u32 = 0;
+    for chip in 0..CHIPS {
+        all = all.wrapping_add(read_counter(mesh, chip, counter).count);
     }
     all
 }

@@ -7,27 +7,17 @@ mod telling;
 
 use board::WORDS;
 use std::io;
-use telling::text;
 
 fn main(rt: HostRuntime) -> io::Result<()> {
     let mut mesh = board::opened();
     telling::title(&rt, &mesh)?;
-    text(
-        &rt,
-        b"\nFirst packet                              mark  light\n",
-    )?;
+    telling::heading(&rt, "First packet")?;
     journey(&rt, &mut mesh)?;
     board::watched_link_is_up(&mut mesh, false);
-    text(
-        &rt,
-        b"\nSecond packet, the link taken down        mark  light\n",
-    )?;
+    telling::heading(&rt, "Second packet, the link taken down")?;
     journey(&rt, &mut mesh)?;
     board::watched_link_is_up(&mut mesh, true);
-    text(
-        &rt,
-        b"\nThird packet, the link up again           mark  light\n",
-    )?;
+    telling::heading(&rt, "Third packet, the link up again")?;
     journey(&rt, &mut mesh)
 }
 
@@ -35,16 +25,14 @@ fn main(rt: HostRuntime) -> io::Result<()> {
 fn journey(rt: &HostRuntime, mesh: &mut [u32; WORDS]) -> io::Result<()> {
     let mut log = [0u32; 6];
     let before = board::sums(mesh);
-    let mut added = board::send(mesh, &mut log);
+    let added = board::send(mesh, &mut log);
     telling::step(rt, mesh, &log, added)?;
-    let mut rounds: u32 = 0;
-    while rounds < 9 {
+    for _ in 0..9 {
         if board::in_flight(mesh) == 0 {
             break;
         }
-        added = board::turn(mesh, &mut log);
+        let added = board::turn(mesh, &mut log);
         telling::step(rt, mesh, &log, added)?;
-        rounds += 1;
     }
     telling::sums(rt, before, board::sums(mesh))
 }

@@ -7,20 +7,12 @@ mod two_chips;
 use std::io;
 
 fn main(rt: HostRuntime) -> io::Result<()> {
-    say(&rt, b"13 ", one_router::case_13())?;
-    say(&rt, b"14 ", two_chips::case_14())?;
-    say(
-        &rt,
-        b"15 ",
-        two_chips::link_fills() & one_router::rows_fit(),
-    )
+    say(&rt, 13, one_router::case_13())?;
+    say(&rt, 14, two_chips::case_14())?;
+    say(&rt, 15, two_chips::link_fills() & one_router::rows_fit())
 }
 
-fn say(rt: &HostRuntime, number: &[u8], ok: bool) -> io::Result<()> {
-    rt.write_all(number)?;
-    if ok {
-        rt.write_all(b"ok\n")
-    } else {
-        rt.write_all(b"bad\n")
-    }
+fn say(rt: &HostRuntime, number: u32, ok: bool) -> io::Result<()> {
+    let answer = if ok { "ok" } else { "bad" };
+    println!(rt; "{number} {answer}")
 }

@@ -37,10 +37,8 @@ pub fn link_fills() -> bool
 {
     let mut mesh = [0u32; WORDS];
     let mut right = open(&mut mesh, 2, 1, 2, 0) == 0;
-    let mut held = 0;
-    while held < 7 {
+    for held in 0..7 {
         right = right & link_is(&mesh, held, 1) & injected(&mut mesh, 0);
-        held += 1;
     }
     right & link_is(&mesh, 7, 0)
 }

@@ -1,10 +1,7 @@
 -- The loop of `sum` goes through the nine chips: so far it has what `sum_of` says of those that it has passed.
-use Rattle.std.proofs.Common.{◌≡◌, ◌-◌, ◌≤◌}
+use Rattle.std.proofs.Common.{◌≡◌}
 use Rattle.blue_light.specs.Board.{sum_of}
 use Rattle.blue_light.proofs.board.sum.Given as goal
 
 abbrev pub invariant-loop-chip : goal.invariant-loop-chip
-invariant-loop-chip l = (l.chip ≤ 9) × (l.all ≡ sum_of l.mesh l.counter l.chip)
-
-abbrev pub decreases-loop-chip : goal.decreases-loop-chip
-decreases-loop-chip l = 9 - l.chip
+invariant-loop-chip l = l.all ≡ sum_of l.mesh l.counter l.chip

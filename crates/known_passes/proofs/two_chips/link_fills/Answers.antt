@@ -10,24 +10,21 @@ use Rattle.known_passes.proofs.two_chips.link_fills.Goals as goal
 pub loop-held-init : goal.loop-held-init
 unfolding sent sent_ready
 loop-held-init c = let opened = open_held c.open-right.new.mesh c.open-right.result c.open-right.ensures.value c.open-right.ensures.mesh_after in
-    (omega arith, (ap (λ (n : ℕ). eqb n 0) opened.0, opened.1))
+    record { right = ap (λ (n : ℕ). eqb n 0) opened.0; mesh = opened.1 }
 
 pub loop-held-preserved : goal.loop-held-preserved
 loop-held-preserved c = let n = c.loop-held.held in
-    let was = c.loop-held.invariant.1 in
-    let ready = c.link_is.ensures ∙ ap (λ (h : Held). link_is h n 1) was.1 in
-    let taken = c.injected.ensures.value ∙ ap (λ (h : Held). added (inject h 0) 0) was.1 in (
-      omega arith,
-      (
-        (λ i. was.0 i && ready i && taken i) ∙ sym (ready_next n),
-        c.injected.ensures.mesh_after ∙ ap (λ (h : Held). after h (inject h 0)) was.1 ∙ sym (sent_next n),
-      ),
-    )
+    let was = c.loop-held.invariant in
+    let ready = c.link_is.ensures ∙ ap (λ (h : Held). link_is h n 1) was.mesh in
+    let taken = c.injected.ensures.value ∙ ap (λ (h : Held). added (inject h 0) 0) was.mesh in record {
+      right = (λ i. was.right i && ready i && taken i) ∙ sym (ready_next n);
+      mesh = c.injected.ensures.mesh_after ∙ ap (λ (h : Held). after h (inject h 0)) was.mesh ∙ sym (sent_next n);
+    }
 
 pub returns : goal.returns
 unfolding link_fills
 returns c = let n = c.loop-held.held in
     let seven : n ≡ 7 = omega arith in
-    let was = c.loop-held.invariant.1 in
-    let full = c.link_is-2.ensures ∙ ap (λ (h : Held). link_is h 7 0) (was.1 ∙ ap sent seven) in
-    λ i. (was.0 ∙ ap sent_ready seven) i && full i
+    let was = c.loop-held.invariant in
+    let full = c.link_is-2.ensures ∙ ap (λ (h : Held). link_is h 7 0) (was.mesh ∙ ap sent seven) in
+    λ i. (was.right ∙ ap sent_ready seven) i && full i
