@@ -17,10 +17,10 @@ pub fn kept_of(r: Registers, o: Outcome) -> Registers
     if dropped == 0 {
         return r;
     }
-    if is_empty(r) {
+    if r.is_empty() {
         first_drop(o)
     } else {
-        with_units(r, capped_units(capped_units(r.units) + dropped))
+        r.with_units(capped_units(capped_units(r.units) + dropped))
     }
 }
 
@@ -45,25 +45,27 @@ pub fn more_of(units: u32) -> u32
     u32::from(1 < units)
 }
 
-fn is_empty(r: Registers) -> bool
-    ensures { result ≡ is_empty r }
-{
-    r.units == 0
-}
-
 fn capped_units(n: u32) -> u32
     ensures { (result ≡ capped n) × (result ≤ most_units) }
 {
     n.min(MOST_UNITS)
 }
 
-fn with_units(r: Registers, n: u32) -> Registers
-    ensures { result ≡ with_units r n }
-{
-    Registers {
-        more: more_of(n),
-        units: n,
-        ..r
+impl Registers {
+    fn is_empty(self) -> bool
+        ensures { result ≡ is_empty self }
+    {
+        self.units == 0
+    }
+
+    fn with_units(self, n: u32) -> Self
+        ensures { result ≡ with_units self n }
+    {
+        Registers {
+            more: more_of(n),
+            units: n,
+            ..self
+        }
     }
 }
 
