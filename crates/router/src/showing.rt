@@ -1,7 +1,6 @@
 // What the one-router call shows of a pass.
-ghost use Rattle.std.specs.Prelude.{◌≡◌, cond, eqb, ◌<◌};
-ghost use Rattle.router.specs.Showing.{on_leg, on_link, to_processors, packets_of, pass_shown};
-ghost use Rattle.kept.specs.Counting.{zeros, counted_of};
+ghost use Rattle.std.specs.Prelude.{◌≡◌, ◌<◌};
+ghost use Rattle.router.specs.Showing.{on_leg, on_link, to_processors, packets_of, pass_from, no_pass};
 
 use super::Pass;
 use kept::counting::counted_of;
@@ -11,19 +10,19 @@ use packet::Packet;
 use steps::Outcome;
 use steps::deciding::{has_link, leg_packet, packet_on};
 
-// All that a pass did, its registers and counters begun from zeros; or, of a pass that was refused, the number and the
-// place of the refusal and zeros. What needs most room to be worked out comes first, what is mostly zeros last.
-pub fn shown(refusal: u32, place: u32, o: Outcome) -> Pass
+// All that a pass did, its registers and counters begun from zeros. What needs most room to be worked out comes first, what is mostly
+// zeros last.
+pub fn shown(o: Outcome) -> Pass
     requires { (o.sent < 64) × ((o.dropped < 64) × (o.leg_dropped < 64)) }
-    ensures { result ≡ pass_shown refusal place o }
+    ensures { result ≡ pass_from o }
 {
     let packets = packets_of(o);
     let leg = on_leg(o);
     let delivered = to_processors(o);
-    let counters = counts_shown(refusal, o);
+    let counters = counted_of(Counters::default(), o);
     let registers = kept_of(Registers::default(), o);
     Pass {
-        refusal,
+        refusal: 0,
         errors: o.errors,
         wanted: o.wanted,
         sent: o.sent,
@@ -36,19 +35,30 @@ pub fn shown(refusal: u32, place: u32, o: Outcome) -> Pass
         leg,
         registers,
         counters,
-        place,
+        place: 0,
     }
 }
 
-// Of a pass that did not take place nothing is counted.
-fn counts_shown(refusal: u32, o: Outcome) -> Counters
-    requires { o.sent < 64 }
-    ensures { result ≡ cond (eqb refusal 0) (counted_of zeros o) zeros }
+// Of a pass that is refused: the number and the place of the refusal, and zeros.
+pub fn no_pass(refusal: u32, place: u32) -> Pass
+    ensures { result ≡ no_pass refusal place }
 {
-    if refusal == 0 {
-        counted_of(Counters::default(), o)
-    } else {
-        Counters::default()
+    let none = Packet::default();
+    Pass {
+        refusal,
+        errors: 0,
+        wanted: 0,
+        sent: 0,
+        dropped: 0,
+        leg_sent: 0,
+        leg_dropped: 0,
+        processors: 0,
+        delivered: none,
+        packets: [none; 6],
+        leg: none,
+        registers: Registers::default(),
+        counters: Counters::default(),
+        place,
     }
 }
 
