@@ -12,6 +12,7 @@ pub fn join_all(held: &mut [Held], gone: &mut [u32], count: usize) -> usize
     ensures { JoinedAll held.old gone.old count held.new gone.new result }
 {
     let mut pairs = Pairs { rows: count, at: 0 };
+    // The place goes back as well as on, and the rows become fewer: no range counts it.
     while pairs.at + 1 < pairs.rows {
         pairs = past_one(held, gone, pairs);
     }

@@ -15,6 +15,7 @@ pub fn take_out(held: &mut [Held], gone: &mut [u32], count: usize) -> usize
         next: 0,
         count: count,
     };
+    // `pass` moves the walk, and its place is part of what the steps promise each other: a range would count it twice.
     while walk.next < walk.count {
         let next = walk.next;
         let row = held[next];
@@ -35,6 +36,7 @@ pub fn take_out_under(held: &mut [Held], gone: &mut [u32], at: usize, count: usi
         next: at + 2,
         count: count,
     };
+    // `pass` moves the walk, and its place is part of what the steps promise each other: a range would count it twice.
     while walk.next < walk.count {
         let next = walk.next;
         let row = held[next];
