@@ -80,11 +80,6 @@ pub record Stands (width height x y : ℕ) : Type 0 where
 abbrev pub number_of : ℕ → Place → ℕ
 number_of width place = place.y * width + place.x
 
--- The chip that such a part leaves stands at its place.
-pub record LeavesFrom (width height : ℕ) (rest : Rest) : Type 0 where
-  pub there : rest.chip ≡ number_of width rest.place
-  pub stands : Stands width height rest.place.x rest.place.y
-
 -- ---- the tree
 
 pub record Marks (entered routes : List ℕ) : Type 0 where

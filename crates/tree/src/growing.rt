@@ -35,7 +35,7 @@ impl Grown {
     ghost use Rattle.tree.specs.Growing.{targets_of, last_shared, source_alone, within, with_part, with_target, grown_by};
     ghost use Rattle.tree.specs.Rows.{has_row, route_at};
     ghost use Rattle.tree.specs.Call.{all_there, sets_fine};
-    ghost use Rattle.tree.specs.Walking.{Small, LeavesFrom, target_of, part_from, whole_way, with_link, with_set};
+    ghost use Rattle.tree.specs.Walking.{Small, target_of, part_from, whole_way, with_link, with_set};
 
     // The source alone, with nowhere to go.
     pub fn source_alone(source: u32) -> Self
@@ -91,24 +91,19 @@ impl Grown {
     fn last_shared(&self, size: Size, source: u32, way: Way) -> Rest
         requires { (source < size.height * size.width) × Small way }
         ensures part { part_from (links_of way) result ≡ last_shared size.width size.height self.now.entered (whole_way source (links_of way)) source (links_of way) }
-        ensures leaves { LeavesFrom size.width size.height result }
+        ensures leaves { result.chip < size.height * size.width }
     {
         let legs = way.legs();
         let mut place = size.place(source);
         let mut rest = Rest {
             chip: source,
-            place,
             at: 0,
         };
         for j in 0..legs.end {
             place = size.across(place, legs.link_at(j));
             let chip = size.number(place);
             if self.holds(chip) {
-                rest = Rest {
-                    chip,
-                    place,
-                    at: j + 1,
-                };
+                rest = Rest { chip, at: j + 1 };
             }
         }
         rest
@@ -116,12 +111,12 @@ impl Grown {
 
     // The links of that part, one after the other.
     fn add_links(&mut self, size: Size, rest: Rest, way: Way)
-        requires { LeavesFrom size.width size.height rest × Small way }
+        requires { (rest.chip < size.height * size.width) × Small way }
         ensures { self.new ≡ with_part size.width size.height self.old (part_from (links_of way) rest) }
     {
         let legs = way.legs();
         let mut chip = rest.chip;
-        let mut place = rest.place;
+        let mut place = size.place(chip);
         for j in rest.at..legs.end {
             let link = legs.link_at(j);
             place = size.across(place, link);

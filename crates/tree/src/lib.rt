@@ -9,8 +9,6 @@ mod targets;
 mod walking;
 mod ways;
 
-use places::Place;
-
 // What the call answers: the refusal, and how many rows are written, over all chips.
 #[repr(C)]
 #[derive(Clone, Copy)]
@@ -44,10 +42,9 @@ struct Legs {
     upright: u32,
 }
 
-// The part of a way that is still to be added: it leaves `chip`, which stands at `place`, by the link at place `at`.
+// The part of a way that is still to be added: it leaves `chip` by the link at place `at`.
 #[derive(Clone, Copy)]
 struct Rest {
     chip: u32,
-    place: Place,
     at: usize,
 }

@@ -20,7 +20,7 @@ loop-j-preserved c = let at = c.loop-j in
       | then-holds w ↦ rw w.rest-is (record {
         same = at.invariant.same ∙ met s.width s.height legs o here _ at.j _ c.loop-j-test.true c.link_at.ensures leads entered _ (sym c.holds.ensures ∙ w.if-holds.true) ∙ on _;
         stands = c.across-place.ensures.stands;
-        leaves = record { there = c.number-chip.ensures.number; stands = c.across-place.ensures.stands };
+        leaves = c.number-chip.ensures.low;
       })
       | else-holds w ↦ rw w.rest-is (record {
         same = at.invariant.same ∙ not_met s.width s.height legs o here _ at.j _ c.loop-j-test.true c.link_at.ensures leads entered _ (sym c.holds.ensures ∙ w.if-holds.false) ∙ on _;
