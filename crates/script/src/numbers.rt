@@ -1,16 +1,8 @@
 // A word as a number of 32 bits: decimal digits, or 0x and hexadecimal ones.
-ghost use Rattle.std.specs.Prelude.{◌≡◌};
+ghost use Rattle.std.specs.Prelude.{◌≡◌, Some};
 ghost use Rattle.script.specs.Numbers.{digit_of, digits_from, fitting_of, is_hex, number_of, with_digit};
 
-use super::cells::{byte_at, wide};
-
-#[derive(Clone, Copy)]
-pub struct Value {
-    pub good: bool,
-    pub value: u32,
-}
-
-pub fn number(w: &[u8]) -> Value
+pub fn number(w: &[u8]) -> Option<u32>
     ensures { result ≡ number_of w.now }
 {
     if is_hex(w) {
@@ -21,80 +13,51 @@ pub fn number(w: &[u8]) -> Value
 }
 
 // The digits from a place on to the word's end: at least one.
-pub fn digits(w: &[u8], from: usize, hex: bool) -> Value
+#[tactic(auto, using(crate::proofs::Digits::none_stays, crate::proofs::Digits::no_digits, crate::proofs::Digits::some_digits, crate::proofs::Digits::one_taken, crate::proofs::Digits::none_left))]
+pub fn digits(w: &[u8], from: usize, hex: bool) -> Option<u32>
     ensures { result ≡ digits_from from hex w.now }
 {
-    let mut n = Value {
-        good: from < w.len(),
-        value: 0,
-    };
-    let mut i = from;
-    while i < w.len() {
-        n = with_digit(n, digit_of(w[i]), hex);
-        i += 1;
+    if w.len() <= from {
+        return None;
     }
-    n
+    let behind = &w[from..];
+    let mut n = 0;
+    for b in behind {
+        n = with_digit(n, digit_of(*b)?, hex)?;
+    }
+    Some(n)
 }
 
-// A number with one digit more: no number where that is no digit, or the number is too large.
-fn with_digit(n: Value, digit: u32, hex: bool) -> Value
-    ensures { result ≡ with_digit hex n digit }
+// A number with one digit more: none where that is no digit of the base, or the number is too large.
+fn with_digit(n: u32, digit: u32, hex: bool) -> Option<u32>
+    ensures { result ≡ with_digit hex (Some n) (Some digit) }
 {
-    if !n.good {
-        return n;
-    }
     if hex {
-        fitting(n.value as u64 * 16 + digit as u64, digit < 16)
+        fitting(u64::from(n) * 16 + u64::from(digit), digit < 16)
     } else {
-        fitting(n.value as u64 * 10 + digit as u64, digit < 10)
+        fitting(u64::from(n) * 10 + u64::from(digit), digit < 10)
     }
 }
 
-fn fitting(value: u64, good: bool) -> Value
+fn fitting(value: u64, good: bool) -> Option<u32>
     ensures { result ≡ fitting_of value good }
 {
-    if value < 4294967296 {
-        Value {
-            good,
-            value: value as u32,
-        }
+    if good {
+        u32::try_from(value).ok()
     } else {
-        Value {
-            good: false,
-            value: 0,
-        }
+        None
     }
 }
 
-// What a digit stands for: 16 for a byte that is none.
-pub fn digit_of(b: u8) -> u32
+// What a digit stands for.
+pub fn digit_of(b: u8) -> Option<u32>
     ensures { result ≡ digit_of b }
 {
-    if b < 48 {
-        return 16;
-    }
-    if b < 58 {
-        return wide(b) - 48;
-    }
-    if b < 65 {
-        return 16;
-    }
-    if b < 71 {
-        return wide(b) - 55;
-    }
-    if b < 97 {
-        return 16;
-    }
-    if b < 103 {
-        return wide(b) - 87;
-    }
-    16
+    char::from(b).to_digit(16)
 }
 
 fn is_hex(w: &[u8]) -> bool
     ensures { result ≡ is_hex w.now }
 {
-    let zero = byte_at(w, 0);
-    let x = byte_at(w, 1);
-    (zero == b'0') & ((x == b'x') | (x == b'X'))
+    matches!(w, [b'0', b'x' | b'X', ..])
 }

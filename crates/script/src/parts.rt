@@ -1,137 +1,131 @@
-// The parts of a statement: what a word of the line stands for, or what was wanted there.
-use super::complaints as wanted;
+// The parts of a statement, word by word: what a word stands for, or what was wanted there.
+use super::complaints::{Wanted, Wrong};
 use super::names::{code_named, link_named};
 use super::numbers::number;
-use super::words::{same, word};
-use std::num::wrapping_add_usize;
+use super::words::Words;
+use std::fmt;
 
-// What a word stands for, or, where `wanted` is not 0, what was wanted at word `at`.
-#[derive(Clone, Copy)]
-pub struct Part {
-    pub value: u32,
-    pub wanted: u32,
-    pub at: usize,
+// A chip as it is named: by its x and y, or by its number.
+#[derive(Clone, Copy, Debug, PartialEq, Eq)]
+pub enum Place {
+    At { x: u32, y: u32 },
+    Number(u32),
 }
 
-// The first of two parts in which something is wrong.
-pub fn first(a: Part, b: Part) -> Part {
-    if a.wanted != 0 { a } else { b }
-}
-
-pub fn there(value: u32, at: usize) -> Part {
-    Part {
-        value,
-        wanted: 0,
-        at,
+impl Place {
+    // A chip by two numbers of a command: behind an x that no chip has stands the chip's number.
+    pub fn of_numbers(x: u32, y: u32) -> Place {
+        if x == 65536 {
+            Place::Number(y)
+        } else {
+            Place::At { x, y }
+        }
     }
 }
 
-pub fn missing(wanted: u32, at: usize) -> Part {
-    Part {
-        value: 0,
-        wanted,
-        at,
+impl fmt::Display for Place {
+    fn fmt<W: fmt::Write>(&self, f: &mut fmt::Formatter<W>) -> fmt::Result {
+        match *self {
+            Place::At { x, y } => write!(f, "{x} {y}"),
+            Place::Number(n) => write!(f, "{n}"),
+        }
     }
 }
 
-// A number of any 32 bits.
-pub fn number_at(line: &[u8], at: usize) -> Part {
-    within(line, at, wanted::NUMBER, 0, 4294967295)
-}
+impl<'a> Words<'a> {
+    // A number of any 32 bits.
+    pub fn number(&mut self) -> Result<u32, Wrong<'a>> {
+        within(self.word(), Wanted::Number, 0, u32::MAX)
+    }
 
-// What stands for a chip's x where the chip is named by its number.
-pub const BY_NUMBER: u32 = 65536;
+    // A chip: its x and y, or `chip` and its number.
+    pub fn place(&mut self) -> Result<Place, Wrong<'a>> {
+        let x = self.x_of_place()?;
+        self.place_behind(x)
+    }
 
-// The first word of the chip that stands behind the statement's name.
-pub fn x_at(line: &[u8]) -> Part {
-    x_from(line, 1)
-}
+    // The first word of a chip: its x, or none for `chip` before its number.
+    pub fn x_of_place(&mut self) -> Result<Option<u32>, Wrong<'a>> {
+        let found = self.word();
+        match found {
+            b"chip" => Ok(None),
+            _ => Ok(Some(coordinate(found)?)),
+        }
+    }
 
-// The second word of the chip that stands behind the statement's name.
-pub fn y_at(line: &[u8]) -> Part {
-    y_from(line, 1)
-}
+    // The chip whose second word is next: its y, or its number.
+    pub fn place_behind(&mut self, x: Option<u32>) -> Result<Place, Wrong<'a>> {
+        match x {
+            Some(x) => Ok(Place::At {
+                x,
+                y: self.coordinate()?,
+            }),
+            None => Ok(Place::Number(within(self.word(), Wanted::Chip, 0, 65535)?)),
+        }
+    }
 
-// The first word of a chip: its x, or `chip` before its number.
-pub fn x_from(line: &[u8], from: usize) -> Part {
-    if same(word(line, from), b"chip") {
-        there(BY_NUMBER, from)
-    } else {
-        coordinate_at(line, from)
+    // An x or a y: as an ID has it, a byte.
+    pub fn coordinate(&mut self) -> Result<u32, Wrong<'a>> {
+        coordinate(self.word())
+    }
+
+    pub fn size(&mut self) -> Result<u32, Wrong<'a>> {
+        within(self.word(), Wanted::Size, 1, 12)
+    }
+
+    // A named number that may be left out.
+    pub fn option(
+        &mut self,
+        name: &[u8],
+        wanted: Wanted,
+        least: u32,
+        most: u32,
+    ) -> Result<Option<u32>, Wrong<'a>> {
+        if self.ahead() != name {
+            return Ok(None);
+        }
+        self.word();
+        Ok(Some(within(self.word(), wanted, least, most)?))
+    }
+
+    // A word that has to stand here.
+    pub fn exactly(&mut self, name: &[u8], wanted: Wanted) -> Result<(), Wrong<'a>> {
+        let found = self.word();
+        if found == name {
+            Ok(())
+        } else {
+            Err(wanted.at(found))
+        }
+    }
+
+    // The line's end.
+    pub fn end(&mut self, wanted: Wanted) -> Result<(), Wrong<'a>> {
+        self.exactly(b"", wanted)
+    }
+
+    // The name of a file.
+    pub fn name(&mut self) -> Result<&'a [u8], Wrong<'a>> {
+        self.next().ok_or(Wanted::Name.at(b""))
+    }
+
+    pub fn link(&mut self) -> Result<u32, Wrong<'a>> {
+        let found = self.word();
+        link_named(found).ok_or(Wanted::Link.at(found))
+    }
+
+    pub fn code(&mut self) -> Result<u32, Wrong<'a>> {
+        let found = self.word();
+        code_named(found, b"nowhere", b"monitor").ok_or(Wanted::Code.at(found))
     }
 }
 
-// The second word of the chip whose first word stands at one: its y, or its number.
-pub fn y_from(line: &[u8], from: usize) -> Part {
-    let at = wrapping_add_usize(from, 1);
-    if same(word(line, from), b"chip") {
-        within(line, at, wanted::CHIP, 0, 65535)
-    } else {
-        coordinate_at(line, at)
-    }
+fn coordinate(found: &[u8]) -> Result<u32, Wrong<'_>> {
+    within(found, Wanted::Coordinate, 0, 255)
 }
 
-// An x or a y: as an ID has it, a byte.
-pub fn coordinate_at(line: &[u8], at: usize) -> Part {
-    within(line, at, wanted::COORDINATE, 0, 255)
-}
-
-pub fn size_at(line: &[u8], at: usize) -> Part {
-    within(line, at, wanted::SIZE, 1, 12)
-}
-
-fn within(line: &[u8], at: usize, what: u32, least: u32, most: u32) -> Part {
-    let n = number(word(line, at));
-    if n.good & (least <= n.value) & (n.value <= most) {
-        there(n.value, at)
-    } else {
-        missing(what, at)
-    }
-}
-
-// A named number that may be left out: the part says at which word the line goes on.
-pub fn option_at(line: &[u8], at: usize, name: &[u8], what: u32, least: u32, most: u32) -> Part {
-    if !same(word(line, at), name) {
-        return there(0, at);
-    }
-    let n = within(line, wrapping_add_usize(at, 1), what, least, most);
-    if n.wanted != 0 {
-        return n;
-    }
-    there(n.value, wrapping_add_usize(at, 2))
-}
-
-// The line's end.
-pub fn end_at(line: &[u8], at: usize, what: u32) -> Part {
-    if word(line, at).len() == 0 {
-        there(0, at)
-    } else {
-        missing(what, at)
-    }
-}
-
-pub fn name_at(line: &[u8], at: usize) -> Part {
-    if word(line, at).len() == 0 {
-        missing(wanted::NAME, at)
-    } else {
-        there(0, at)
-    }
-}
-
-pub fn link_at(line: &[u8], at: usize) -> Part {
-    let link = link_named(word(line, at));
-    if link < 6 {
-        there(link, at)
-    } else {
-        missing(wanted::LINK, at)
-    }
-}
-
-pub fn code_at(line: &[u8], at: usize) -> Part {
-    let code = code_named(word(line, at), b"nowhere", b"monitor");
-    if code < 8 {
-        there(code, at)
-    } else {
-        missing(wanted::CODE, at)
+fn within(found: &[u8], wanted: Wanted, least: u32, most: u32) -> Result<u32, Wrong<'_>> {
+    match number(found) {
+        Some(n) if (least <= n) & (n <= most) => Ok(n),
+        _ => Err(wanted.at(found)),
     }
 }

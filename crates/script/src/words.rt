@@ -1,89 +1,55 @@
 // The words of a line: what stands between blanks, before a comment.
-ghost use Rattle.std.specs.Prelude.{◌≡◌, true, length};
+ghost use Rattle.std.specs.Prelude.{length};
+ghost use Rattle.std.specs.Iterator.{at_most};
 
-use super::cells::between;
+// The words of a line that are still to come.
+#[derive(Clone, Copy)]
+pub struct Words<'a> {
+    rest: &'a [u8],
+}
 
-// Word n of a line, the first is word 0. It is empty where the line has fewer words.
-pub fn word(line: &[u8], n: usize) -> &[u8] {
-    let from = start_of(line, n);
-    let to = past_word(line, from);
-    between(line, from, to)
+impl<'a> Words<'a> {
+    pub fn of(line: &'a [u8]) -> Words<'a> {
+        Words { rest: line }
+    }
+
+    // The next word, empty at the line's end.
+    pub fn word(&mut self) -> &'a [u8] {
+        self.next().unwrap_or_default()
+    }
+
+    // The same, and it stays the next.
+    pub fn ahead(&self) -> &'a [u8] {
+        let mut ahead = *self;
+        ahead.word()
+    }
+}
+
+impl<'a> Iterator for Words<'a> {
+    type Item = &'a [u8];
+
+    ghost remaining = { λ s. at_most (length s.rest.now) };
+
+    fn next(&mut self) -> Option<&'a [u8]> {
+        let start = self.rest.iter().position(|b| !is_blank(*b))?;
+        let from_word = &self.rest[start..];
+        let (_, behind) = from_word.split_first()?;
+        let more = behind
+            .iter()
+            .position(|b| is_blank(*b))
+            .unwrap_or(behind.len());
+        let (word, rest) = from_word.split_at(more + 1);
+        self.rest = rest;
+        Some(word)
+    }
 }
 
 // The line up to its comment.
 pub fn before_comment(line: &[u8]) -> &[u8] {
-    let to = comment_at(line);
-    between(line, 0, to)
-}
-
-// Whether two words are the same, byte for byte.
-pub fn same(a: &[u8], b: &[u8]) -> bool
-    ensures { (result ≡ true → a.now ≡ b.now) × (a.now ≡ b.now → result ≡ true) }
-{
-    if a.len() != b.len() {
-        return false;
-    }
-    same_bytes(a, b)
-}
-
-fn same_bytes(a: &[u8], b: &[u8]) -> bool
-    requires { length a.now ≡ length b.now }
-    ensures { (result ≡ true → a.now ≡ b.now) × (a.now ≡ b.now → result ≡ true) }
-{
-    let mut i = 0;
-    while i < a.len() {
-        if a[i] != b[i] {
-            return false;
-        }
-        i += 1;
-    }
-    true
-}
-
-fn start_of(line: &[u8], n: usize) -> usize {
-    let mut at = past_blanks(line, 0);
-    let mut left = n;
-    while left > 0 {
-        at = past_blanks(line, past_word(line, at));
-        left -= 1;
-    }
-    at
-}
-
-fn past_blanks(line: &[u8], from: usize) -> usize {
-    let mut i = from;
-    while i < line.len() {
-        if !is_blank(line[i]) {
-            break;
-        }
-        i += 1;
-    }
-    i
-}
-
-fn past_word(line: &[u8], from: usize) -> usize {
-    let mut i = from;
-    while i < line.len() {
-        if is_blank(line[i]) {
-            break;
-        }
-        i += 1;
-    }
-    i
-}
-
-fn comment_at(line: &[u8]) -> usize {
-    let mut i = 0;
-    while i < line.len() {
-        if line[i] == b'#' {
-            break;
-        }
-        i += 1;
-    }
-    i
+    line.split(|b| *b == b'#').next().unwrap_or_default()
 }
 
 // A space, a tab, or the CR of a line that ends in CR LF.
 fn is_blank(b: u8) -> bool {
-    (b == 32) | (b == 9) | (b == 13)
+    matches!(b, b' ' | b'\t' | b'\r')
 }

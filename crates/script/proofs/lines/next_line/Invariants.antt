@@ -1,8 +1,0 @@
--- The loop of `next_line` counts its turns down.
-use Rattle.script.proofs.lines.next_line.Given as goal
-
-abbrev pub invariant-loop-turns : goal.invariant-loop-turns
-invariant-loop-turns l = Unit {0}
-
-abbrev pub decreases-loop-turns : goal.decreases-loop-turns
-decreases-loop-turns l = l.turns

@@ -1,8 +1,0 @@
--- The loop of `start_of` goes past as many words as are left.
-use Rattle.script.proofs.words.start_of.Given as goal
-
-abbrev pub invariant-loop-left : goal.invariant-loop-left
-invariant-loop-left l = Unit {0}
-
-abbrev pub decreases-loop-left : goal.decreases-loop-left
-decreases-loop-left l = l.left
