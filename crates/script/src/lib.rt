@@ -1,6 +1,7 @@
 // A lab's file: its lines, the words of a line, and the statement that a line makes.
 #![tactic(auto)]
 
+pub mod board;
 pub mod cells;
 pub mod complaints;
 pub mod files;

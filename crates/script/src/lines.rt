@@ -1,6 +1,6 @@
 // A file, line by line: of a line the first 4,096 bytes are kept.
 use super::cells::between;
-use super::files::open_read;
+use super::files::{fail, open_read};
 use super::pieces::Bytes;
 use std::io;
 
@@ -66,4 +66,36 @@ impl Lines {
             self.long = true;
         }
     }
+}
+
+// Has each line of a file taken, up to one that is said to be the last. Answers whether the file could be read: if not, that is told.
+pub fn each_line<F: FnMut(Line<'_>) -> io::Result<bool>>(
+    rt: &HostRuntime,
+    file: &[u8],
+    mut take: F,
+) -> io::Result<bool>
+    requires { F.IsAlwaysCallable take }
+{
+    let mut lines = match Lines::open(rt, file) {
+        Ok(lines) => lines,
+        Err(e) => {
+            fail(rt, file, &e)?;
+            return Ok(false);
+        }
+    };
+    for _ in 0..u64::MAX {
+        match lines.next_line() {
+            Ok(Some(line)) => {
+                if !take(line)? {
+                    break;
+                }
+            }
+            Ok(None) => break,
+            Err(e) => {
+                fail(rt, file, &e)?;
+                return Ok(false);
+            }
+        }
+    }
+    Ok(true)
 }

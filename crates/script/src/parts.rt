@@ -1,4 +1,6 @@
 // The parts of a statement, word by word: what a word stands for, or what was wanted there.
+ghost use Rattle.std.specs.Prelude.{◌≤◌, IfOk};
+
 use super::complaints::{Wanted, Wrong};
 use super::names::{code_named, link_named};
 use super::numbers::number;
@@ -69,7 +71,9 @@ impl<'a> Words<'a> {
         coordinate(self.word())
     }
 
-    pub fn size(&mut self) -> Result<u32, Wrong<'a>> {
+    pub fn size(&mut self) -> Result<u32, Wrong<'a>>
+        ensures { IfOk result (λ n. (1 ≤ n) × (n ≤ 12)) }
+    {
         within(self.word(), Wanted::Size, 1, 12)
     }
 
@@ -123,7 +127,9 @@ fn coordinate(found: &[u8]) -> Result<u32, Wrong<'_>> {
     within(found, Wanted::Coordinate, 0, 255)
 }
 
-fn within(found: &[u8], wanted: Wanted, least: u32, most: u32) -> Result<u32, Wrong<'_>> {
+fn within(found: &[u8], wanted: Wanted, least: u32, most: u32) -> Result<u32, Wrong<'_>>
+    ensures { IfOk result (λ n. (least ≤ n) × (n ≤ most)) }
+{
     match number(found) {
         Some(n) if (least <= n) & (n <= most) => Ok(n),
         _ => Err(wanted.at(found)),

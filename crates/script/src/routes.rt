@@ -48,6 +48,11 @@ fn span(low: u32, high: u32) -> Option<u32> {
     }
 }
 
+// Whether a route, or another set of 32 bits, has a bit.
+pub fn has(set: u32, i: u32) -> bool {
+    set & bit(i) != 0
+}
+
 fn bit(i: u32) -> u32 {
     1u32.checked_shl(i).unwrap_or(0)
 }

@@ -1,4 +1,5 @@
 // What a line says: one statement, or what is wrong with it.
+use super::board::Board;
 use super::complaints::{Wanted, Wrong};
 use super::parts::Place;
 use super::sendings;
@@ -8,12 +9,7 @@ use packet::Packet;
 #[derive(Clone, Copy)]
 pub enum Statement<'a> {
     Nothing,
-    Mesh {
-        width: u32,
-        height: u32,
-        phase: u32,
-        monitor: u32,
-    },
+    Mesh(Board),
     Row {
         place: Place,
         key: u32,
@@ -94,12 +90,12 @@ fn mesh(mut words: Words<'_>) -> Said<'_> {
     let phase = words.option(b"phase", Wanted::Phase, 1, 65535)?;
     let monitor = words.option(b"monitor", Wanted::Monitor, 0, 19)?;
     words.end(Wanted::MeshMore)?;
-    Ok(Statement::Mesh {
+    Ok(Statement::Mesh(Board {
         width,
         height,
         phase: phase.unwrap_or(16),
         monitor: monitor.unwrap_or(0),
-    })
+    }))
 }
 
 fn row(mut words: Words<'_>) -> Said<'_> {

@@ -1,8 +1,4 @@
-// The mesh that FILE asks for, and how much memory the largest takes.
-ghost use Rattle.std.specs.Prelude.{◌≤◌};
-
-use script::parts::BY_NUMBER;
-use std::num::wrapping_add_u32;
+// How much memory the largest mesh takes.
 
 // Chips, and rows of a chip.
 pub const CHIPS: usize = 144;
@@ -23,67 +19,10 @@ pub const WORDS: usize = 46806;
 
 pub const LOG: usize = 41472;
 
-// No chip has this number.
-pub const NO_CHIP: u32 = 65535;
-
 // The lowest route bit that names neither a link nor a processor.
 const LEAST_BAD: u32 = 26;
 
-// Width 0 stands for no mesh.
-#[derive(Clone, Copy)]
-pub struct Board {
-    pub width: u32,
-    pub height: u32,
-    pub phase: u32,
-    pub monitor: u32,
-}
-
-pub fn no_board() -> Board {
-    Board {
-        width: 0,
-        height: 0,
-        phase: 0,
-        monitor: 0,
-    }
-}
-
-// How many chips there are: at most 144.
-pub fn chips(b: Board) -> u32 {
-    times(b.width, b.height)
-}
-
-// The chip at x and y, or the chip that y is the number of; a number that no chip has where there is none.
-pub fn chip_at(b: Board, x: u32, y: u32) -> u32 {
-    if (x < b.width) & (y < b.height) {
-        return wrapping_add_u32(times(b.width, y), x);
-    }
-    if (x == BY_NUMBER) & (y < chips(b)) {
-        return y;
-    }
-    NO_CHIP
-}
-
-pub fn x_of(b: Board, chip: u32) -> u32 {
-    if b.width == 0 { 0 } else { chip % b.width }
-}
-
-pub fn y_of(b: Board, chip: u32) -> u32 {
-    if b.width == 0 { 0 } else { chip / b.width }
-}
-
-// A product of two numbers of chips, or of a mesh's sides: 0 where one of them is none.
-pub fn times(a: u32, b: u32) -> u32
-    ensures { result ≤ 20736 }
-{
-    if a <= 144 {
-        if b <= 144 {
-            return a * b;
-        }
-    }
-    0
-}
-
 // The lowest bit above 25 that a route has.
 pub fn bad_bit(route: u32) -> u32 {
-    wrapping_add_u32(LEAST_BAD, u32::trailing_zeros(route >> LEAST_BAD))
+    LEAST_BAD + u32::trailing_zeros(route >> LEAST_BAD)
 }

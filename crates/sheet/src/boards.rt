@@ -1,136 +1,69 @@
 // Rows as read back from a board: 16 bytes each, little-endian, two numbers of 16 bits, then route, key and mask.
-use super::board::{ROWS, STARTS};
-use super::storing::keep_row;
-use script::pieces::{Bytes, FAILED, GOES_ON, PIECE, bytes_of, next_byte};
-use std::fs::File;
-use std::num::wrapping_add_u64;
+use super::storing::Sheet;
+use script::files::open_read;
+use script::pieces::Bytes;
+use std::io;
+use tables::Row;
 
-// What reading a file of rows came to.
-pub const FINE: u32 = 0;
-
-pub const UNREAD: u32 = 1;
-
-pub const CUT: u32 = 2;
-
-pub const BAD_ROUTE: u32 = 3;
-
-pub const TOO_MANY: u32 = 4;
-
-#[derive(Clone, Copy)]
-pub struct Rows {
-    pub bytes: Bytes,
-    pub chip: u32,
-    // How many rows are read, how many bytes of the next, and what has come of it.
-    pub count: u64,
-    pub place: u32,
-    pub word: u32,
-    pub route: u32,
-    pub key: u32,
-    pub trouble: u32,
-    pub going: bool,
+// What is wrong with a file of rows.
+#[derive(Drop)]
+pub enum RowsFault {
+    Unread(io::Error),
+    Cut,
+    TooMany,
+    // A route bit that names nothing, and which row of the file has it.
+    BadRoute { route: u32, row: u64 },
 }
 
-// Reads the rows of a chip from an open file.
+impl From<io::Error> for RowsFault {
+    fn from(e: io::Error) -> RowsFault {
+        RowsFault::Unread(e)
+    }
+}
+
+// Reads the rows of a chip from a file. Rows past the chip's 1,024 are counted, and are told where nothing else is wrong.
 pub fn read_rows(
-    from: &File,
+    rt: &HostRuntime,
+    path: &[u8],
     chip: u32,
-    rows: &mut [u32; ROWS],
-    counts: &mut [u32; STARTS],
-) -> Rows {
-    let mut piece = [0u8; PIECE];
-    let mut r = begun(chip);
-    let mut turns = u64::MAX;
-    while turns > 0 {
-        if !r.going {
+    sheet: &mut Sheet,
+) -> Result<(), RowsFault> {
+    let mut bytes = Bytes::of(open_read(rt, path)?);
+    let mut room = true;
+    for before in 0..u64::MAX {
+        let Some(row) = next_row(&mut bytes)? else {
             break;
+        };
+        // A route whose highest byte is all ones is that of a row not used, which is left out.
+        if row.route >> 24 == 255 {
+            continue;
         }
-        r = take_byte(r, from, &mut piece, rows, counts);
-        turns -= 1;
-    }
-    r
-}
-
-fn begun(chip: u32) -> Rows {
-    let bytes = bytes_of();
-    Rows {
-        bytes,
-        chip,
-        count: 0,
-        place: 0,
-        word: 0,
-        route: 0,
-        key: 0,
-        trouble: FINE,
-        going: true,
-    }
-}
-
-fn take_byte(
-    before: Rows,
-    from: &File,
-    piece: &mut [u8; PIECE],
-    rows: &mut [u32; ROWS],
-    counts: &mut [u32; STARTS],
-) -> Rows {
-    let now = before.bytes;
-    let bytes = next_byte(now, from, piece);
-    let mut r = before;
-    r.bytes = bytes;
-    if bytes.state != GOES_ON {
-        return ended(r, bytes.state);
-    }
-    // Four bytes shifted in from above are a little-endian word.
-    r.word = (r.word >> 8) | ((bytes.byte as u32) << 24);
-    with_word(r, rows, counts)
-}
-
-fn ended(before: Rows, state: u32) -> Rows {
-    let mut r = before;
-    r.going = false;
-    if r.place != 0 {
-        r.trouble = CUT;
-    }
-    if state == FAILED {
-        r.trouble = UNREAD;
-    }
-    r
-}
-
-// The word that is whole now, if one is.
-fn with_word(before: Rows, rows: &mut [u32; ROWS], counts: &mut [u32; STARTS]) -> Rows {
-    let mut r = before;
-    let place = r.place;
-    match place {
-        7 => {
-            r.route = r.word;
+        if row.route >> 26 != 0 {
+            return Err(RowsFault::BadRoute {
+                route: row.route,
+                row: before + 1,
+            });
         }
-        11 => {
-            r.key = r.word;
-        }
-        _ => {}
+        room &= sheet.keep_row(chip, row);
     }
-    if place < 15 {
-        r.place = place + 1;
-        return r;
+    if room {
+        Ok(())
+    } else {
+        Err(RowsFault::TooMany)
     }
-    r.place = 0;
-    r.count = wrapping_add_u64(r.count, 1);
-    with_row(r, rows, counts)
 }
 
-// A whole row. A route whose highest byte is all ones is that of a row not used, which is left out.
-fn with_row(before: Rows, rows: &mut [u32; ROWS], counts: &mut [u32; STARTS]) -> Rows {
-    let mut r = before;
-    if r.route >> 24 == 255 {
-        return r;
+// The next row: none at the file's end.
+fn next_row(bytes: &mut Bytes) -> Result<Option<Row>, RowsFault> {
+    let mut words = [0u32; 4];
+    for n in 0..16 {
+        match bytes.next_byte()? {
+            // Four bytes shifted in from above are a little-endian word.
+            Some(b) => words[n / 4] = (words[n / 4] >> 8) | (u32::from(b) << 24),
+            None if n == 0 => return Ok(None),
+            None => return Err(RowsFault::Cut),
+        }
     }
-    if r.route >> 26 != 0 {
-        r.trouble = BAD_ROUTE;
-        r.going = false;
-        return r;
-    }
-    if !keep_row(rows, counts, r.chip, r.key, r.word, r.route) {
-        r.trouble = TOO_MANY;
-    }
-    r
+    let [_, route, key, mask] = words;
+    Ok(Some(Row { key, mask, route }))
 }

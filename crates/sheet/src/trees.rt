@@ -1,213 +1,124 @@
 // A `tree` line: the chips and processors that it names, and the rows that lead a packet there.
-use super::board::{Board, CHIPS, NO_CHIP, STARTS, chip_at, chips};
-use super::storing::first_words;
-use super::wrongs::{Reading, off_mesh, outside_mask, wrong_chip, wrong_word};
-use script::cells::{put_word, word_at};
+use super::board::{CHIPS, STARTS};
+use super::faults::{Fault, chip_named};
+use super::storing::row_at;
+use script::board::Board;
+use script::cells::{at, between, put};
 use script::statements::{Statement, read_statement};
-use script::targets::{Target, target_at};
-use std::io;
-use std::num::wrapping_add_usize;
+use script::words::Words;
+use tables::Row;
 use tree::call::tree;
 
 // Two words a target, three words a row, and one of either a chip at the most.
 const TARGETS: usize = 288;
 
-pub const TREE: usize = 432;
+const TREE: usize = 432;
 
-// The word of a line that its targets begin at.
-const FIRST: usize = 6;
+// A tree's rows, and where each chip's start.
+#[derive(Clone, Copy)]
+pub struct Grown {
+    rows: [u32; TREE],
+    starts: [u32; STARTS],
+}
 
-// What reading the targets came to.
-const FINE: u32 = 0;
+impl Grown {
+    // The tree's row at a chip, if it has one.
+    pub fn row_of(&self, chip: u32) -> Option<Row> {
+        let chip = chip as usize;
+        let first = at(&self.starts, chip);
+        if first == at(&self.starts, chip + 1) {
+            None
+        } else {
+            Some(row_at(&self.rows, first as usize))
+        }
+    }
+}
 
-const WORD: u32 = 1;
-
-const NOT_THERE: u32 = 2;
-
-const AGAIN: u32 = 3;
-
+// The targets of a line: a chip and its processors each.
 #[derive(Clone, Copy)]
 struct Targets {
-    // How many words of targets there are, the target that was read last, and its chip.
+    words: [u32; TARGETS],
     count: usize,
-    last: Target,
-    chip: u32,
-    trouble: u32,
-    // The word that the next target begins at, where there is one.
-    at: usize,
-    going: bool,
 }
 
 // At FILE's first reading: the line is looked at, and its rows are left for the second.
-pub fn with_tree(
-    rt: &HostRuntime,
-    before: Reading,
-    x: u32,
-    y: u32,
+pub fn look_at_targets<'a>(
+    board: Board,
     key: u32,
     mask: u32,
-    line: &[u8],
-) -> io::Result<Reading> {
-    let mut r = before;
-    r.tree = true;
-    if chip_at(r.board, x, y) == NO_CHIP {
-        return off_mesh(rt, r, x, y);
-    }
+    targets: Words<'a>,
+) -> Result<(), Fault<'a>> {
     if key & mask != key {
-        return outside_mask(rt, r, key ^ (key & mask));
+        return Err(Fault::OutsideMask(key ^ (key & mask)));
     }
-    let mut targets = [0u32; TARGETS];
-    let t = targets_of(r.board, line, &mut targets);
-    let last = t.last;
-    let trouble = t.trouble;
-    match trouble {
-        FINE => Ok(r),
-        WORD => wrong_word(rt, r, line, last.wanted, last.at),
-        NOT_THERE => off_mesh(rt, r, last.x, last.y),
-        _ => wrong_chip(
-            rt,
-            r,
-            t.chip,
-            b" is named twice: it stands once, with all its processors\n",
-        ),
-    }
+    targets_of(board, targets)?;
+    Ok(())
 }
 
-// Writes the rows of a line's tree and where each chip's rows start. Answers whether the line has a tree.
-pub fn grow(b: Board, line: &[u8], own: &mut [u32; TREE], starts: &mut [u32; STARTS]) -> bool {
+// The tree of a line, if it has one.
+pub fn grow(board: Board, line: &[u8]) -> Option<Grown> {
     match read_statement(line) {
-        Statement::Tree { x, y, key, mask } => grow_from(
-            b,
-            chip_at(b, x, y),
-            key,
-            mask,
-            line,
-            own,
-            starts,
-        ),
-        _ => false,
+        Ok(
+            Statement::Tree {
+                place,
+                key,
+                mask,
+                targets,
+            },
+        ) => {
+            let source = board.chip(place)?;
+            let targets = targets_of(board, targets).ok()?;
+            grow_from(
+                board,
+                source,
+                key,
+                mask,
+                between(&targets.words, 0, targets.count),
+            )
+        }
+        _ => None,
     }
 }
 
-fn grow_from(
-    b: Board,
-    source: u32,
-    key: u32,
-    mask: u32,
-    line: &[u8],
-    own: &mut [u32; TREE],
-    starts: &mut [u32; STARTS],
-) -> bool {
-    let mut targets = [0u32; TARGETS];
-    let t = targets_of(b, line, &mut targets);
-    grow_to(
-        b,
+fn grow_from(board: Board, source: u32, key: u32, mask: u32, targets: &[u32]) -> Option<Grown> {
+    let mut grown = Grown {
+        rows: [0; TREE],
+        starts: [0; STARTS],
+    };
+    let room = board.chips() as usize + 1;
+    let t = tree(
+        board.width,
+        board.height,
         source,
         key,
         mask,
-        targets_in(&targets, t.count),
-        own,
-        starts,
-    )
-}
-
-// The targets of so many words.
-fn targets_in(targets: &[u32; TARGETS], count: usize) -> &[u32] {
-    first_words(targets, count)
-}
-
-fn grow_to(
-    b: Board,
-    source: u32,
-    key: u32,
-    mask: u32,
-    targets: &[u32],
-    own: &mut [u32],
-    starts: &mut [u32],
-) -> bool {
-    let room = chips(b) as usize + 1;
-    if room <= starts.len() {
-        let t = tree(
-            b.width,
-            b.height,
-            source,
-            key,
-            mask,
-            targets,
-            own,
-            &mut starts[0..room],
-        );
-        return t.refusal == 0;
-    }
-    false
-}
-
-// Whether a tree has a row at a chip.
-pub fn has_row(starts: &[u32; STARTS], chip: u32) -> bool {
-    let at = chip as usize;
-    word_at(starts, at) != word_at(starts, wrapping_add_usize(at, 1))
+        targets,
+        &mut grown.rows,
+        &mut grown.starts[..room],
+    );
+    if t.refusal == 0 { Some(grown) } else { None }
 }
 
 // The targets of a line in order, up to one that is wrong. One more than there are chips is named twice.
-fn targets_of(b: Board, line: &[u8], targets: &mut [u32; TARGETS]) -> Targets {
-    let mut named = [0u32; CHIPS];
-    let mut t = none_yet(line);
-    let mut n = 0;
-    while n <= CHIPS {
-        if !t.going {
+fn targets_of<'a>(board: Board, mut words: Words<'a>) -> Result<Targets, Fault<'a>> {
+    let mut named = [false; CHIPS];
+    let mut targets = Targets {
+        words: [0; TARGETS],
+        count: 0,
+    };
+    for n in 0..CHIPS + 1 {
+        let target = words.target()?;
+        let chip = chip_named(board, target.place)?;
+        if at(&named, chip as usize) {
+            return Err(Fault::NamedTwice(board.place(chip)));
+        }
+        put(&mut named, chip as usize, true);
+        put(&mut targets.words, 2 * n, chip);
+        put(&mut targets.words, 2 * n + 1, target.set);
+        targets.count = 2 * n + 2;
+        if !target.more {
             break;
         }
-        t = with_target(t, b, line, &mut named, targets);
-        n += 1;
     }
-    t
-}
-
-fn none_yet(line: &[u8]) -> Targets {
-    let last = target_at(line, FIRST);
-    Targets {
-        count: 0,
-        last,
-        chip: NO_CHIP,
-        trouble: FINE,
-        at: FIRST,
-        going: true,
-    }
-}
-
-fn with_target(
-    before: Targets,
-    b: Board,
-    line: &[u8],
-    named: &mut [u32; CHIPS],
-    targets: &mut [u32; TARGETS],
-) -> Targets {
-    let last = target_at(line, before.at);
-    let chip = chip_at(b, last.x, last.y);
-    let trouble = trouble_of(last, chip, word_at(named, chip as usize) != 0);
-    let mut count = before.count;
-    if trouble == FINE {
-        put_word(named, chip as usize, 1);
-        put_word(targets, count, chip);
-        put_word(targets, wrapping_add_usize(count, 1), last.set);
-        count = wrapping_add_usize(count, 2);
-    }
-    Targets {
-        count,
-        last,
-        chip,
-        trouble,
-        at: wrapping_add_usize(last.at, 1),
-        going: last.more & (trouble == FINE),
-    }
-}
-
-fn trouble_of(last: Target, chip: u32, again: bool) -> u32 {
-    if last.wanted != 0 {
-        return WORD;
-    }
-    if chip == NO_CHIP {
-        return NOT_THERE;
-    }
-    if again { AGAIN } else { FINE }
+    Ok(targets)
 }

@@ -1,0 +1,82 @@
+// The mesh that FILE asks for, and the names of its chips.
+ghost use Rattle.std.specs.Prelude.{◌<◌, ◌≤◌};
+
+use super::parts::Place;
+
+#[derive(Clone, Copy, Debug, PartialEq, Eq)]
+pub struct Board {
+    pub width: u32,
+    pub height: u32,
+    pub phase: u32,
+    pub monitor: u32,
+    pub ghost some_wide: { 0 < width },
+    pub ghost most_wide: { width ≤ 12 },
+    pub ghost some_high: { 0 < height },
+    pub ghost most_high: { height ≤ 12 },
+}
+
+impl Board {
+    // How many chips there are.
+    pub fn chips(self) -> u32
+        ensures some { 0 < result }
+        ensures most { result ≤ 144 }
+    {
+        self.width * self.height
+    }
+
+    // How many codes there are: one of each chip for each.
+    pub fn codes(self) -> usize
+        ensures { result ≤ 20736 }
+    {
+        let chips = self.chips() as usize;
+        chips * chips
+    }
+
+    // The chip that is named so, if there is one.
+    pub fn chip(self, place: Place) -> Option<u32> {
+        match place {
+            Place::At { x, y } if (x < self.width) & (y < self.height) => Some(y * self.width + x),
+            Place::Number(n) if n < self.chips() => Some(n),
+            _ => None,
+        }
+    }
+
+    // A chip's name by its x and y.
+    pub fn place(self, chip: u32) -> Place {
+        Place::At {
+            x: self.x_of(chip),
+            y: self.y_of(chip),
+        }
+    }
+
+    pub fn x_of(self, chip: u32) -> u32
+        ensures { result < self.width }
+    {
+        chip % self.width
+    }
+
+    pub fn y_of(self, chip: u32) -> u32 {
+        chip / self.width
+    }
+
+    // The chip at the other end of a link: 0 east, 1 north-east, 2 north, 3 west, 4 south-west, 5 south. The mesh wraps.
+    pub fn beyond(self, chip: u32, link: u32) -> u32 {
+        let (west, south) = (self.width - 1, self.height - 1);
+        let (by_x, by_y) = match link {
+            0 => (1, 0),
+            1 => (1, 1),
+            2 => (0, 1),
+            3 => (west, 0),
+            4 => (west, south),
+            _ => (0, south),
+        };
+        let x = (self.x_of(chip) + by_x) % self.width;
+        let y = self.y_of(chip).wrapping_add(by_y) % self.height;
+        y * self.width + x
+    }
+}
+
+// The link that a packet sent by a link arrives by, and the other way round.
+pub fn opposite(link: u32) -> u32 {
+    (link % 6 + 3) % 6
+}
