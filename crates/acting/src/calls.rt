@@ -11,8 +11,8 @@ use packet::control::carries_of;
 use report::course::{Course, answered, answered_lent, going_on};
 use report::telling::{place, small, tell_packet, text};
 use script::cells::between;
-use script::names::say_link;
-use sheet::board::{LOG, WORDS, x_of, y_of};
+use script::names::link_name;
+use sheet::board::{LOG, WORDS};
 use std::fs::File;
 use std::io;
 use std::num::wrapping_add_u64;
@@ -223,7 +223,7 @@ pub fn registers(
         let b = c.board;
         let found = r.registers;
         text(rt, b"registers ")?;
-        place(rt, x_of(b, chip), y_of(b, chip))?;
+        place(rt, b.x_of(chip), b.y_of(chip))?;
         tell_registers(rt, found)?;
     }
     Ok(kept(c, r.refusal, registers_read(chip), trace))
@@ -235,7 +235,7 @@ fn tell_registers(rt: &HostRuntime, r: Registers) -> io::Result<()> {
         return Ok(());
     }
     text(rt, b": dropped at link ")?;
-    say_link(&mut rt.stdout(), r.link)?;
+    text(rt, link_name(r.link).as_bytes())?;
     if r.leg == 1 {
         text(rt, b" (second leg)")?;
     }
@@ -250,7 +250,7 @@ fn tell_registers(rt: &HostRuntime, r: Registers) -> io::Result<()> {
 fn tell_source(rt: &HostRuntime, source: u32) -> io::Result<()> {
     if source < 6 {
         text(rt, b", came in by link ")?;
-        say_link(&mut rt.stdout(), source)?;
+        text(rt, link_name(source).as_bytes())?;
     } else {
         text(rt, b", local")?;
     }

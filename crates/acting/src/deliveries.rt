@@ -2,8 +2,8 @@
 use packet::control::{carries_of, is_marked, mark_of};
 use report::course::Course;
 use report::telling::{number, place, small, tell_packet, text};
-use script::cells::word_at;
-use sheet::board::{LOG, x_of, y_of};
+use script::cells::item;
+use sheet::board::LOG;
 use std::io;
 use std::num::wrapping_add_u64;
 
@@ -52,12 +52,12 @@ fn tell_one(
 fn record_at(log: &[u32; LOG], i: u32) -> Delivery {
     let at = (i as usize) * 6;
     Delivery {
-        chip: word_at(log, at),
-        processors: word_at(log, at + 1),
-        errors: word_at(log, at + 2),
-        control: word_at(log, at + 3),
-        word: word_at(log, at + 4),
-        payload: word_at(log, at + 5),
+        chip: item(log, at),
+        processors: item(log, at + 1),
+        errors: item(log, at + 2),
+        control: item(log, at + 3),
+        word: item(log, at + 4),
+        payload: item(log, at + 5),
     }
 }
 
@@ -66,7 +66,7 @@ fn tell_delivery(rt: &HostRuntime, c: Course, d: Delivery) -> io::Result<()> {
     text(rt, b"round ")?;
     number(rt, c.rounds)?;
     text(rt, b"  chip ")?;
-    place(rt, x_of(b, d.chip), y_of(b, d.chip))?;
+    place(rt, b.x_of(d.chip), b.y_of(d.chip))?;
     text(rt, b" ")?;
     tell_processors(rt, d.processors)?;
     text(rt, b"  ")?;

@@ -3,8 +3,9 @@ use flood::flooding::flood;
 use packet::refused::told;
 use report::course::{Course, answered};
 use report::telling::{number, place, text};
-use script::cells::{between, byte_at};
-use sheet::board::{Board, CODES, WORDS, chips, times, x_of, y_of};
+use script::board::Board;
+use script::cells::{between, item};
+use sheet::board::{CODES, WORDS};
 use std::io;
 use std::num::wrapping_add_u64;
 
@@ -28,7 +29,7 @@ pub fn flooded(
 
 // How many codes a mesh has.
 pub fn all_codes(b: Board) -> usize {
-    times(chips(b), chips(b)) as usize
+    b.codes()
 }
 
 // Floods the first codes of the room.
@@ -56,7 +57,7 @@ fn tell_unreached(rt: &HostRuntime, c: Course, codes: &[u8]) -> io::Result<u64> 
 
 // The chips that the code at a place is of and for.
 fn tell_pair(rt: &HostRuntime, b: Board, at: usize) -> io::Result<()> {
-    let all = chips(b);
+    let all = b.chips();
     if all != 0 {
         if at < 20736 {
             tell_place(rt, b, at as u32 / all)?;
@@ -68,14 +69,14 @@ fn tell_pair(rt: &HostRuntime, b: Board, at: usize) -> io::Result<()> {
 }
 
 fn tell_place(rt: &HostRuntime, b: Board, chip: u32) -> io::Result<()> {
-    place(rt, x_of(b, chip), y_of(b, chip))
+    place(rt, b.x_of(chip), b.y_of(chip))
 }
 
 fn unreached(codes: &[u8]) -> u64 {
     let mut n = 0;
     let mut i = 0;
     while i < codes.len() {
-        n = wrapping_add_u64(n, one_if_nowhere(byte_at(codes, i)));
+        n = wrapping_add_u64(n, one_if_nowhere(item(codes, i)));
         i += 1;
     }
     n
@@ -89,7 +90,7 @@ fn one_if_nowhere(code: u8) -> u64 {
 fn first_unreached(codes: &[u8]) -> usize {
     let mut i = 0;
     while i < codes.len() {
-        if byte_at(codes, i) == NOWHERE {
+        if item(codes, i) == NOWHERE {
             break;
         }
         i += 1;

@@ -7,8 +7,8 @@ use mesh::FlightRead;
 use packet::Packet;
 use packet::bytes::bytes_of;
 use report::telling::{number, text};
-use sheet::board::{Board, LOG, WORDS, chips};
-use sheet::sides::{beyond, opposite};
+use script::board::{Board, opposite};
+use sheet::board::{LOG, WORDS};
 use std::io;
 use std::num::wrapping_add_u64;
 
@@ -89,7 +89,7 @@ fn tell_round(
     codes: &[u8],
     fixed: &[u32],
 ) -> io::Result<()> {
-    let all = chips(b);
+    let all = b.chips();
     let mut chip = 0;
     while chip < all {
         tell_chip(rt, b, number, chip, mesh, rows, starts, codes, fixed)?;
@@ -158,5 +158,5 @@ fn tell_arrival(
 
 // The packet at a place of the link that leads to a chip's link.
 fn flight_to(b: Board, chip: u32, source: u32, place: u32, mesh: &[u32; WORDS]) -> FlightRead {
-    look_flight(mesh, beyond(b, chip, source), opposite(source), place)
+    look_flight(mesh, b.beyond(chip, source), opposite(source), place)
 }

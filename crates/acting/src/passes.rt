@@ -9,10 +9,11 @@ use packet::control::{is_fixed, mark_of};
 use report::telling::{number, place, text};
 use router::Pass;
 use router::call::pass;
-use script::cells::{between, word_at};
-use script::names::say_link;
-use sheet::board::{Board, WORDS, chips, times, x_of, y_of};
-use sheet::storing::rows_of;
+use script::board::Board;
+use script::cells::{between, item};
+use script::names::link_name;
+use sheet::board::WORDS;
+use sheet::storing::word_of;
 use std::io;
 use std::num::wrapping_add_usize;
 use steps::Setting;
@@ -34,7 +35,7 @@ pub fn tell_pass(
     codes: &[u8],
     fixed: &[u32],
 ) -> io::Result<u32> {
-    let own = rows_of(chip, rows, starts);
+    let own = rows_at(chip, rows, starts);
     let o = pass_at(
         b,
         chip,
@@ -44,12 +45,19 @@ pub fn tell_pass(
         mesh,
         own,
         codes,
-        word_at(fixed, chip as usize),
+        item(fixed, chip as usize),
     );
     tell_place(rt, b, round, chip, source)?;
     tell_match(rt, own, p, source, o.errors)?;
     tell_outcome(rt, o, mark_of(p.control))?;
     Ok(after(spent, o.sent, o.leg_sent))
+}
+
+// The rows of a chip.
+fn rows_at<'a>(chip: u32, rows: &'a [u32], starts: &[u32]) -> &'a [u32] {
+    let from = word_of(item(starts, chip as usize) as usize);
+    let to = word_of(item(starts, chip as usize + 1) as usize);
+    between(rows, from, to)
 }
 
 // The pass as the one-router call makes it.
@@ -66,8 +74,8 @@ fn pass_at(
 ) -> Pass {
     let packed = bytes_of(p);
     let bytes = packed.bytes;
-    let all = chips(b);
-    let from = times(chip, all) as usize;
+    let all = b.chips();
+    let from = chip as usize * all as usize;
     let t = Setting {
         width: b.width,
         height: b.height,
@@ -89,10 +97,10 @@ fn tell_place(rt: &HostRuntime, b: Board, round: u64, chip: u32, source: u32) ->
     text(rt, b"round ")?;
     number(rt, round)?;
     text(rt, b"  chip ")?;
-    place(rt, x_of(b, chip), y_of(b, chip))?;
+    place(rt, b.x_of(chip), b.y_of(chip))?;
     if source < 6 {
         text(rt, b"  in by ")?;
-        say_link(&mut rt.stdout(), source)?;
+        text(rt, link_name(source).as_bytes())?;
     } else {
         text(rt, b"  local")?;
     }
@@ -178,7 +186,7 @@ fn tell_sent(rt: &HostRuntime, o: Pass) -> io::Result<()> {
 
 fn tell_link(rt: &HostRuntime, link: u32, mark: u32) -> io::Result<()> {
     text(rt, b"  out by ")?;
-    say_link(&mut rt.stdout(), link)?;
+    text(rt, link_name(link).as_bytes())?;
     match mark {
         0 => text(rt, b": normal"),
         1 => text(rt, b": with a detour's copy"),
@@ -201,7 +209,7 @@ fn tell_dropped(rt: &HostRuntime, name: &[u8], set: u32) -> io::Result<()> {
 fn tell_lost(rt: &HostRuntime, name: &[u8], link: u32) -> io::Result<()> {
     text(rt, name)?;
     text(rt, b" ")?;
-    say_link(&mut rt.stdout(), link)
+    text(rt, link_name(link).as_bytes())
 }
 
 // The link of a set of one.

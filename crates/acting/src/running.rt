@@ -5,25 +5,21 @@ use packet::Packet;
 use packet::bytes::bytes_of;
 use report::course::Course;
 use script::cells::between;
-use script::lines::{LINE, LINE_THERE, Lines, lines_of, next_line};
-use script::pieces::PIECE;
+use script::lines::Lines;
+use script::parts::Place;
 use script::statements::{Statement, read_statement};
 use script::words::before_comment;
-use sheet::board::{CODES, LOG, WORDS, chip_at};
+use sheet::board::{CODES, LOG, WORDS};
 use std::fs::File;
 use std::io;
 
-#[derive(Clone, Copy)]
-struct Run {
-    lines: Lines,
-    course: Course,
-    going: bool,
-}
+// No chip has this number.
+const NO_CHIP: u32 = 65535;
 
 // Makes the calls of FILE. What was read once is taken to be the same again.
 pub fn run_file(
     rt: &HostRuntime,
-    from: &File,
+    from: File,
     before: Course,
     trace: Option<&File>,
     mesh: &mut [u32; WORDS],
@@ -32,60 +28,19 @@ pub fn run_file(
     starts: &[u32],
     codes: &mut [u8; CODES],
     fixed: &[u32],
-    piece: &mut [u8; PIECE],
-    line: &mut [u8; LINE],
 ) -> io::Result<Course> {
-    let mut r = begun(before);
-    let mut turns = u64::MAX;
-    while turns > 0 {
-        if !r.going {
+    let mut lines = Lines::of(from);
+    let mut c = before;
+    for _ in 0..u64::MAX {
+        let Ok(Some(line)) = lines.next_line() else {
             break;
+        };
+        c.at = line.number;
+        if let Ok(s) = read_statement(before_comment(line.bytes)) {
+            c = called(rt, c, trace, s, mesh, log, rows, starts, codes, fixed)?;
         }
-        r = run_line(
-            rt, r, from, trace, mesh, log, rows, starts, codes, fixed, piece, line,
-        )?;
-        turns -= 1;
     }
-    Ok(r.course)
-}
-
-fn begun(course: Course) -> Run {
-    let lines = lines_of();
-    Run {
-        lines,
-        course,
-        going: true,
-    }
-}
-
-fn run_line(
-    rt: &HostRuntime,
-    before: Run,
-    from: &File,
-    trace: Option<&File>,
-    mesh: &mut [u32; WORDS],
-    log: &mut [u32; LOG],
-    rows: &[u32],
-    starts: &[u32],
-    codes: &mut [u8; CODES],
-    fixed: &[u32],
-    piece: &mut [u8; PIECE],
-    line: &mut [u8; LINE],
-) -> io::Result<Run> {
-    let now = before.lines;
-    let mut c = before.course;
-    let lines = next_line(now, from, piece, line);
-    let going = lines.state == LINE_THERE;
-    if going {
-        c.at = lines.number;
-        let s = read_statement(before_comment(between(line, 0, lines.length)));
-        c = called(rt, c, trace, s, mesh, log, rows, starts, codes, fixed)?;
-    }
-    Ok(Run {
-        lines,
-        course: c,
-        going,
-    })
+    Ok(c)
 }
 
 // Makes the call that a statement asks for, if it asks for one.
@@ -93,7 +48,7 @@ fn called(
     rt: &HostRuntime,
     c: Course,
     trace: Option<&File>,
-    s: Statement,
+    s: Statement<'_>,
     mesh: &mut [u32; WORDS],
     log: &mut [u32; LOG],
     rows: &[u32],
@@ -105,11 +60,11 @@ fn called(
         return linked(rt, c, trace, s, mesh, codes);
     }
     match s {
-        Statement::Send { x, y, packet } => sent(
+        Statement::Send { place, packet } => sent(
             rt,
             c,
             trace,
-            chip_at(c.board, x, y),
+            chip_of(c, place),
             packet,
             mesh,
             log,
@@ -141,25 +96,24 @@ fn called(
             between(codes, 0, all_codes(c.board)),
             fixed,
         ),
-        Statement::Link { x, y, link, up } => calls::change_link(
+        Statement::Link { place, link, up } => calls::change_link(
             rt,
             c,
             trace,
-            chip_at(c.board, x, y),
+            chip_of(c, place),
             link,
             up,
             mesh,
         ),
-        Statement::Registers { x, y } => calls::registers(
-            rt,
-            c,
-            trace,
-            chip_at(c.board, x, y),
-            mesh,
-        ),
+        Statement::Registers { place } => calls::registers(rt, c, trace, chip_of(c, place), mesh),
         Statement::Flood => flooded(rt, c, mesh, codes),
         _ => Ok(c),
     }
+}
+
+// The chip that is named so: one that is not there is refused as one that no mesh has.
+fn chip_of(c: Course, place: Place) -> u32 {
+    c.board.chip(place).unwrap_or(NO_CHIP)
 }
 
 // A link change or a flood alone, told where it is refused.
@@ -167,16 +121,16 @@ fn linked(
     rt: &HostRuntime,
     c: Course,
     trace: Option<&File>,
-    s: Statement,
+    s: Statement<'_>,
     mesh: &mut [u32; WORDS],
     codes: &mut [u8; CODES],
 ) -> io::Result<Course> {
     match s {
-        Statement::Link { x, y, link, up } => calls::change_link(
+        Statement::Link { place, link, up } => calls::change_link(
             rt,
             c,
             trace,
-            chip_at(c.board, x, y),
+            chip_of(c, place),
             link,
             up,
             mesh,

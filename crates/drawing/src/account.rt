@@ -4,7 +4,7 @@ use packet::control::{is_marked, mark_of};
 use report::course::Course;
 use report::telling::{place, small, text};
 use script::say;
-use sheet::board::{WORDS, chips, x_of, y_of};
+use sheet::board::WORDS;
 use std::io;
 use std::io::Write;
 use std::num::{wrapping_add_u64, wrapping_sub_u64};
@@ -67,7 +67,7 @@ pub fn sum_units(c: Course, mesh: &[u32; WORDS]) -> Units {
         swallowed: 0,
         flying: 0,
     };
-    let all = chips(c.board);
+    let all = c.board.chips();
     let mut chip = 0;
     while chip < all {
         u = with_chip(u, mesh, chip);
@@ -78,7 +78,7 @@ pub fn sum_units(c: Course, mesh: &[u32; WORDS]) -> Units {
 
 // Each chip that lost something.
 fn tell_all_losses(rt: &HostRuntime, c: Course, mesh: &[u32; WORDS]) -> io::Result<()> {
-    let all = chips(c.board);
+    let all = c.board.chips();
     let mut chip = 0;
     while chip < all {
         tell_losses(rt, c, mesh, chip)?;
@@ -96,7 +96,7 @@ fn tell_losses(rt: &HostRuntime, c: Course, mesh: &[u32; WORDS], chip: u32) -> i
     }
     let b = c.board;
     text(rt, b"chip ")?;
-    place(rt, x_of(b, chip), y_of(b, chip))?;
+    place(rt, b.x_of(chip), b.y_of(chip))?;
     text(rt, b": dropped ")?;
     small(rt, dropped)?;
     text(rt, b", swallowed ")?;

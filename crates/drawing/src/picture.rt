@@ -6,9 +6,9 @@ use super::legend::draw_legend;
 use super::svg;
 use buffer::looking::{look_link, read_counter};
 use report::course::Course;
+use script::board::Board;
 use script::say;
-use sheet::board::{Board, WORDS, chips, times, x_of, y_of};
-use sheet::sides::beyond;
+use sheet::board::WORDS;
 use std::fs::File;
 use std::io;
 use std::num::{wrapping_add_u32, wrapping_sub_u32};
@@ -59,14 +59,11 @@ fn left_of(b: Board) -> u32
 }
 
 fn pitches(n: u32) -> u32 {
-    wrapping_add_u32(
-        times(n, PITCH / 2),
-        wrapping_add_u32(times(n, PITCH / 2), EDGE * 2),
-    )
+    n.saturating_mul(PITCH).saturating_add(EDGE * 2)
 }
 
 fn draw_chips(to: &mut File, b: Board, mesh: &[u32; WORDS]) -> io::Result<()> {
-    let all = chips(b);
+    let all = b.chips();
     let mut chip = 0;
     while chip < all {
         draw_chip(to, b, mesh, chip)?;
@@ -76,9 +73,9 @@ fn draw_chips(to: &mut File, b: Board, mesh: &[u32; WORDS]) -> io::Result<()> {
 }
 
 fn draw_chip(to: &mut File, b: Board, mesh: &[u32; WORDS], chip: u32) -> io::Result<()> {
-    let x = wrapping_add_u32(middle(x_of(b, chip)), left_of(b));
+    let x = wrapping_add_u32(middle(b.x_of(chip)), left_of(b));
     // North is up.
-    let y = middle(wrapping_sub_u32(wrapping_sub_u32(b.height, 1), y_of(b, chip)));
+    let y = middle(wrapping_sub_u32(wrapping_sub_u32(b.height, 1), b.y_of(chip)));
     draw_links(to, b, mesh, chip, x, y)?;
     draw_box(to, b, mesh, chip, x, y)?;
     draw_badges(to, mesh, chip, wrapping_sub_u32(x, SIDE), y)
@@ -105,7 +102,7 @@ fn draw_box(
         _ => draw_square(to, b"s4", x, y)?,
     }
     svg::begin_words(to, b"name", x, wrapping_sub_u32(y, 20))?;
-    say::place(to, x_of(b, chip), y_of(b, chip))?;
+    say::place(to, b.x_of(chip), b.y_of(chip))?;
     svg::end_words(to)?;
     if delivered != 0 {
         svg::begin_words(to, b"count", x, wrapping_sub_u32(y, 3))?;
@@ -223,8 +220,8 @@ fn draw_link(
         draw_held(to, b"full dot", l.held, link, x, y)?;
     }
     if round {
-        let far = beyond(b, chip, link);
-        draw_name(to, link, x_of(b, far), y_of(b, far), x, y)?;
+        let far = b.beyond(chip, link);
+        draw_name(to, link, b.x_of(far), b.y_of(far), x, y)?;
     }
     Ok(())
 }
@@ -280,10 +277,10 @@ fn draw_name(to: &mut File, link: u32, to_x: u32, to_y: u32, x: u32, y: u32) -> 
 }
 
 fn leads_round(b: Board, chip: u32, link: u32) -> bool {
-    let east = wrapping_add_u32(x_of(b, chip), 1) == b.width;
-    let north = wrapping_add_u32(y_of(b, chip), 1) == b.height;
-    let west = x_of(b, chip) == 0;
-    let south = y_of(b, chip) == 0;
+    let east = wrapping_add_u32(b.x_of(chip), 1) == b.width;
+    let north = wrapping_add_u32(b.y_of(chip), 1) == b.height;
+    let west = b.x_of(chip) == 0;
+    let south = b.y_of(chip) == 0;
     match link {
         0 => east,
         1 => east | north,

@@ -2,17 +2,14 @@
 use super::playing::{KEEP, MAP, REPLAY, RUN, WHERE, play, play_check};
 use super::showing::show_trace;
 use report::telling::{small, text};
-use script::complaints::err;
-use script::files::{fail, number_of, open_read};
-use script::lines::LINE;
-use script::pieces::PIECE;
-use script::words::same;
-use sheet::board::{CHIPS, CODES, LOG, ROWS, STARTS, WORDS};
-use sheet::paths::{PATH, argument, path_in};
+use script::files::{fail, open_read};
+use sheet::board::{LOG, WORDS};
+use sheet::paths::Name;
+use sheet::storing::Sheet;
 use std::env::{Env, FillError};
 use std::io;
 use std::num::wrapping_sub_usize;
-use thinning::file::print_fewer;
+use thinning::file::{Printed, print_fewer};
 
 // Ways that do not play.
 const SHOW: u32 = 5;
@@ -25,24 +22,19 @@ const FEWER: u32 = 8;
 
 pub fn command(
     rt: &HostRuntime,
-    rows: &mut [u32; ROWS],
-    starts: &mut [u32; STARTS],
-    codes: &mut [u8; CODES],
-    fixed: &mut [u32; CHIPS],
+    sheet: &mut Sheet,
     mesh: &mut [u32; WORDS],
     log: &mut [u32; LOG],
-    piece: &mut [u8; PIECE],
-    line: &mut [u8; LINE],
 ) -> io::Result<()> {
     let how = way(rt);
     let status = if how == SHOW {
-        show(rt, piece)?
+        show(rt)?
     } else if how == CHECK {
-        play_check(rt, rows, starts, codes, fixed, mesh, log, piece, line)?
+        play_check(rt, sheet, mesh, log)?
     } else if how == FEWER {
-        print_fewer(rt, rows, starts, codes, fixed, piece, line)?
+        fewer_printed(rt, sheet)?
     } else {
-        played(rt, how, rows, starts, codes, fixed, mesh, log, piece, line)?
+        played(rt, how, sheet, mesh, log)?
     };
     text(rt, b"status ")?;
     small(rt, status)?;
@@ -80,9 +72,7 @@ fn way(rt: &HostRuntime) -> u32 {
 
 // Whether the first argument is a command that takes so many arguments, its own name and the program's among them.
 fn is_command(rt: &HostRuntime, name: &[u8], count: usize) -> bool {
-    let mut word = [0u8; PATH];
-    let n = argument(rt, 1, &mut word);
-    same(path_in(&word, n), name) & has_arguments(rt, count)
+    (Name::argument(rt, 1).bytes() == name) & has_arguments(rt, count)
 }
 
 // Whether the program has so many arguments, its own name among them.
@@ -101,49 +91,35 @@ fn has_argument(rt: &HostRuntime, n: usize) -> bool {
 fn played(
     rt: &HostRuntime,
     how: u32,
-    rows: &mut [u32; ROWS],
-    starts: &mut [u32; STARTS],
-    codes: &mut [u8; CODES],
-    fixed: &mut [u32; CHIPS],
+    sheet: &mut Sheet,
     mesh: &mut [u32; WORDS],
     log: &mut [u32; LOG],
-    piece: &mut [u8; PIECE],
-    line: &mut [u8; LINE],
 ) -> io::Result<u32> {
     if how == NOTHING {
-        err(
-            rt,
-            b"what is wanted: lab run FILE, keep FILE TRACE, replay FILE TRACE, show TRACE, ",
-        )?;
-        err(
-            rt,
-            b"where FILE X Y KEY|fixed, check FILE, map FILE OUT.svg or fewer FILE\n",
+        eprintln!(rt;
+            "what is wanted: lab run FILE, keep FILE TRACE, replay FILE TRACE, show TRACE, where FILE X Y KEY|fixed, check FILE, map FILE OUT.svg or fewer FILE"
         )?;
         return Ok(2);
     }
-    play(rt, how, rows, starts, codes, fixed, mesh, log, piece, line)
+    play(rt, how, sheet, mesh, log)
 }
 
-fn show(rt: &HostRuntime, piece: &mut [u8; PIECE]) -> io::Result<u32> {
-    let mut path = [0u8; PATH];
-    let n = argument(rt, 2, &mut path);
-    show_file(rt, path_in(&path, n), piece)
+// Prints FILE with fewer rows. Answers the status.
+fn fewer_printed(rt: &HostRuntime, sheet: &mut Sheet) -> io::Result<u32> {
+    match print_fewer(rt, Name::argument(rt, 2).bytes(), sheet)? {
+        Printed::Whole => Ok(0),
+        Printed::TooMany => Ok(1),
+        Printed::Unread => Ok(2),
+    }
 }
 
-fn show_file(rt: &HostRuntime, trace: &[u8], piece: &mut [u8; PIECE]) -> io::Result<u32> {
-    let from = match open_read(rt, trace) {
-        Ok(from) => from,
+fn show(rt: &HostRuntime) -> io::Result<u32> {
+    let trace = Name::argument(rt, 2);
+    match open_read(rt, trace.bytes()) {
+        Ok(from) => show_trace(rt, trace.bytes(), from),
         Err(e) => {
-            fail(rt, trace, number_of(&e))?;
-            return Ok(2);
+            fail(rt, trace.bytes(), &e)?;
+            Ok(2)
         }
-    };
-    let s = show_trace(rt, &from, piece)?;
-    if s.unread {
-        let records = s.records;
-        let bytes = records.bytes;
-        fail(rt, trace, bytes.failure)?;
-        return Ok(2);
     }
-    Ok(if s.refusal == 0 { 0 } else { 1 })
 }

@@ -9,19 +9,17 @@ use drawing::picture::draw;
 use packet::Packet;
 use report::course::{Course, course_on};
 use report::telling::text;
+use script::board::Board;
 use script::cells::between;
-use script::complaints::err;
-use script::files::{fail, number_of, open_overwrite, open_read};
-use script::lines::LINE;
-use script::numbers::Value;
-use script::pieces::PIECE;
+use script::files::{fail, open_overwrite, open_read};
+use script::numbers::number;
+use script::parts::Place;
 use script::sendings::{fixed_of, spike_of};
-use script::words::same;
-use sheet::board::{Board, CHIPS, CODES, LOG, NO_CHIP, ROWS, STARTS, WORDS, chip_at, chips};
+use sheet::board::{CODES, LOG, WORDS};
 use sheet::checking::check;
-use sheet::paths::{PATH, argument, path_in};
-use sheet::reading::read_file;
-use sheet::storing::{first_words, moved_together, word_of};
+use sheet::paths::Name;
+use sheet::reading::{Past, read_file};
+use sheet::storing::{InUse, Sheet};
 use std::fs::File;
 use std::io;
 
@@ -39,60 +37,45 @@ pub const MAP: u32 = 4;
 // What is odd in FILE's tables and, where it floods, in its links. Answers the status.
 pub fn play_check(
     rt: &HostRuntime,
-    rows: &mut [u32; ROWS],
-    starts: &mut [u32; STARTS],
-    codes: &mut [u8; CODES],
-    fixed: &mut [u32; CHIPS],
+    sheet: &mut Sheet,
     mesh: &mut [u32; WORDS],
     log: &mut [u32; LOG],
-    piece: &mut [u8; PIECE],
-    line: &mut [u8; LINE],
 ) -> io::Result<u32> {
-    let k = check(rt, rows, starts, codes, fixed, piece, line)?;
-    let unreached = if k.flood & (k.status != 2) {
-        check_floods(
-            rt, k.board, rows, starts, codes, fixed, mesh, log, piece, line,
-        )?
+    let file = Name::argument(rt, 2);
+    let Some(k) = check(rt, file.bytes(), sheet)? else {
+        return Ok(2);
+    };
+    let contents = k.contents;
+    let unreached = if contents.flood {
+        check_floods(rt, file.bytes(), contents.board, sheet.in_use(), mesh, log)?
     } else {
         0
     };
-    if (k.status == 0) & (k.odd == 0) & (unreached == 0) {
+    if !k.refused & (k.odd == 0) & (unreached == 0) {
         text(rt, b"nothing odd\n")?;
     }
-    Ok(k.status)
+    Ok(if k.refused { 1 } else { 0 })
 }
 
 // How many pairs of chips a flood of FILE finds no way for.
 fn check_floods(
     rt: &HostRuntime,
+    file: &[u8],
     b: Board,
-    rows: &[u32],
-    starts: &[u32],
-    codes: &mut [u8; CODES],
-    fixed: &[u32],
+    tables: InUse<'_>,
     mesh: &mut [u32; WORDS],
     log: &mut [u32; LOG],
-    piece: &mut [u8; PIECE],
-    line: &mut [u8; LINE],
 ) -> io::Result<u64> {
     open(mesh, b.width, b.height, b.phase, b.monitor);
-    let mut path = [0u8; PATH];
-    let n = argument(rt, 2, &mut path);
     let mut c = course_on(rt, b);
     c.pairs = true;
-    c = run_links(
-        rt,
-        path_in(&path, n),
-        c,
-        mesh,
-        log,
+    let InUse {
         rows,
         starts,
         codes,
         fixed,
-        piece,
-        line,
-    )?;
+    } = tables;
+    c = run_links(rt, file, c, mesh, log, rows, starts, codes, fixed)?;
     Ok(c.unreached)
 }
 
@@ -100,75 +83,43 @@ fn check_floods(
 pub fn play(
     rt: &HostRuntime,
     how: u32,
-    rows: &mut [u32; ROWS],
-    starts: &mut [u32; STARTS],
-    codes: &mut [u8; CODES],
-    fixed: &mut [u32; CHIPS],
+    sheet: &mut Sheet,
     mesh: &mut [u32; WORDS],
     log: &mut [u32; LOG],
-    piece: &mut [u8; PIECE],
-    line: &mut [u8; LINE],
 ) -> io::Result<u32> {
-    let mut path = [0u8; PATH];
-    let n = argument(rt, 2, &mut path);
-    let file = path_in(&path, n);
-    let r = read_file(rt, file, rows, starts, codes, fixed, piece, line)?;
-    if r.wrong != 0 {
+    let name = Name::argument(rt, 2);
+    let file = name.bytes();
+    let Some(contents) = read_file(rt, file, Past::Wrong, sheet)? else {
         return Ok(2);
-    }
-    let b = r.board;
-    let count = moved_together(rows, starts, chips(b));
+    };
+    let b = contents.board;
+    sheet.move_together(b);
     open(mesh, b.width, b.height, b.phase, b.monitor);
-    if (how == REPLAY) & r.flood {
-        flood_before(
-            rt, file, b, mesh, log, rows, starts, codes, fixed, piece, line,
-        )?;
+    let InUse {
+        rows,
+        starts,
+        codes,
+        fixed,
+    } = sheet.in_use();
+    if (how == REPLAY) & contents.flood {
+        flood_before(rt, file, b, mesh, log, rows, starts, codes, fixed)?;
     }
-    play_tables(
-        rt, how, file, b, count, mesh, log, rows, starts, codes, fixed, piece, line,
-    )
-}
-
-// Plays with the tables cut to what is in use.
-fn play_tables(
-    rt: &HostRuntime,
-    how: u32,
-    file: &[u8],
-    b: Board,
-    count: usize,
-    mesh: &mut [u32; WORDS],
-    log: &mut [u32; LOG],
-    rows: &[u32],
-    starts: &[u32],
-    codes: &mut [u8; CODES],
-    fixed: &[u32],
-    piece: &mut [u8; PIECE],
-    line: &mut [u8; LINE],
-) -> io::Result<u32> {
-    let own = first_words(rows, word_of(count));
-    let begin = first_words(starts, chips(b) as usize + 1);
-    let routes = first_words(fixed, chips(b) as usize);
     if how == WHERE {
-        return play_where(
-            rt, file, b, mesh, log, own, begin, codes, routes, piece, line,
-        );
+        return play_where(rt, file, b, mesh, log, rows, starts, codes, fixed);
     }
-    let mut path = [0u8; PATH];
-    let n = argument(rt, 3, &mut path);
+    let trace = Name::argument(rt, 3);
     play_calls(
         rt,
         how,
         file,
-        path_in(&path, n),
+        trace.bytes(),
         b,
         mesh,
         log,
-        own,
-        begin,
+        rows,
+        starts,
         codes,
-        routes,
-        piece,
-        line,
+        fixed,
     )
 }
 
@@ -183,27 +134,18 @@ fn play_where(
     starts: &[u32],
     codes: &mut [u8; CODES],
     fixed: &[u32],
-    piece: &mut [u8; PIECE],
-    line: &mut [u8; LINE],
 ) -> io::Result<u32> {
-    let chip = chip_asked(rt, b);
-    let asked = packet_asked(rt);
-    if (chip == NO_CHIP) | !asked.good {
-        err(
-            rt,
-            b"where FILE X Y KEY: X and Y are those of a chip, and KEY is a number up to 0xffffffff, ",
+    let (Some(chip), Some(p)) = (chip_asked(rt, b), packet_asked(rt)) else {
+        eprintln!(rt;
+            "where FILE X Y KEY: X and Y are those of a chip, and KEY is a number up to 0xffffffff, or the word fixed for a fixed-route packet"
         )?;
-        err(rt, b"or the word fixed for a fixed-route packet\n")?;
         return Ok(2);
-    }
+    };
     let begun = course_on(rt, b);
-    let c = run_links(
-        rt, file, begun, mesh, log, rows, starts, codes, fixed, piece, line,
-    )?;
+    let c = run_links(rt, file, begun, mesh, log, rows, starts, codes, fixed)?;
     if c.unread {
         return Ok(2);
     }
-    let p = asked.packet;
     follow_packet(
         rt,
         b,
@@ -230,15 +172,11 @@ pub fn run_links(
     starts: &[u32],
     codes: &mut [u8; CODES],
     fixed: &[u32],
-    piece: &mut [u8; PIECE],
-    line: &mut [u8; LINE],
 ) -> io::Result<Course> {
     let mut c = before;
     c.links = true;
     match readable(rt, file)? {
-        Some(from) => run_file(
-            rt, &from, c, None, mesh, log, rows, starts, codes, fixed, piece, line,
-        ),
+        Some(from) => run_file(rt, from, c, None, mesh, log, rows, starts, codes, fixed),
         None => {
             c.unread = true;
             Ok(c)
@@ -257,53 +195,27 @@ fn flood_before(
     starts: &[u32],
     codes: &mut [u8; CODES],
     fixed: &[u32],
-    piece: &mut [u8; PIECE],
-    line: &mut [u8; LINE],
 ) -> io::Result<()> {
     let begun = course_on(rt, b);
-    run_links(
-        rt, file, begun, mesh, log, rows, starts, codes, fixed, piece, line,
-    )?;
+    run_links(rt, file, begun, mesh, log, rows, starts, codes, fixed)?;
     open(mesh, b.width, b.height, b.phase, b.monitor);
     Ok(())
 }
 
-fn chip_asked(rt: &HostRuntime, b: Board) -> u32 {
-    let x = number_of_arg(rt, 3);
-    let y = number_of_arg(rt, 4);
-    if x.good & y.good {
-        chip_at(b, x.value, y.value)
-    } else {
-        NO_CHIP
-    }
+fn chip_asked(rt: &HostRuntime, b: Board) -> Option<u32> {
+    b.chip(Place::of_numbers(number_of_arg(rt, 3)?, number_of_arg(rt, 4)?))
 }
 
 // The packet that is asked for: a spike of a key, or the fixed-route packet of key 0.
-#[derive(Clone, Copy)]
-struct Asked {
-    good: bool,
-    packet: Packet,
+fn packet_asked(rt: &HostRuntime) -> Option<Packet> {
+    if Name::argument(rt, 5).bytes() == b"fixed".as_slice() {
+        return Some(fixed_of(0));
+    }
+    Some(spike_of(number_of_arg(rt, 5)?))
 }
 
-fn packet_asked(rt: &HostRuntime) -> Asked {
-    let mut word = [0u8; PATH];
-    let n = argument(rt, 5, &mut word);
-    if same(path_in(&word, n), b"fixed") {
-        let packet = fixed_of(0);
-        return Asked { good: true, packet };
-    }
-    let key = number_of_arg(rt, 5);
-    let packet = spike_of(key.value);
-    Asked {
-        good: key.good,
-        packet,
-    }
-}
-
-fn number_of_arg(rt: &HostRuntime, i: usize) -> Value {
-    let mut word = [0u8; PATH];
-    let n = argument(rt, i, &mut word);
-    script::numbers::number(path_in(&word, n))
+fn number_of_arg(rt: &HostRuntime, i: usize) -> Option<u32> {
+    number(Name::argument(rt, i).bytes())
 }
 
 // Opens what holds the calls, and what is to hold them.
@@ -319,8 +231,6 @@ fn play_calls(
     starts: &[u32],
     codes: &mut [u8; CODES],
     fixed: &[u32],
-    piece: &mut [u8; PIECE],
-    line: &mut [u8; LINE],
 ) -> io::Result<u32> {
     let from = match opened_calls(rt, how, file, trace)? {
         Some(from) => from,
@@ -328,19 +238,11 @@ fn play_calls(
     };
     let c = course_on(rt, b);
     match how {
-        REPLAY => replay_calls(
-            rt, &from, c, trace, mesh, log, rows, starts, codes, fixed, piece,
-        ),
-        KEEP => keep_calls(
-            rt, &from, c, trace, mesh, log, rows, starts, codes, fixed, piece, line,
-        ),
-        MAP => map_calls(
-            rt, &from, c, trace, mesh, log, rows, starts, codes, fixed, piece, line,
-        ),
+        REPLAY => replay_calls(rt, from, c, trace, mesh, log, rows, starts, codes, fixed),
+        KEEP => keep_calls(rt, from, c, trace, mesh, log, rows, starts, codes, fixed),
+        MAP => map_calls(rt, from, c, trace, mesh, log, rows, starts, codes, fixed),
         _ => {
-            let after = run_file(
-                rt, &from, c, None, mesh, log, rows, starts, codes, fixed, piece, line,
-            )?;
+            let after = run_file(rt, from, c, None, mesh, log, rows, starts, codes, fixed)?;
             ended(rt, after, trace, mesh)
         }
     }
@@ -348,7 +250,7 @@ fn play_calls(
 
 fn replay_calls(
     rt: &HostRuntime,
-    from: &File,
+    from: File,
     c: Course,
     trace: &[u8],
     mesh: &mut [u32; WORDS],
@@ -357,17 +259,16 @@ fn replay_calls(
     starts: &[u32],
     codes: &mut [u8; CODES],
     fixed: &[u32],
-    piece: &mut [u8; PIECE],
 ) -> io::Result<u32> {
     let own = between(codes, 0, all_codes(c.board));
-    let after = replay_trace(rt, from, c, mesh, log, rows, starts, own, fixed, piece)?;
+    let after = replay_trace(rt, from, c, mesh, log, rows, starts, own, fixed)?;
     ended(rt, after, trace, mesh)
 }
 
 // Makes the calls, and keeps those that are accepted as a trace.
 fn keep_calls(
     rt: &HostRuntime,
-    from: &File,
+    from: File,
     c: Course,
     trace: &[u8],
     mesh: &mut [u32; WORDS],
@@ -376,8 +277,6 @@ fn keep_calls(
     starts: &[u32],
     codes: &mut [u8; CODES],
     fixed: &[u32],
-    piece: &mut [u8; PIECE],
-    line: &mut [u8; LINE],
 ) -> io::Result<u32> {
     match writable(rt, trace)? {
         Some(to) => {
@@ -392,8 +291,6 @@ fn keep_calls(
                 starts,
                 codes,
                 fixed,
-                piece,
-                line,
             )?;
             ended(rt, after, trace, mesh)
         }
@@ -404,7 +301,7 @@ fn keep_calls(
 // Makes the calls, and draws the mesh as it then stands.
 fn map_calls(
     rt: &HostRuntime,
-    from: &File,
+    from: File,
     c: Course,
     picture: &[u8],
     mesh: &mut [u32; WORDS],
@@ -413,14 +310,10 @@ fn map_calls(
     starts: &[u32],
     codes: &mut [u8; CODES],
     fixed: &[u32],
-    piece: &mut [u8; PIECE],
-    line: &mut [u8; LINE],
 ) -> io::Result<u32> {
     match writable(rt, picture)? {
         Some(mut to) => {
-            let after = run_file(
-                rt, from, c, None, mesh, log, rows, starts, codes, fixed, piece, line,
-            )?;
+            let after = run_file(rt, from, c, None, mesh, log, rows, starts, codes, fixed)?;
             draw(&mut to, after, mesh)?;
             ended(rt, after, picture, mesh)
         }
@@ -441,7 +334,7 @@ fn readable(rt: &HostRuntime, path: &[u8]) -> io::Result<Option<File>> {
     match open_read(rt, path) {
         Ok(from) => Ok(Some(from)),
         Err(e) => {
-            fail(rt, path, number_of(&e))?;
+            fail(rt, path, &e)?;
             Ok(None)
         }
     }
@@ -452,7 +345,7 @@ fn writable(rt: &HostRuntime, path: &[u8]) -> io::Result<Option<File>> {
     match open_overwrite(rt, path) {
         Ok(to) => Ok(Some(to)),
         Err(e) => {
-            fail(rt, path, number_of(&e))?;
+            fail(rt, path, &e)?;
             Ok(None)
         }
     }
@@ -462,7 +355,7 @@ fn writable(rt: &HostRuntime, path: &[u8]) -> io::Result<Option<File>> {
 fn ended(rt: &HostRuntime, c: Course, trace: &[u8], mesh: &[u32; WORDS]) -> io::Result<u32> {
     tell_account(rt, c, mesh)?;
     if c.unkept | c.unread {
-        fail(rt, trace, c.failure)?;
+        fail(rt, trace, &io::Error::from_raw_os_error(c.failure))?;
         return Ok(2);
     }
     Ok(if c.refused == 0 { 0 } else { 1 })

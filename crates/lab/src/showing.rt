@@ -1,11 +1,10 @@
 // A trace as lines that FILE could hold: kept again behind FILE's mesh and tables they give the same bytes.
 use records::Call;
 use records::reading::read_record;
-use report::records::{RECORD, RECORD_THERE, Records, next_record, records_of};
+use report::records::{Record, Records};
 use report::telling::{number, small, tell_refusal, text};
-use script::cells::between;
-use script::names::say_link;
-use script::pieces::{FAILED, PIECE};
+use script::files::fail;
+use script::names::link_name;
 use script::say;
 use std::fs::File;
 use std::io;
@@ -14,71 +13,49 @@ use std::io;
 const MOST: u32 = 4294967295;
 
 #[derive(Clone, Copy)]
-pub struct Show {
-    pub records: Records,
+struct Show {
     // Rounds read and not yet shown; what a record is refused with.
-    pub rounds: u32,
-    pub refusal: u32,
-    pub unread: bool,
-    pub going: bool,
+    rounds: u32,
+    refusal: u32,
 }
 
-pub fn show_trace(rt: &HostRuntime, from: &File, piece: &mut [u8; PIECE]) -> io::Result<Show> {
-    let mut record = [0u8; RECORD];
-    let mut s = begun();
-    let mut turns = u64::MAX;
-    while turns > 0 {
-        if !s.going {
-            break;
-        }
-        s = show_record(rt, s, from, piece, &mut record)?;
-        turns -= 1;
-    }
-    shown_rounds(rt, s)
-}
-
-fn begun() -> Show {
-    let records = records_of();
-    Show {
-        records,
+// Shows a trace. Answers the status.
+pub fn show_trace(rt: &HostRuntime, trace: &[u8], from: File) -> io::Result<u32> {
+    let mut records = Records::of(from);
+    let mut s = Show {
         rounds: 0,
         refusal: 0,
-        unread: false,
-        going: true,
+    };
+    for _ in 0..u64::MAX {
+        match records.next_record() {
+            Ok(Some(record)) => {
+                s = show_bytes(rt, s, record)?;
+                if s.refusal != 0 {
+                    break;
+                }
+            }
+            Ok(None) => break,
+            Err(e) => {
+                shown_rounds(rt, s)?;
+                fail(rt, trace, &e)?;
+                return Ok(2);
+            }
+        }
     }
+    let s = shown_rounds(rt, s)?;
+    Ok(if s.refusal == 0 { 0 } else { 1 })
 }
 
-fn show_record(
-    rt: &HostRuntime,
-    before: Show,
-    from: &File,
-    piece: &mut [u8; PIECE],
-    record: &mut [u8; RECORD],
-) -> io::Result<Show> {
-    let now = before.records;
-    let records = next_record(now, from, piece, record);
-    let mut s = before;
-    s.records = records;
-    s.unread = records.state == FAILED;
-    s.going = records.state == RECORD_THERE;
-    if s.going {
-        s = show_bytes(rt, s, between(record, 0, records.length))?;
-    }
-    Ok(s)
-}
-
-fn show_bytes(rt: &HostRuntime, before: Show, record: &[u8]) -> io::Result<Show> {
-    let r = read_record(record);
+fn show_bytes(rt: &HostRuntime, before: Show, record: Record<'_>) -> io::Result<Show> {
+    let r = read_record(record.bytes);
     if r.refusal == 0 {
         let call = r.call;
         return show_call(rt, before, call);
     }
     let mut s = shown_rounds(rt, before)?;
-    let records = s.records;
     text(rt, b"# ")?;
-    tell_refusal(rt, records.at, true, r.refusal)?;
+    tell_refusal(rt, record.at, true, r.refusal)?;
     s.refusal = r.refusal;
-    s.going = false;
     Ok(s)
 }
 
@@ -150,7 +127,7 @@ fn show_link(rt: &HostRuntime, call: Call) -> io::Result<()> {
     }
     text(rt, b" ")?;
     if call.link < 6 {
-        say_link(&mut rt.stdout(), call.link)?;
+        text(rt, link_name(call.link).as_bytes())?;
     } else {
         small(rt, call.link)?;
     }

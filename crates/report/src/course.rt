@@ -1,8 +1,8 @@
 // How far a run has come, and what it has counted.
 use super::placing::{has_place, tell_place};
 use super::telling::{begin_refusal, tell_refusal};
+use script::board::Board;
 use script::say;
-use sheet::board::Board;
 use std::io;
 use std::num::wrapping_add_u64;
 use std::time::Clock;

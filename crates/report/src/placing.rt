@@ -1,7 +1,8 @@
 // Where lent tables are wrong, in words: the place that the model tells with numbers 15 to 18.
 use super::telling::{place, small, text};
-use script::cells::word_at;
-use sheet::board::{Board, bad_bit, x_of, y_of};
+use script::board::Board;
+use script::cells::item;
+use sheet::board::bad_bit;
 use sheet::storing::word_of;
 use std::io;
 
@@ -40,20 +41,20 @@ pub fn tell_place(
 // A row by its number over all chips: the chip that it belongs to, its number there, and the bit.
 fn tell_row(rt: &HostRuntime, b: Board, at: u32, rows: &[u32], starts: &[u32]) -> io::Result<()> {
     let chip = chip_of(at, starts);
-    let first = word_at(starts, chip as usize);
+    let first = item(starts, chip as usize);
     text(rt, b"row ")?;
     small(rt, if first <= at { at - first } else { 0 })?;
     text(rt, b" of ")?;
     tell_chip(rt, b, chip)?;
     text(rt, b": route bit ")?;
-    small(rt, bad_bit(word_at(rows, word_of(at as usize) + 2)))
+    small(rt, bad_bit(item(rows, word_of(at as usize) + 2)))
 }
 
 // The last chip whose rows start at or before a row.
 fn chip_of(at: u32, starts: &[u32]) -> u32 {
     let mut chip = 0;
     while chip < 143 {
-        let next = word_at(starts, chip as usize + 1);
+        let next = item(starts, chip as usize + 1);
         if (next > at) | (chip as usize + 2 >= starts.len()) {
             break;
         }
@@ -64,5 +65,5 @@ fn chip_of(at: u32, starts: &[u32]) -> u32 {
 
 fn tell_chip(rt: &HostRuntime, b: Board, chip: u32) -> io::Result<()> {
     text(rt, b"chip ")?;
-    place(rt, x_of(b, chip), y_of(b, chip))
+    place(rt, b.x_of(chip), b.y_of(chip))
 }

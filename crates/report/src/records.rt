@@ -1,102 +1,71 @@
 // A trace, record by record: it is read in pieces, and one record is kept.
-use script::cells::{byte_at, put_byte, wide};
-use script::pieces::{Bytes, GOES_ON, OVER, PIECE, bytes_of, next_byte};
+use script::cells::{between, put};
+use script::pieces::Bytes;
 use std::fs::File;
-use std::num::wrapping_add_u64;
+use std::io;
 
 // Two bytes of length, and as many behind them as they can say.
-pub const RECORD: usize = 65537;
+const RECORD: usize = 65537;
 
-// What reading a record came to, beside what reading a byte can come to.
-pub const RECORD_THERE: u32 = 3;
-
-#[derive(Clone, Copy)]
+#[derive(Drop)]
 pub struct Records {
-    pub bytes: Bytes,
-    // Where the record starts, how many bytes of it are there, and what reading came to.
+    bytes: Bytes,
+    record: [u8; RECORD],
+    // Where the record starts, and how many bytes of it are there.
+    at: u64,
+    length: usize,
+}
+
+// A record, and where it starts.
+#[derive(Clone, Copy)]
+pub struct Record<'a> {
     pub at: u64,
-    pub length: usize,
-    pub state: u32,
+    pub bytes: &'a [u8],
 }
 
-pub fn records_of() -> Records {
-    let bytes = bytes_of();
-    Records {
-        bytes,
-        at: 0,
-        length: 0,
-        state: GOES_ON,
-    }
-}
-
-// The next record: as many bytes as it says that it has, or as are left of the trace.
-pub fn next_record(
-    before: Records,
-    from: &File,
-    piece: &mut [u8; PIECE],
-    record: &mut [u8; RECORD],
-) -> Records {
-    let mut r = begun(before);
-    let mut turns = u64::MAX;
-    while turns > 0 {
-        if r.state != GOES_ON {
-            break;
+impl Records {
+    pub fn of(file: File) -> Records {
+        Records {
+            bytes: Bytes::of(file),
+            record: [0; RECORD],
+            at: 0,
+            length: 0,
         }
-        r = take_byte(r, from, piece, record);
-        turns -= 1;
     }
-    r
-}
 
-fn begun(before: Records) -> Records {
-    let mut r = before;
-    r.at = wrapping_add_u64(r.at, r.length as u64);
-    r.length = 0;
-    r.state = GOES_ON;
-    r
-}
-
-fn take_byte(
-    before: Records,
-    from: &File,
-    piece: &mut [u8; PIECE],
-    record: &mut [u8; RECORD],
-) -> Records {
-    let mut r = before;
-    if whole(r.length, record) {
-        r.state = RECORD_THERE;
-        return r;
+    // The next record: as many bytes as it says that it has, or as are left of the trace, and none at its end. One that the trace's
+    // end cuts short is told to be so by whoever reads it.
+    pub fn next_record(&mut self) -> io::Result<Option<Record<'_>>> {
+        self.at = self.at.wrapping_add(self.length as u64);
+        self.length = 0;
+        for _ in 0..u64::MAX {
+            if self.is_whole() {
+                break;
+            }
+            match self.bytes.next_byte()? {
+                Some(b) => self.keep(b),
+                None if self.length == 0 => return Ok(None),
+                None => break,
+            }
+        }
+        Ok(Some(Record {
+            at: self.at,
+            bytes: between(&self.record, 0, self.length),
+        }))
     }
-    let now = r.bytes;
-    let bytes = next_byte(now, from, piece);
-    r.bytes = bytes;
-    if bytes.state != GOES_ON {
-        return ended(r, bytes.state);
-    }
-    if r.length < RECORD {
-        put_byte(record, r.length, bytes.byte);
-        r.length += 1;
-    }
-    r
-}
 
-// Whether so many bytes are a record whole.
-fn whole(length: usize, record: &[u8; RECORD]) -> bool {
-    let high = wide(byte_at(record, 0));
-    let low = wide(byte_at(record, 1));
-    (2 <= length) & (high * 256 + low + 2 <= short(length))
-}
-
-fn short(length: usize) -> u32 {
-    if length < 65537 { length as u32 } else { 65537 }
-}
-
-// A record that the trace's end cuts short is told to be so by whoever reads it.
-fn ended(before: Records, state: u32) -> Records {
-    let mut r = before;
-    r.state = state;
-    if (state == OVER) & (r.length > 0) {
-        r.state = RECORD_THERE;
+    fn is_whole(&self) -> bool {
+        match between(&self.record, 0, self.length) {
+            [high, low, behind @ ..] => usize::from(u16::from_be_bytes([*high, *low]))
+                <= behind.len(),
+            _ => false,
+        }
     }
-    r
+
+    fn keep(&mut self, b: u8) {
+        if self.length < RECORD {
+            put(&mut self.record, self.length, b);
+            self.length += 1;
+        }
+    }
 }

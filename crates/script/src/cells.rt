@@ -1,6 +1,6 @@
 // Elements at any index: past the end every element is 0, and nothing is stored.
 
-pub fn at<T: Copy + Default>(s: &[T], i: usize) -> T {
+pub fn item<T: Copy + Default>(s: &[T], i: usize) -> T {
     s.get(i).copied().unwrap_or_default()
 }
 

@@ -2,6 +2,7 @@
 use super::cells::between;
 use super::files::{fail, open_read};
 use super::pieces::Bytes;
+use std::fs::File;
 use std::io;
 
 const LINE: usize = 4096;
@@ -25,14 +26,14 @@ pub struct Line<'a> {
 }
 
 impl Lines {
-    pub fn open(rt: &HostRuntime, path: &[u8]) -> io::Result<Lines> {
-        Ok(Lines {
-            bytes: Bytes::of(open_read(rt, path)?),
+    pub fn of(file: File) -> Lines {
+        Lines {
+            bytes: Bytes::of(file),
             line: [0; LINE],
             number: 0,
             length: 0,
             long: false,
-        })
+        }
     }
 
     // The next line: none at the file's end. A last line may lack its LF. Nothing says that a file ends: the turns are counted to a number that no file uses up.
@@ -76,8 +77,8 @@ pub fn each_line<F: FnMut(Line<'_>) -> io::Result<bool>>(
 ) -> io::Result<bool>
     requires { F.IsAlwaysCallable take }
 {
-    let mut lines = match Lines::open(rt, file) {
-        Ok(lines) => lines,
+    let mut lines = match open_read(rt, file) {
+        Ok(from) => Lines::of(from),
         Err(e) => {
             fail(rt, file, &e)?;
             return Ok(false);

@@ -2,9 +2,9 @@
 // together, and the counts become starts. Where one chip is read alone, its rows stand from row 0 on, however many there are.
 ghost use Rattle.std.specs.Prelude.{◌≤◌};
 
-use super::board::{CHIPS, CODES, DEEP, ROWS, STARTS};
+use super::board::{CHIPS, CODES, DEEP, DEEP_WORDS, ROWS, STARTS};
 use script::board::Board;
-use script::cells::{at, between, put};
+use script::cells::{between, item, put};
 use tables::Row;
 
 // The code that leads nowhere.
@@ -21,7 +21,15 @@ pub struct Sheet {
     chips: usize,
     // The chip whose rows alone are kept, where it is one.
     alone: Option<u32>,
-    ghost most: { chips ≤ 144 },
+}
+
+// The tables cut to what is in use, and the codes of the largest mesh, which a flood writes.
+#[derive(Drop)]
+pub struct InUse<'a> {
+    pub rows: &'a [u32],
+    pub starts: &'a [u32],
+    pub codes: &'a mut [u8; CODES],
+    pub fixed: &'a [u32],
 }
 
 impl Sheet {
@@ -72,7 +80,7 @@ impl Sheet {
 
     // How many rows of a chip were read.
     pub fn count(&self, chip: u32) -> u32 {
-        at(&self.starts, chip as usize)
+        item(&self.starts, chip as usize)
     }
 
     // The rows of the chip that is read alone.
@@ -85,8 +93,8 @@ impl Sheet {
         let chips = board.chips() as usize;
         let mut all = 0;
         for chip in 0..chips {
-            let first = word_of(chip * DEEP);
-            let count = (at(&self.starts, chip) as usize).min(DEEP);
+            let first = chip * DEEP_WORDS;
+            let count = (item(&self.starts, chip) as usize).min(DEEP);
             put(&mut self.starts, chip, all as u32);
             self.rows.copy_within(first..first + count * 3, all * 3);
             all += count;
@@ -95,17 +103,23 @@ impl Sheet {
         self.chips = chips;
     }
 
-    // What the model is lent: the tables cut to what is in use.
-    pub fn rows(&self) -> &[u32] {
-        between(&self.rows, 0, self.start(self.chips))
-    }
-
-    pub fn starts(&self) -> &[u32] {
-        between(&self.starts, 0, self.chips + 1)
+    // What the model is lent.
+    pub fn in_use(&mut self) -> InUse<'_> {
+        let chips = self.chips;
+        let words = self.start(chips);
+        let rows = between(&self.rows, 0, words);
+        let starts = between(&self.starts, 0, chips.saturating_add(1));
+        let fixed = between(&self.fixed, 0, chips);
+        InUse {
+            rows,
+            starts,
+            codes: &mut self.codes,
+            fixed,
+        }
     }
 
     pub fn codes(&self) -> &[u8] {
-        between(&self.codes, 0, self.chips * self.chips)
+        between(&self.codes, 0, self.chips.saturating_mul(self.chips))
     }
 
     pub fn fixed(&self) -> &[u32] {
@@ -114,7 +128,7 @@ impl Sheet {
 
     // A chip's fixed route.
     pub fn route(&self, chip: u32) -> u32 {
-        at(&self.fixed, chip as usize)
+        item(&self.fixed, chip as usize)
     }
 
     // The rows of a chip.
@@ -125,7 +139,7 @@ impl Sheet {
 
     // The word that a chip's rows start at.
     fn start(&self, chip: usize) -> usize {
-        word_of(at(&self.starts, chip) as usize)
+        word_of(item(&self.starts, chip) as usize)
     }
 
     fn put_row(&mut self, row: usize, own: Row) {
@@ -140,9 +154,9 @@ impl Sheet {
 pub fn row_at(rows: &[u32], n: usize) -> Row {
     let first = word_of(n);
     Row {
-        key: at(rows, first),
-        mask: at(rows, first + 1),
-        route: at(rows, first + 2),
+        key: item(rows, first),
+        mask: item(rows, first + 1),
+        route: item(rows, first + 2),
     }
 }
 

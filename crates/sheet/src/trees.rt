@@ -3,7 +3,7 @@ use super::board::{CHIPS, STARTS};
 use super::faults::{Fault, chip_named};
 use super::storing::row_at;
 use script::board::Board;
-use script::cells::{at, between, put};
+use script::cells::{between, item, put};
 use script::statements::{Statement, read_statement};
 use script::words::Words;
 use tables::Row;
@@ -25,8 +25,8 @@ impl Grown {
     // The tree's row at a chip, if it has one.
     pub fn row_of(&self, chip: u32) -> Option<Row> {
         let chip = chip as usize;
-        let first = at(&self.starts, chip);
-        if first == at(&self.starts, chip + 1) {
+        let first = item(&self.starts, chip);
+        if first == item(&self.starts, chip + 1) {
             None
         } else {
             Some(row_at(&self.rows, first as usize))
@@ -109,7 +109,7 @@ fn targets_of<'a>(board: Board, mut words: Words<'a>) -> Result<Targets, Fault<'
     for n in 0..CHIPS + 1 {
         let target = words.target()?;
         let chip = chip_named(board, target.place)?;
-        if at(&named, chip as usize) {
+        if item(&named, chip as usize) {
             return Err(Fault::NamedTwice(board.place(chip)));
         }
         put(&mut named, chip as usize, true);

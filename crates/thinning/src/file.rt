@@ -1,7 +1,7 @@
 // FILE printed line by line: the rows of a chip stand where its first row stood.
 use super::chip::{MOST, print_chip};
 use script::board::Board;
-use script::cells::{at, put};
+use script::cells::{item, put};
 use script::lines::each_line;
 use script::statements::{Statement, read_statement};
 use script::words::before_comment;
@@ -107,7 +107,7 @@ impl Printing<'_> {
 
     // The rows of a chip, where they are not printed yet.
     fn print_once(&mut self, chip: u32) -> io::Result<()> {
-        if at(&self.done, chip as usize) {
+        if item(&self.done, chip as usize) {
             return Ok(());
         }
         put(&mut self.done, chip as usize, true);
