@@ -1,5 +1,5 @@
 // The mesh that FILE asks for, and the names of its chips.
-ghost use Rattle.std.specs.Prelude.{◌<◌, ◌≤◌};
+ghost use Rattle.std.specs.Prelude.{◌≡◌, ◌*◌, ◌/◌, ◌%◌, ◌<◌, ◌≤◌, IfSome};
 
 use super::parts::Place;
 
@@ -18,6 +18,7 @@ pub struct Board {
 impl Board {
     // How many chips there are.
     pub fn chips(self) -> u32
+        ensures value { result ≡ self.width * self.height }
         ensures some { 0 < result }
         ensures most { result ≤ 144 }
     {
@@ -26,16 +27,20 @@ impl Board {
 
     // How many codes there are: one of each chip for each.
     pub fn codes(self) -> usize
-        ensures { result ≤ 20736 }
+        ensures value { result ≡ (self.width * self.height) * (self.width * self.height) }
+        ensures most { result ≤ 20736 }
     {
         let chips = self.chips() as usize;
         chips * chips
     }
 
     // The chip that is named so, if there is one.
-    pub fn chip(self, place: Place) -> Option<u32> {
+    #[tactic(auto, using(crate::proofs::Chips::chip_below))]
+    pub fn chip(self, place: Place) -> Option<u32>
+        ensures { IfSome result (λ n. n < self.width * self.height) }
+    {
         match place {
-            Place::At { x, y } if (x < self.width) & (y < self.height) => Some(y * self.width + x),
+            Place::At { x, y } if x < self.width && y < self.height => Some(y * self.width + x),
             Place::Number(n) if n < self.chips() => Some(n),
             _ => None,
         }
@@ -50,12 +55,15 @@ impl Board {
     }
 
     pub fn x_of(self, chip: u32) -> u32
-        ensures { result < self.width }
+        ensures value { result ≡ chip % self.width }
+        ensures below { result < self.width }
     {
         chip % self.width
     }
 
-    pub fn y_of(self, chip: u32) -> u32 {
+    pub fn y_of(self, chip: u32) -> u32
+        ensures { result ≡ chip / self.width }
+    {
         chip / self.width
     }
 

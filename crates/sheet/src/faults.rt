@@ -43,7 +43,7 @@ pub fn chip_named<'a>(board: Board, place: Place) -> Result<u32, Fault<'a>> {
 
 impl Reading<'_> {
     // Tells what is wrong with the running line, and counts it.
-    pub fn tell(&mut self, line: &[u8], fault: Fault<'_>) -> io::Result<()> {
+    pub(crate) fn tell(&mut self, line: &[u8], fault: Fault<'_>) -> io::Result<()> {
         self.wrong = self.wrong.wrapping_add(1);
         eprint!(self.rt; "line {}: ", self.line)?;
         match fault {

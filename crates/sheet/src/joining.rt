@@ -9,7 +9,7 @@ use std::io;
 
 impl Reading<'_> {
     // Joins the rows of FILE's trees. Answers whether all lines could be read.
-    pub fn join_trees(&mut self) -> io::Result<bool> {
+    pub(crate) fn join_trees(&mut self) -> io::Result<bool> {
         each_line(self.rt, self.file, |line| {
             self.line = line.number;
             let own = before_comment(line.bytes);

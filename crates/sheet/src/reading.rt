@@ -33,19 +33,19 @@ pub struct Contents {
 
 // Where FILE's reading stands.
 #[derive(Drop)]
-pub struct Reading<'a> {
-    pub rt: &'a HostRuntime,
-    pub file: &'a [u8],
-    pub past: Past,
-    pub sheet: &'a mut Sheet,
-    pub board: Option<Board>,
+pub(crate) struct Reading<'a> {
+    pub(crate) rt: &'a HostRuntime,
+    pub(crate) file: &'a [u8],
+    pub(crate) past: Past,
+    pub(crate) sheet: &'a mut Sheet,
+    pub(crate) board: Option<Board>,
     // The number of the running line, and how many lines were wrong.
-    pub line: u64,
-    pub wrong: u32,
-    pub p2p: bool,
-    pub fixed: bool,
-    pub flood: bool,
-    pub tree: bool,
+    pub(crate) line: u64,
+    pub(crate) wrong: u32,
+    pub(crate) p2p: bool,
+    pub(crate) fixed: bool,
+    pub(crate) flood: bool,
+    pub(crate) tree: bool,
 }
 
 // Reads FILE into a sheet. Where something is wrong with it that is told, and there are no contents.
@@ -92,7 +92,7 @@ impl Reading<'_> {
         })
     }
 
-    pub fn goes_on(&self) -> bool {
+    pub(crate) fn goes_on(&self) -> bool {
         self.wrong < MOST
     }
 
