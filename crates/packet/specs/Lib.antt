@@ -1,6 +1,7 @@
 pub mod Bytes
 pub mod Control
 pub mod Fields
+pub mod Kinds
 pub mod Packing
 pub mod Parity
 pub mod Refusal

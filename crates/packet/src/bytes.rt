@@ -42,18 +42,11 @@ pub fn packet_to_pass(bytes: &[u8]) -> Result<Packet, Refused>
     Ok(p)
 }
 
-// A byte as a number.
-fn wide(b: u8) -> u32
-    ensures { (result ≡ b) × (result < 256) }
-{
-    b as u32
-}
-
 fn word_at(s: &[u8], at: usize) -> u32
     requires { at + 4 ≤ length s.now }
     ensures { result ≡ word_at s.now at }
 {
-    wide(s[at]) * 16777216 + wide(s[at + 1]) * 65536 + wide(s[at + 2]) * 256 + wide(s[at + 3])
+    u32::from_be_bytes([s[at], s[at + 1], s[at + 2], s[at + 3]])
 }
 
 fn five(s: &[u8]) -> Packet
@@ -61,7 +54,7 @@ fn five(s: &[u8]) -> Packet
     ensures { result ≡ packet_at s.now }
 {
     Packet {
-        control: wide(s[0]),
+        control: u32::from(s[0]),
         nine: 0,
         word: word_at(s, 1),
         payload: 0,
@@ -73,39 +66,24 @@ fn nine(s: &[u8]) -> Packet
     ensures { result ≡ packet_at s.now }
 {
     Packet {
-        control: wide(s[0]),
+        control: u32::from(s[0]),
         nine: 1,
         word: word_at(s, 1),
         payload: word_at(s, 5),
     }
 }
 
-// The packet's nine places. Both words are turned first, so that each is stored at once.
+// The packet's nine places.
 fn packed(p: Packet, length: u32, payload: u32) -> Packed
     ensures { result ≡ packed_as p length payload }
 {
-    let word = turned(p.word);
-    let last = turned(payload);
+    let mut bytes = [0; 9];
+    bytes[0] = (p.control % 256) as u8;
+    bytes[1..5].copy_from_slice(&p.word.to_be_bytes());
+    bytes[5..].copy_from_slice(&payload.to_be_bytes());
     Packed {
         refusal: 0,
         length,
-        bytes: [
-            (p.control % 256) as u8,
-            (word % 256) as u8,
-            (word / 256 % 256) as u8,
-            (word / 65536 % 256) as u8,
-            (word / 16777216) as u8,
-            (last % 256) as u8,
-            (last / 256 % 256) as u8,
-            (last / 65536 % 256) as u8,
-            (last / 16777216) as u8,
-        ],
+        bytes,
     }
-}
-
-// The four bytes of a word in the other order.
-fn turned(w: u32) -> u32
-    ensures { (result % 256 ≡ w / 16777216) × ((result / 256 % 256 ≡ w / 65536 % 256) × ((result / 65536 % 256 ≡ w / 256 % 256) × (result / 16777216 ≡ w % 256))) }
-{
-    w % 256 * 16777216 + w / 256 % 256 * 65536 + w / 65536 % 256 * 256 + w / 16777216
 }

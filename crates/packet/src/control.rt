@@ -3,6 +3,10 @@ ghost use Rattle.std.specs.Prelude.{◌≡◌, ◌+◌, ◌*◌, ◌^◌, ◌<�
 ghost use Rattle.packet.specs.Control.{kind_of, mark_of, sequence_of, stamp_of, direct_of, route_of, carries_of, parity_of, mark_in, stamp_in, parity_in, is_direct};
 ghost use Rattle.packet.specs.Types.{is_mc, is_fixed, is_marked, is_stamped};
 
+use super::kind::Kind;
+
+// The number of the type: that of a `Kind` where the control byte is below 256. What `fields_of`, `is_fixed` and others promise of larger
+// numbers keeps it a number.
 pub fn kind_of(control: u32) -> u32
     ensures { result ≡ kind_of control }
 {
@@ -12,13 +16,13 @@ pub fn kind_of(control: u32) -> u32
 pub fn is_mc(control: u32) -> bool
     ensures { result ≡ is_mc control }
 {
-    kind_of(control) == 0
+    kind_of(control) == u32::from(Kind::Mc)
 }
 
 pub fn is_fixed(control: u32) -> bool
     ensures { result ≡ is_fixed control }
 {
-    kind_of(control) == 3
+    kind_of(control) == u32::from(Kind::Fixed)
 }
 
 // Whether the type has a mark.
@@ -32,7 +36,7 @@ pub fn is_marked(control: u32) -> bool
 pub fn is_stamped(control: u32) -> bool
     ensures { result ≡ is_stamped control }
 {
-    kind_of(control) != 2
+    kind_of(control) != u32::from(Kind::Nn)
 }
 
 pub fn mark_of(control: u32) -> u32
@@ -81,7 +85,7 @@ pub fn parity_of(control: u32) -> u32
 pub fn is_direct(control: u32) -> bool
     ensures { result ≡ is_direct control }
 {
-    (kind_of(control) == 2) & (direct_of(control) == 1)
+    (kind_of(control) == u32::from(Kind::Nn)) & (direct_of(control) == 1)
 }
 
 pub fn mark_in(control: u32, mark: u32) -> u32

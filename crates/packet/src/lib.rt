@@ -4,11 +4,13 @@
 
 pub mod bytes;
 pub mod control;
+pub mod kind;
 pub mod parity;
 pub mod reading;
 pub mod refused;
 
-// A packet's bytes: control, whether nine bytes are there (1) or five (0), word, and payload, which is 0 for five bytes.
+// A packet's bytes: control, whether nine bytes are there (1) or five (0), word, and payload, which is 0 for five bytes. The C interface has
+// these numbers.
 #[repr(C)]
 #[derive(Clone, Copy, Default)]
 pub struct Packet {
@@ -18,9 +20,9 @@ pub struct Packet {
     pub payload: u32,
 }
 
-// A number for every field of every type, 0 where the type lacks it.
+// A number for every field of every type, 0 where the type lacks it; the type itself is one of them, for the C interface.
 #[repr(C)]
-#[derive(Clone, Copy)]
+#[derive(Clone, Copy, Default)]
 pub struct Fields {
     pub kind: u32,
     pub mark: u32,
@@ -37,7 +39,7 @@ pub struct Fields {
     pub payload: u32,
 }
 
-// What reading answers.
+// What reading answers, in the form of the C interface.
 #[repr(C)]
 #[derive(Clone, Copy)]
 pub struct FieldsRead {
@@ -45,9 +47,9 @@ pub struct FieldsRead {
     pub fields: Fields,
 }
 
-// What packing answers: bytes past the length are 0.
+// What packing answers, in the form of the C interface: bytes past the length are 0.
 #[repr(C)]
-#[derive(Clone, Copy)]
+#[derive(Clone, Copy, Default)]
 pub struct Packed {
     pub refusal: u32,
     pub length: u32,

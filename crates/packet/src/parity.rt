@@ -26,7 +26,8 @@ pub fn with_stamp(p: Packet, stamp: u32) -> Packet
     set_right(with_control(p, stamp_in(p.control, stamp)))
 }
 
-// The three words laid over each other, and then the upper half of what is left over the lower, down to one bit.
+// The three words laid over each other, and then the upper half of what is left over the lower, down to one bit. It was
+// asked for, and the law `Folded.ones_folded` is of it, so that the library's `count_ones` does not take its place.
 fn folded_ones(p: Packet) -> u32
     ensures { result ≡ ones_of p % 2 }
 {
@@ -48,10 +49,5 @@ fn set_right(p: Packet) -> Packet
 fn with_control(p: Packet, control: u32) -> Packet
     ensures { result ≡ with_control p control }
 {
-    Packet {
-        control,
-        nine: p.nine,
-        word: p.word,
-        payload: p.payload,
-    }
+    Packet { control, ..p }
 }

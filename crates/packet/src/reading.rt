@@ -8,6 +8,7 @@ use super::control::{
     beside, carries_of, control_byte, direct_of, kind_of, mark_of, parity_of, route_of,
     sequence_of, stamp_of,
 };
+use super::kind::Kind;
 use super::{Fields, FieldsRead, Packed, Packet};
 
 // The fields of a packet in bytes: 2 for a length other than 5 or 9.
@@ -33,12 +34,11 @@ pub fn pack(f: Fields) -> Packed
     if !end_in_range(f) {
         return not_packed(6);
     }
-    let kind = f.kind;
-    match kind {
-        0 | 3 => marked_packed(f),
-        1 => p2p_packed(f),
-        2 => nn_packed(f),
-        _ => not_packed(6),
+    match Kind::try_from(f.kind) {
+        Ok(Kind::Mc | Kind::Fixed) => marked_packed(f),
+        Ok(Kind::P2p) => p2p_packed(f),
+        Ok(Kind::Nn) => nn_packed(f),
+        Err(refused) => not_packed(u32::from(refused)),
     }
 }
 
@@ -46,9 +46,9 @@ pub fn fields_of(p: Packet) -> Fields
     ensures { result ≡ fields_of p }
 {
     let kind = kind_of(p.control);
-    match kind {
-        1 => p2p_fields(p),
-        2 => nn_fields(p),
+    match Kind::try_from(kind) {
+        Ok(Kind::P2p) => p2p_fields(p),
+        Ok(Kind::Nn) => nn_fields(p),
         _ => marked_fields(kind, p),
     }
 }
@@ -56,67 +56,57 @@ pub fn fields_of(p: Packet) -> Fields
 fn marked_fields(kind: u32, p: Packet) -> Fields
     ensures { result ≡ marked_fields kind p }
 {
-    let mut f = end_fields(p);
-    f.kind = kind;
-    f.mark = mark_of(p.control);
-    f.stamp = stamp_of(p.control);
-    f.word = p.word;
-    f
+    Fields {
+        kind,
+        mark: mark_of(p.control),
+        stamp: stamp_of(p.control),
+        word: p.word,
+        ..end_fields(p)
+    }
 }
 
 fn p2p_fields(p: Packet) -> Fields
     ensures { result ≡ p2p_fields p }
 {
-    let mut f = end_fields(p);
-    f.kind = 1;
-    f.sequence = sequence_of(p.control);
-    f.stamp = stamp_of(p.control);
-    f.source = p.word / 65536;
-    f.destination = p.word % 65536;
-    f
+    Fields {
+        kind: u32::from(Kind::P2p),
+        sequence: sequence_of(p.control),
+        stamp: stamp_of(p.control),
+        source: p.word / 65536,
+        destination: p.word % 65536,
+        ..end_fields(p)
+    }
 }
 
 fn nn_fields(p: Packet) -> Fields
     ensures { result ≡ nn_fields p }
 {
-    let mut f = end_fields(p);
-    f.kind = 2;
-    f.direct = direct_of(p.control);
-    f.route = route_of(p.control);
-    f.word = p.word;
-    f
+    Fields {
+        kind: u32::from(Kind::Nn),
+        direct: direct_of(p.control),
+        route: route_of(p.control),
+        word: p.word,
+        ..end_fields(p)
+    }
 }
 
 // The fields that every type has, and 0 at all others.
 fn end_fields(p: Packet) -> Fields
     ensures { result ≡ end_fields p }
 {
-    let mut f = no_fields();
-    f.carries = carries_of(p.control);
-    f.parity = parity_of(p.control);
-    f.nine = p.nine;
-    f.payload = p.payload;
-    f
+    Fields {
+        carries: carries_of(p.control),
+        parity: parity_of(p.control),
+        nine: p.nine,
+        payload: p.payload,
+        ..no_fields()
+    }
 }
 
 fn no_fields() -> Fields
     ensures { result ≡ no_fields }
 {
-    Fields {
-        kind: 0,
-        mark: 0,
-        sequence: 0,
-        stamp: 0,
-        direct: 0,
-        route: 0,
-        carries: 0,
-        parity: 0,
-        nine: 0,
-        word: 0,
-        source: 0,
-        destination: 0,
-        payload: 0,
-    }
+    Fields::default()
 }
 
 fn marked_in_range(f: Fields) -> bool
@@ -168,8 +158,7 @@ fn not_packed(refusal: u32) -> Packed
 {
     Packed {
         refusal,
-        length: 0,
-        bytes: [0; 9],
+        ..Packed::default()
     }
 }
 

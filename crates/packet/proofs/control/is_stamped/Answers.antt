@@ -3,4 +3,4 @@ use Rattle.packet.proofs.control.is_stamped.Goals as goal
 
 pub returns : goal.returns
 unfolding is_stamped
-returns c = simp c.kind_of.ensures
+returns c = simp (c.kind_of.ensures, c.from.ensures)

@@ -1,22 +1,15 @@
-use borrow.Author.Tests.{ltb-true}
 use mathlib.Core.Bool.{and-false}
 use mathlib.Core.Path.{sym, ◌∙◌}
 use native.Mathlib.Omega.{arith}
 use Rattle.packet.specs.Packing.{packed_of}
 use Rattle.packet.proofs.Packing.{packs_as}
-use Rattle.packet.proofs.Ranges.{end_ranges, marked_ranges, marked_kind}
+use Rattle.packet.proofs.Ranges.{marked_kind}
 use Rattle.packet.proofs.reading.marked_packed.Goals as goal
 
 pub returns-then-not-marked_in_range : goal.returns-then-not-marked_in_range
 unfolding packed_of
 returns-then-not-marked_in_range c = let kind = marked_kind c.args.f.kind c.requires.0 in
     c.not_packed.ensures ∙ simp (kind.other, kind.another, and-false, sym c.marked_in_range.ensures ∙ c.if-not-marked_in_range.true)
-
-pub beside-four-requires : goal.beside-four-requires
-beside-four-requires c = omega (arith, marked_ranges c.args.f (sym c.marked_in_range.ensures ∙ c.if-not-marked_in_range.false))
-
-pub control_byte-requires : goal.control_byte-requires
-control_byte-requires c = omega (arith, marked_ranges c.args.f (sym c.marked_in_range.ensures ∙ c.if-not-marked_in_range.false), end_ranges c.args.f c.requires.1, ltb-true c.args.f.kind 4 (marked_kind c.args.f.kind c.requires.0).used)
 
 pub returns : goal.returns
 returns c = let kind = marked_kind c.args.f.kind c.requires.0 in

@@ -2,24 +2,11 @@ use mathlib.Core.Path.{sym, ◌∙◌}
 use native.Mathlib.Omega.{arith}
 use Rattle.packet.specs.Packing.{packed_of}
 use Rattle.packet.proofs.Packing.{packs_as}
-use Rattle.packet.proofs.Ranges.{end_ranges, p2p_ranges}
 use Rattle.packet.proofs.reading.p2p_packed.Goals as goal
 
 pub returns-then-not-p2p_in_range : goal.returns-then-not-p2p_in_range
 unfolding packed_of
 returns-then-not-p2p_in_range c = c.not_packed.ensures ∙ simp (c.requires.0, c.requires.1, sym c.p2p_in_range.ensures ∙ c.if-not-p2p_in_range.true)
-
-pub beside-four-requires : goal.beside-four-requires
-beside-four-requires c = omega (arith, p2p_ranges c.args.f (sym c.p2p_in_range.ensures ∙ c.if-not-p2p_in_range.false))
-
-pub overflow_mul-word : goal.overflow_mul-word
-overflow_mul-word c = omega (arith, p2p_ranges c.args.f (sym c.p2p_in_range.ensures ∙ c.if-not-p2p_in_range.false))
-
-pub overflow_add-word : goal.overflow_add-word
-overflow_add-word c = omega (arith, p2p_ranges c.args.f (sym c.p2p_in_range.ensures ∙ c.if-not-p2p_in_range.false))
-
-pub control_byte-requires : goal.control_byte-requires
-control_byte-requires c = omega (arith, p2p_ranges c.args.f (sym c.p2p_in_range.ensures ∙ c.if-not-p2p_in_range.false), end_ranges c.args.f c.requires.1)
 
 pub returns : goal.returns
 returns c = c.bytes_of.ensures

@@ -1,7 +1,0 @@
--- `packet::control::route_of` meets its contract: a mask of ones is a remainder.
-use Prim.Native.Nat.{◌/◌}
-use lib.Bits.{and_mask}
-use Rattle.packet.proofs.control.route_of.Goals as goal
-
-pub returns : goal.returns
-returns c = and_mask (c.args.control / 4) 3
