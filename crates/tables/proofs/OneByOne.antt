@@ -1,12 +1,13 @@
 -- The tests of lent tables, entry by entry: what is known of all from those that are still to come.
 use mathlib.Core.Path.{◌≡◌, refl, sym, ap, ◌∙◌}
 use mathlib.Core.Bool.{Bool, true, false, ◌&&◌, and_assoc, and-true}
-use mathlib.Core.List.{List}
+use mathlib.Core.List.{List, [], ◌∷◌}
+use Rattle.std.specs.List.{fold}
 use Prim.Native.Nat.{ℕ, ◌+◌, ◌*◌, ◌/◌, ◌^◌, ◌<◌, ◌≤◌}
 use native.Mathlib.Omega.{arith}
-use native.Mathlib.Numerals.{add-one}
 use lib.ListN.{length, get_or, drop, drop_of_length-le}
 use lib.Seq.{drop-cons}
+use native.Mathlib.Numerals.{add-one}
 use lib.Dec.{ltb}
 use lib.Bits.{bit_or, bit_and, or_lt, or_add_and, and_le_l, and_le_r}
 use borrow.Author.Tests.{lt-ltb, le-ltb, ltb-true, ltb-false}
@@ -53,21 +54,15 @@ module _ (s : List ℕ) (i : ℕ) where
   pub routes_last : (all : Bool) (joined : ℕ) → length s / 3 ≤ i → all ≡ (ltb joined 67108864 && all_routes (rows_of (drop (i * 3) s))) → all ≡ ltb joined 67108864
   routes_last all joined h e = e ∙ ap (λ (r : Bool). ltb joined 67108864 && r) (routes_end h) ∙ and-true (ltb joined 67108864)
 
-  fixed_step : i < length s → all_fixed (drop i s) ≡ (ltb (get_or s i 0) 67108864 && all_fixed (drop (i + 1) s))
-  unfolding all_fixed
-  fixed_step h = ap all_fixed (drop-cons s i 0 h) ∙ simp add-one
+-- all fixed routes joined
+pub fixed_folded : (joined : ℕ) (s : List ℕ) → ltb (fold bit_or joined s) 67108864 ≡ (ltb joined 67108864 && all_fixed s)
+unfolding all_fixed
+fixed_folded joined [] = sym (and-true (ltb joined 67108864))
+fixed_folded joined (r ∷ s) =
+    fixed_folded (bit_or joined r) s ∙ ap (λ (f : Bool). f && all_fixed s) (or_below 26 joined r) ∙ and_assoc (ltb joined 67108864) (ltb r 67108864) (all_fixed s)
 
-  fixed_end : length s ≤ i → all_fixed (drop i s) ≡ true
-  unfolding all_fixed
-  fixed_end h = ap all_fixed (drop_of_length-le s h)
-
-  pub fixed_joined : (all : Bool) (joined : ℕ) → i < length s → all ≡ (ltb joined 67108864 && all_fixed (drop i s))
-      → all ≡ (ltb (bit_or joined (get_or s i 0)) 67108864 && all_fixed (drop (i + 1) s))
-  fixed_joined all joined h e = or_on 26 joined (get_or s i 0) all _ (e ∙ ap (λ (r : Bool). ltb joined 67108864 && r) (fixed_step h))
-
-  pub fixed_last : (all : Bool) (joined : ℕ) → length s ≤ i → all ≡ (ltb joined 67108864 && all_fixed (drop i s)) → all ≡ ltb joined 67108864
-  fixed_last all joined h e = e ∙ ap (λ (r : Bool). ltb joined 67108864 && r) (fixed_end h) ∙ and-true (ltb joined 67108864)
-
+-- codes one by one
+module _ (s : List ℕ) (i : ℕ) where
   pub codes_step : i < length s → all_codes (drop i s) ≡ (ltb (get_or s i 0) 8 && all_codes (drop (i + 1) s))
   unfolding all_codes
   codes_step h = ap all_codes (drop-cons s i 0 h) ∙ simp add-one

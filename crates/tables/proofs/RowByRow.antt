@@ -4,17 +4,16 @@ use mathlib.Core.Bool.{Bool, true, false}
 use mathlib.Core.List.{List, [], ◌∷◌}
 use Prim.Native.Nat.{ℕ, suc, ◌+◌, ◌*◌, ◌/◌, ◌<◌, ◌≤◌}
 use native.Mathlib.Omega.{arith}
-use borrow.Author.Tests.{lt-ltb, le-ltb}
 use lib.ListN.{length, get_or, drop, length-drop}
 use lib.Seq.{drop-cons}
 use Rattle.std.specs.Prelude.{Option, Some, None}
-use Rattle.tables.specs.Rows.{Entry, matches, rows_of, next, later, first_match, found_from, found_at, route_at}
+use Rattle.tables.specs.Rows.{Entry, matches, rows_of, next, later, first_match, found_from, route_at}
 
 pub later_zero : (f : Option ℕ) → later 0 f ≡ f
 later_zero (Some n) = ap Some (omega arith)
 later_zero None = refl
 
-later_next : (i : ℕ) (f : Option ℕ) → later i (next f) ≡ later (i + 1) f
+pub later_next : (i : ℕ) (f : Option ℕ) → later i (next f) ≡ later (i + 1) f
 later_next i (Some n) = ap Some (omega arith)
 later_next i None = refl
 
@@ -59,19 +58,16 @@ module _ (s : List ℕ) (i : ℕ) where
     unfolding first_match
     search_end h = ap (first_match key) (rows_end h)
 
-    -- the number that a search yields at a row that matches, what it finds past one that does not, and its number past the last
-    pub from_here : i * 3 + 2 < length s → matches key (get_or s (i * 3) 0) (get_or s (i * 3 + 1) 0) ≡ true → found_at (length s / 3) i ≡ found_from key s i
-    from_here h m =
-        let below : i < length s / 3 = omega arith in
-        let e : i + 0 ≡ i = omega arith in
-        simp (lt-ltb i (length s / 3) below, search_here h m, e)
+    -- what is found from a row that matches, from one that does not, and past the last
+    pub from_here : i * 3 + 2 < length s → matches key (get_or s (i * 3) 0) (get_or s (i * 3 + 1) 0) ≡ true → Some i ≡ found_from key s i
+    from_here h m = let e : i + 0 ≡ i = omega arith in simp (search_here h m, e)
 
     pub from_next : (k : ℕ) → k ≡ i + 1 → i * 3 + 2 < length s → matches key (get_or s (i * 3) 0) (get_or s (i * 3 + 1) 0) ≡ false
         → found_from key s i ≡ found_from key s k
     from_next k e h m = search_on h m ∙ ap (found_from key s) (sym e)
 
-    pub from_end : (n : ℕ) → length s / 3 ≤ n → length s / 3 ≤ i → found_at (length s / 3) n ≡ found_from key s i
-    from_end n past h = simp (le-ltb n (length s / 3) past, search_end h)
+    pub from_end : length s / 3 ≤ i → None ≡ found_from key s i
+    from_end h = simp (search_end h)
 
 -- ---- the row that a search names is there
 

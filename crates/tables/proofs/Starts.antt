@@ -66,7 +66,7 @@ module _ (s : List ℕ) (i : ℕ) where
       ap climbs (drop-cons s i 0 (omega arith)) ∙ ap (λ (t : List ℕ). climbs (get_or s i 0 ∷ t)) past
 
   pub starts_joined : (all fine : Bool) (start next : ℕ) → start ≡ get_or s i 0 → next ≡ get_or s (i + 1) 0 → i + 1 < length s
-      → all ≡ (fine && climbs (drop i s)) → all ≡ (fine && leb start next && leb next (start + 1024) && climbs (drop (i + 1) s))
+      → all ≡ (fine && climbs (drop i s)) → all ≡ ((fine && (leb start next && leb next (start + 1024))) && climbs (drop (i + 1) s))
   starts_joined all false start next a b h e = e
   starts_joined all true start next a b h e =
       e ∙ climbs_step h

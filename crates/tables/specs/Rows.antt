@@ -1,6 +1,6 @@
 -- "An MC table is a run of rows, each with key, mask and route. ... A row matches when packet key AND mask equals the row key itself; the search
 -- stops at the first row that matches."
-use Rattle.std.specs.Prelude.{ℕ, suc, ◌+◌, ◌*◌, ◌%◌, ◌^◌, Bool, cond, List, [], ◌∷◌, eqb, ltb, get_or, drop, Option, Some, None}
+use Rattle.std.specs.Prelude.{ℕ, suc, ◌+◌, ◌*◌, ◌%◌, ◌^◌, Bool, cond, List, [], ◌∷◌, eqb, get_or, drop, Option, Some, None}
 use Rattle.std.specs.Int.Bits.{bit_and}
 use Rattle.tables.specs.declared.Row.{Row}
 use Rattle.tables.specs.declared.RowFound.{RowFound}
@@ -47,10 +47,6 @@ later i None = None
 -- What is found from row i of a table's numbers on.
 abbrev pub found_from : ℕ → List ℕ → ℕ → Option ℕ
 found_from key s i = later i (first_match key (rows_of (drop (i * 3) s)))
-
--- What a row's number says, where the number of rows stands for none.
-abbrev pub found_at : ℕ → ℕ → Option ℕ
-found_at count n = cond (ltb n count) (Some n) None
 
 abbrev pub blank_entry : Entry
 blank_entry = record { key = 0; mask = 0; route = 0 }

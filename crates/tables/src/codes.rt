@@ -12,14 +12,8 @@ pub fn code_for(codes: &[u8], width: u32, height: u32, destination: u32) -> u32
     if x < width {
         if y < height {
             let at = (y * width + x) as usize;
-            return wide(codes[at]);
+            return u32::from(codes[at]);
         }
     }
     6
-}
-
-fn wide(b: u8) -> u32
-    ensures { result ≡ b }
-{
-    b as u32
 }

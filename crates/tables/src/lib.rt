@@ -17,9 +17,10 @@ pub struct Row {
     pub route: u32,
 }
 
-// What a search through row structs answers: whether a row matches, its number, its route; zeros where none does.
+// What a search through row structs answers: whether a row matches, its number, its route; zeros where none does. The C interface needs this
+// form, with a flag.
 #[repr(C)]
-#[derive(Clone, Copy)]
+#[derive(Clone, Copy, Default)]
 pub struct RowFound {
     pub found: u32,
     pub row: u32,

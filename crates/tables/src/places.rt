@@ -1,9 +1,10 @@
 // The first place where lent tables are wrong, for a call that refuses them. Each walk goes once more over what a quick test has found wrong as a whole.
+// The answers are numbers and no `Option`: a call asks only where there is such a place, and would have to say what it answers where there is none.
 ghost use Rattle.std.specs.Prelude.{◌≡◌, not, length, ◌+◌, ◌-◌, ◌≤◌};
 ghost use Rattle.tables.specs.Accept.{few_rows};
 ghost use Rattle.tables.specs.Places.{starts_place, crowd_place, route_place, fixed_place};
 
-use super::accept::{MOST_ROWS, ROUTES, wide};
+use super::accept::{MOST_ROWS, route_fine};
 use super::search::route_at;
 
 // The first position where the starts are wrong; one more than the chips where they are right.
@@ -20,17 +21,15 @@ pub fn starts_place(starts: &[u32], chips: usize, rows: usize) -> usize
     if starts[0] != 0 {
         return 0;
     }
-    let mut p = 1;
-    while p <= chips {
-        if starts[p] < starts[p - 1] {
-            return p;
+    for c in 0..chips {
+        if starts[c + 1] < starts[c] {
+            return c + 1;
         }
-        p += 1;
     }
-    if wide(starts[chips]) != rows {
+    if starts[chips] as usize != rows {
         return chips;
     }
-    p
+    chips + 1
 }
 
 // The lowest chip with too many rows; the number of chips where there is none.
@@ -38,14 +37,12 @@ pub fn crowd_place(starts: &[u32], chips: usize) -> usize
     requires { length starts.now ≡ chips + 1 }
     ensures { result ≡ crowd_place starts.now chips }
 {
-    let mut c = 0;
-    while c < chips {
+    for c in 0..chips {
         if too_many(starts[c], starts[c + 1]) {
             return c;
         }
-        c += 1;
     }
-    c
+    chips
 }
 
 // The first row with a route bit above 25, or the words past the last whole row; one more than the whole rows where there is neither.
@@ -53,12 +50,10 @@ pub fn route_place(rows: &[u32]) -> usize
     ensures { result ≡ route_place rows.now }
 {
     let count = rows.len() / 3;
-    let mut i = 0;
-    while i < count {
-        if route_at(rows, i) >= ROUTES {
+    for i in 0..count {
+        if !route_fine(route_at(rows, i)) {
             return i;
         }
-        i += 1;
     }
     if rows.len() % 3 != 0 {
         return count;
@@ -74,19 +69,17 @@ pub fn fixed_place(fixed: &[u32], chips: usize) -> usize
     if fixed.len() != chips {
         return 0;
     }
-    let mut c = 0;
-    while c < chips {
-        if fixed[c] >= ROUTES {
+    for c in 0..chips {
+        if !route_fine(fixed[c]) {
             return c;
         }
-        c += 1;
     }
-    c
+    chips
 }
 
 // Whether more rows than a chip may have lie between a start and the next.
 fn too_many(start: u32, next: u32) -> bool
     ensures { result ≡ not (few_rows (next - start)) }
 {
-    wide(start) + MOST_ROWS < wide(next)
+    start as usize + MOST_ROWS < next as usize
 }

@@ -1,4 +1,4 @@
-use Rattle.std.proofs.Common.{◌≡◌, sym, ap, ◌∙◌, Some}
+use Rattle.std.proofs.Common.{sym, ap, ◌∙◌, Some}
 use Rattle.tables.proofs.RowByRow.{match_row}
 use Rattle.tables.specs.Rows.{rows_of, matched_of}
 use Rattle.tables.proofs.search.route_for.Goals as goal
