@@ -1,5 +1,6 @@
 // What is told of packets and refusals, on standard output.
 use packet::control::kind_of;
+use packet::kind::Kind;
 use script::say;
 use std::io;
 
@@ -27,12 +28,11 @@ pub fn tell_packet(
     payload: u32,
     nine: bool,
 ) -> io::Result<()> {
-    let kind = kind_of(control);
-    match kind {
-        0 => tell_word(rt, b"mc key ", word)?,
-        1 => tell_ids(rt, word)?,
-        2 => tell_word(rt, b"nn word ", word)?,
-        _ => tell_word(rt, b"fixed key ", word)?,
+    match Kind::try_from(kind_of(control)) {
+        Ok(Kind::Mc) => tell_word(rt, b"mc key ", word)?,
+        Ok(Kind::P2p) => tell_ids(rt, word)?,
+        Ok(Kind::Nn) => tell_word(rt, b"nn word ", word)?,
+        Ok(Kind::Fixed) | Err(_) => tell_word(rt, b"fixed key ", word)?,
     }
     if nine {
         tell_word(rt, b" payload ", payload)?;

@@ -5,6 +5,7 @@ use super::paths::Name;
 use super::storing::Sheet;
 use super::trees::look_at_targets;
 use packet::control::{is_fixed, kind_of};
+use packet::kind::Kind;
 use script::board::Board;
 use script::lines::each_line;
 use script::statements::{Statement, read_statement};
@@ -202,7 +203,7 @@ impl Reading<'_> {
 fn is_p2p(s: Statement<'_>) -> bool {
     match s {
         Statement::Code { .. } => true,
-        Statement::Send { packet, .. } => kind_of(packet.control) == 1,
+        Statement::Send { packet, .. } => kind_of(packet.control) == u32::from(Kind::P2p),
         _ => false,
     }
 }

@@ -7,6 +7,7 @@ ghost use Rattle.steps.specs.Wants.{Placed, wants, miss_wanted, match_wanted, nu
 use super::{Setting, Wanted};
 use packet::Packet;
 use packet::control::{is_mc, kind_of, mark_of, route_of};
+use packet::kind::Kind;
 use tables::codes::code_for;
 use tables::lent::ChipTables;
 use tables::search::route_for;
@@ -75,12 +76,11 @@ fn other_wanted(errors: u32, p: Packet, source: u32, tables: &ChipTables<'_>, t:
     ensures { wants result ≡ wanted_given errors p source None tables.now.codes tables.now.fixed t }
 {
     if errors == 0 {
-        let kind = kind_of(p.control);
-        match kind {
-            0 => 0,
-            1 => p2p_wanted(p, tables, t),
-            2 => nn_wanted(p, source, t.monitor),
-            _ => fixed_wanted(mark_of(p.control), tables.fixed()),
+        match Kind::try_from(kind_of(p.control)) {
+            Ok(Kind::Mc) => 0,
+            Ok(Kind::P2p) => p2p_wanted(p, tables, t),
+            Ok(Kind::Nn) => nn_wanted(p, source, t.monitor),
+            Ok(Kind::Fixed) | Err(_) => fixed_wanted(mark_of(p.control), tables.fixed()),
         }
     } else {
         monitor_bit(t.monitor)
