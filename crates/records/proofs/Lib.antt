@@ -6,4 +6,5 @@ pub mod NoKind
 pub mod ReadRecords
 pub mod ReadThenWritten
 pub mod Traces
+pub mod WriteRecords
 pub mod WrittenThenRead
