@@ -8,6 +8,7 @@ use kept::Registers;
 use kept::keeping::MOST_UNITS;
 use mesh::Added;
 use packet::control::carries_of;
+use packet::refused::told;
 use report::course::{Course, answered, answered_lent, going_on};
 use report::telling::{place, small, tell_packet, text};
 use script::cells::between;
@@ -205,7 +206,7 @@ pub fn change_link(
     up: bool,
     mesh: &mut [u32; WORDS],
 ) -> io::Result<Course> {
-    let refusal = set_link(mesh, chip, link, up);
+    let refusal = told(set_link(mesh, chip, link, up));
     let c = answered(rt, before, refusal)?;
     Ok(kept(c, refusal, link_change(chip, link, up), trace))
 }

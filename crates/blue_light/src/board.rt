@@ -50,7 +50,7 @@ pub fn opened() -> [u32; WORDS]
     ensures { result ≡ opened }
 {
     let mut mesh = [0u32; WORDS];
-    open(&mut mesh, 3, 3, 100, 0);
+    let _ = open(&mut mesh, 3, 3, 100, 0);
     mesh
 }
 
@@ -71,7 +71,7 @@ pub fn turn(mesh: &mut [u32; WORDS], log: &mut [u32; 6]) -> u32
 }
 
 pub fn watched_link_is_up(mesh: &mut [u32; WORDS], up: bool) {
-    set_link(mesh, 1, 0, up);
+    let _ = set_link(mesh, 1, 0, up);
 }
 
 pub fn watched_link(mesh: &[u32; WORDS]) -> LinkRead

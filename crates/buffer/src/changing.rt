@@ -1,5 +1,6 @@
 // The calls that change one thing: a link's state, a chip's registers.
 ghost use Rattle.std.specs.Prelude.{◌≡◌, ◌<◌, length};
+ghost use Rattle.packet.specs.Refused.{told};
 ghost use Rattle.kept.specs.Keeping.{empty};
 ghost use Rattle.lists.specs.Lists.{put_back};
 ghost use Rattle.buffer.specs.Layout.{mesh_of, register_words};
@@ -16,28 +17,32 @@ use kept::keeping::empty_registers;
 use links::link::set_state;
 use links::offsets::{CHIP, HEADER, LINK, LINKS_AT, REGISTERS};
 use mesh::RegistersRead;
+use packet::refused::Refused;
 
 // Takes one directed link of a chip up or down. Refusals, the first that applies: 8 no mesh, 9 chip or link.
-pub fn set_link(mesh: &mut [u32], chip: u32, link: u32, up: bool) -> u32
-    ensures value { result ≡ (link_left mesh.old chip link up).refusal }
+pub fn set_link(mesh: &mut [u32], chip: u32, link: u32, up: bool) -> Result<(), Refused>
+    ensures value { told result ≡ (link_left mesh.old chip link up).refusal }
     ensures leaves { Leaves mesh.old mesh.new (link_left mesh.old chip link up) }
 {
     set_link_tested(mesh, chip, link, up, holds(mesh))
 }
 
 // A link change where the buffer was tested.
-pub fn set_link_tested(mesh: &mut [u32], chip: u32, link: u32, up: bool, held: bool) -> u32
+pub fn set_link_tested(
+    mesh: &mut [u32],
+    chip: u32,
+    link: u32,
+    up: bool,
+    held: bool,
+) -> Result<(), Refused>
     requires { held ≡ holds_mesh mesh.old }
-    ensures value { result ≡ (link_left mesh.old chip link up).refusal }
+    ensures value { told result ≡ (link_left mesh.old chip link up).refusal }
     ensures leaves { Leaves mesh.old mesh.new (link_left mesh.old chip link up) }
 {
-    let refusal = number_refusal(mesh, held, chip, link, 6);
-    if refusal != 0 {
-        return refusal;
-    }
+    number_refusal(mesh, held, chip, link, 6)?;
     let at = HEADER + (chip as usize) * CHIP;
     link_on_chip(&mut mesh[at..at + CHIP], link as usize, up);
-    0
+    Ok(())
 }
 
 // Hands over a chip's error registers and empties them. Refusals, the first that applies: 8 no mesh, 9 chip.
@@ -54,10 +59,9 @@ pub fn read_registers_tested(mesh: &mut [u32], chip: u32, held: bool) -> Registe
     ensures value { result ≡ registers_read (holds_mesh mesh.old) (mesh_of mesh.old) chip }
     ensures leaves { Leaves mesh.old mesh.new (registers_left mesh.old chip) }
 {
-    let refusal = chip_refusal(mesh, held, chip);
-    if refusal != 0 {
+    if let Err(refused) = chip_refusal(mesh, held, chip) {
         return RegistersRead {
-            refusal,
+            refusal: u32::from(refused),
             registers: empty_registers(),
         };
     }

@@ -1,5 +1,6 @@
 // The calls that only look.
 ghost use Rattle.std.specs.Prelude.{◌≡◌, ◌≤◌, length, slice_index};
+ghost use Rattle.packet.specs.Refused.{number_of};
 ghost use Rattle.links.specs.Offsets.{held_at, link_long};
 ghost use Rattle.links.specs.Words.{link_in};
 ghost use Rattle.buffer.specs.Layout.{mesh_of};
@@ -16,6 +17,7 @@ use links::offsets::{
 };
 use mesh::{CountRead, FlightRead, LinkRead, MeshRead};
 use packet::Packet;
+use packet::refused::Refused;
 use steps::errors::flag_of;
 use tables::size::chips;
 
@@ -23,9 +25,11 @@ use tables::size::chips;
 pub fn read_counter(mesh: &[u32], chip: u32, counter: u32) -> CountRead
     ensures { result ≡ count_read (holds_mesh mesh.now) (mesh_of mesh.now) chip counter }
 {
-    let refusal = number_refusal(mesh, holds(mesh), chip, counter, 10);
-    if refusal != 0 {
-        return CountRead { refusal, count: 0 };
+    if let Err(refused) = number_refusal(mesh, holds(mesh), chip, counter, 10) {
+        return CountRead {
+            refusal: u32::from(refused),
+            count: 0,
+        };
     }
     let at = HEADER + (chip as usize) * CHIP + (COUNTERS_AT + counter as usize);
     CountRead {
@@ -40,7 +44,7 @@ pub fn look_mesh(mesh: &[u32]) -> MeshRead
 {
     if !holds(mesh) {
         return MeshRead {
-            refusal: 8,
+            refusal: u32::from(Refused::NoMesh),
             width: 0,
             height: 0,
             rounds_per_phase: 0,
@@ -68,10 +72,9 @@ pub fn look_mesh(mesh: &[u32]) -> MeshRead
 pub fn look_link(mesh: &[u32], chip: u32, link: u32) -> LinkRead
     ensures { result ≡ link_read (holds_mesh mesh.now) (mesh_of mesh.now) chip link }
 {
-    let refusal = number_refusal(mesh, holds(mesh), chip, link, 6);
-    if refusal != 0 {
+    if let Err(refused) = number_refusal(mesh, holds(mesh), chip, link, 6) {
         return LinkRead {
-            refusal,
+            refusal: u32::from(refused),
             up: 0,
             held: 0,
             ready: 0,
@@ -86,9 +89,8 @@ pub fn look_link(mesh: &[u32], chip: u32, link: u32) -> LinkRead
 pub fn look_flight(mesh: &[u32], chip: u32, link: u32, place: u32) -> FlightRead
     ensures { result ≡ flight_read (holds_mesh mesh.now) (mesh_of mesh.now) chip link place }
 {
-    let refusal = number_refusal(mesh, holds(mesh), chip, link, 6);
-    if refusal != 0 {
-        return no_flight(refusal);
+    if let Err(refused) = number_refusal(mesh, holds(mesh), chip, link, 6) {
+        return no_flight(refused);
     }
     let at = HEADER + (chip as usize) * CHIP + (LINKS_AT + (link as usize) * LINK);
     look_place(&mesh[at..at + LINK], place)
@@ -111,7 +113,7 @@ fn look_place(words: &[u32], place: u32) -> FlightRead
     ensures { result ≡ place_read (link_in words.now) place }
 {
     if words[HELD] <= place {
-        return no_flight(9);
+        return no_flight(Refused::NotThere);
     }
     FlightRead {
         refusal: 0,
@@ -119,11 +121,11 @@ fn look_place(words: &[u32], place: u32) -> FlightRead
     }
 }
 
-fn no_flight(refusal: u32) -> FlightRead
-    ensures { result ≡ no_flight refusal }
+fn no_flight(refused: Refused) -> FlightRead
+    ensures { result ≡ no_flight (number_of refused) }
 {
     FlightRead {
-        refusal,
+        refusal: u32::from(refused),
         packet: Packet {
             control: 0,
             nine: 0,

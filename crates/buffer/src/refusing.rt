@@ -1,6 +1,7 @@
 // What the calls on a mesh refuse, the first number that applies, where buffer and tables were tested.
 ghost use Rattle.std.specs.Prelude.{◌≡◌};
 ghost use Rattle.packet.specs.Refusal.{first_of};
+ghost use Rattle.packet.specs.Refused.{told};
 ghost use Rattle.buffer.specs.Layout.{mesh_of, chips_of};
 ghost use Rattle.buffer.specs.Holding.{holds_mesh};
 ghost use Rattle.mesh.specs.Weights.{in_flight};
@@ -11,7 +12,7 @@ use super::flight::in_flight;
 use super::testing::Tested;
 use links::offsets::{HEIGHT, WIDTH};
 use packet::bytes::packet_to_pass;
-use packet::refused::told;
+use packet::refused::{Refused, told};
 use tables::size::chips;
 
 // Injection: 8 no mesh, 9 chip, 15 starts, 16 too many rows, 17 route bits, 18 fixed routes, 11 codes, 29 room, 10 log, 2 length, 4 NN with T = 1.
@@ -63,30 +64,33 @@ pub fn place_told(tested: Tested, refusal: u32) -> u32
 }
 
 // A chip's registers: 8 no mesh, 9 chip.
-pub fn chip_refusal(mesh: &[u32], held: bool, chip: u32) -> u32
+pub fn chip_refusal(mesh: &[u32], held: bool, chip: u32) -> Result<(), Refused>
     requires { held ≡ holds_mesh mesh.now }
-    ensures { result ≡ first_of (chip_refusals (holds_mesh mesh.now) (chips_of mesh.now) chip) }
+    ensures { told result ≡ first_of (chip_refusals (holds_mesh mesh.now) (chips_of mesh.now) chip) }
 {
     if !held {
-        return 8;
+        return Err(Refused::NoMesh);
     }
     if chips(mesh[WIDTH], mesh[HEIGHT]) <= (chip as usize) {
-        return 9;
+        return Err(Refused::NotThere);
     }
-    0
+    Ok(())
 }
 
 // A link or a counter of a chip: 8 no mesh, 9 chip, link or counter.
-pub fn number_refusal(mesh: &[u32], held: bool, chip: u32, number: u32, end: u32) -> u32
+pub fn number_refusal(
+    mesh: &[u32],
+    held: bool,
+    chip: u32,
+    number: u32,
+    end: u32,
+) -> Result<(), Refused>
     requires { held ≡ holds_mesh mesh.now }
-    ensures { result ≡ first_of (number_refusals (holds_mesh mesh.now) (chips_of mesh.now) chip number end) }
+    ensures { told result ≡ first_of (number_refusals (holds_mesh mesh.now) (chips_of mesh.now) chip number end) }
 {
-    let refusal = chip_refusal(mesh, held, chip);
-    if refusal != 0 {
-        return refusal;
-    }
+    chip_refusal(mesh, held, chip)?;
     if end <= number {
-        return 9;
+        return Err(Refused::NotThere);
     }
-    0
+    Ok(())
 }

@@ -36,7 +36,7 @@ pub fn link_fills() -> bool
     ensures { result ≡ case.link_fills }
 {
     let mut mesh = [0u32; WORDS];
-    let mut right = open(&mut mesh, 2, 1, 2, 0) == 0;
+    let mut right = open(&mut mesh, 2, 1, 2, 0).is_ok();
     for held in 0..7 {
         right = right & link_is(&mesh, held, 1) & injected(&mut mesh, 0);
     }
@@ -47,7 +47,7 @@ fn crosses_four(chip: u32, other: u32) -> bool
     ensures { result ≡ case.crosses_four chip other }
 {
     let mut mesh = [0u32; WORDS];
-    let opened = open(&mut mesh, 2, 1, 2, 0) == 0;
+    let opened = open(&mut mesh, 2, 1, 2, 0).is_ok();
     let waited = three_pass_on(&mut mesh, 0);
     let crossing = injected(&mut mesh, chip)
         & (in_flight(&mesh) == 1)

@@ -66,7 +66,7 @@ fn check_floods(
     mesh: &mut [u32; WORDS],
     log: &mut [u32; LOG],
 ) -> io::Result<u64> {
-    open(mesh, b.width, b.height, b.phase, b.monitor);
+    let _ = open(mesh, b.width, b.height, b.phase, b.monitor);
     let mut c = course_on(rt, b);
     c.pairs = true;
     let InUse {
@@ -94,7 +94,7 @@ pub fn play(
     };
     let b = contents.board;
     sheet.move_together(b);
-    open(mesh, b.width, b.height, b.phase, b.monitor);
+    let _ = open(mesh, b.width, b.height, b.phase, b.monitor);
     let InUse {
         rows,
         starts,
@@ -198,7 +198,7 @@ fn flood_before(
 ) -> io::Result<()> {
     let begun = course_on(rt, b);
     run_links(rt, file, begun, mesh, log, rows, starts, codes, fixed)?;
-    open(mesh, b.width, b.height, b.phase, b.monitor);
+    let _ = open(mesh, b.width, b.height, b.phase, b.monitor);
     Ok(())
 }
 

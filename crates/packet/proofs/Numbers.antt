@@ -1,5 +1,6 @@
 -- No reason for a refusal has the number 0, which is told where nothing is refused, and no two have the same.
 use Rattle.std.proofs.Common.{◌≡◌, refl, sym, ap, ◌∙◌, ℕ, true≢false, false, cond, eqb, eq-eqb, Result, Ok, Err}
+use Rattle.std.specs.Result.{is_ok}
 use Rattle.packet.specs.declared.Packet.{Packet}
 use Rattle.packet.specs.declared.refused.Refused.{Refused}
 use Rattle.packet.specs.declared.refused.Refused.TheVariants.{Source, Length, Direct, OutOfRange, Size, NoMesh, NotThere, LogRoom, Codes, CutShort, Version, Record, Starts, ManyRows, RouteBits, FixedRoutes, OffMesh, Targets, KeyBits, TreeRoom, RecordRoom, FewerRoom, GroupsRoom}
@@ -85,6 +86,13 @@ reason_back GroupsRoom = refl
 
 pub same_reason : (r s : Refused) → number_of r ≡ number_of s → r ≡ s
 same_reason r s e = sym (reason_back r) ∙ ap reason e ∙ reason_back s
+
+pub number_some : (r : Refused) → number_of r ≡ 0 → ⊥
+number_some r e = true≢false (sym (eq-eqb (number_of r) 0 e) ∙ told_some r)
+
+pub ok_told : {A : Type 0} → (r : Result A Refused) → is_ok r ≡ eqb (told r) 0
+ok_told (Ok x) = refl
+ok_told (Err s) = sym (told_some s)
 
 -- ---- what is told of taking says which packet was taken, or why none was
 

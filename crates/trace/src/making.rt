@@ -9,6 +9,7 @@ use buffer::changing::{read_registers_tested, set_link_tested};
 use buffer::moving::{inject_tested, round_tested};
 use buffer::testing::Tested;
 use mesh::Added;
+use packet::refused::told;
 use records::Call;
 
 pub fn make(
@@ -47,7 +48,7 @@ pub fn make(
         }
         2 => round_tested(mesh, log, rows, starts, codes, fixed, room, tested),
         3 => {
-            let refusal = set_link_tested(mesh, call.chip, call.link, call.up == 1, tested.holds);
+            let refusal = told(set_link_tested(mesh, call.chip, call.link, call.up == 1, tested.holds));
             Added {
                 refusal,
                 added: 0,

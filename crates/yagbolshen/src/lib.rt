@@ -5,6 +5,7 @@ ghost use Rattle.std.specs.Prelude.{◌≡◌, length};
 ghost use Rattle.packet.specs.Fields.{read_of};
 ghost use Rattle.packet.specs.Packing.{packed_of};
 ghost use Rattle.packet.specs.Refusal.{first_of};
+ghost use Rattle.packet.specs.Refused.{told};
 ghost use Rattle.tables.specs.Rows.{found_in};
 ghost use Rattle.tables.specs.Tables.{chip_tables};
 ghost use Rattle.router.specs.Call.{pass_of};
@@ -25,7 +26,7 @@ ghost use Rattle.yagbolshen.specs.Settings.{setting_of};
 use buffer::opening::SizeRead;
 use fewer::Fewer;
 use mesh::{Added, CountRead, FlightRead, LinkRead, MeshRead, RegistersRead};
-use packet::refused::told;
+use packet::refused::{Refused, told};
 use packet::{Fields, FieldsRead, Packed};
 use records::{Call, Record, Written};
 use router::Pass;
@@ -98,9 +99,9 @@ pub fn yagbolshen_open(
     height: u32,
     rounds_per_phase: u32,
     monitor: u32,
-) -> u32
-    ensures value { result ≡ first_of (open_refusals (length mesh.old) width height rounds_per_phase monitor) }
-    ensures mesh_after { mesh.new ≡ opening result mesh.old width height rounds_per_phase monitor }
+) -> Result<(), Refused>
+    ensures value { told result ≡ first_of (open_refusals (length mesh.old) width height rounds_per_phase monitor) }
+    ensures mesh_after { mesh.new ≡ opening (told result) mesh.old width height rounds_per_phase monitor }
 {
     buffer::opening::open(mesh, width, height, rounds_per_phase, monitor)
 }
@@ -150,8 +151,13 @@ pub fn yagbolshen_round(
 }
 
 // Takes one directed link of a chip up or down.
-pub fn yagbolshen_set_link(mesh: &mut [u32], chip: u32, link: u32, up: bool) -> u32
-    ensures value { result ≡ (link_left mesh.old chip link up).refusal }
+pub fn yagbolshen_set_link(
+    mesh: &mut [u32],
+    chip: u32,
+    link: u32,
+    up: bool,
+) -> Result<(), Refused>
+    ensures value { told result ≡ (link_left mesh.old chip link up).refusal }
     ensures leaves { Leaves mesh.old mesh.new (link_left mesh.old chip link up) }
 {
     buffer::changing::set_link(mesh, chip, link, up)

@@ -25,6 +25,7 @@ ghost use Rattle.yagbolshen.specs.Settings.{setting_of};
 use buffer::opening::SizeRead;
 use fewer::Fewer;
 use mesh::{Added, CountRead, FlightRead, LinkRead, MeshRead, RegistersRead};
+use packet::refused::told;
 use packet::{Fields, FieldsRead, Packed};
 use records::{Call, Record, Written};
 use router::Pass;
@@ -100,7 +101,13 @@ pub extern "C" fn yagbolshen_open(
     ensures value { result ≡ first_of (open_refusals (length mesh.old) width height rounds_per_phase monitor) }
     ensures mesh_after { mesh.new ≡ opening result mesh.old width height rounds_per_phase monitor }
 {
-    yagbolshen::yagbolshen_open(mesh, width, height, rounds_per_phase, monitor)
+    told(yagbolshen::yagbolshen_open(
+        mesh,
+        width,
+        height,
+        rounds_per_phase,
+        monitor,
+    ))
 }
 
 // Passes a local packet at a chip.
@@ -145,7 +152,7 @@ pub extern "C" fn yagbolshen_set_link(mesh: &mut [u32], chip: u32, link: u32, up
     ensures value { result ≡ (link_left mesh.old chip link up).refusal }
     ensures leaves { Leaves mesh.old mesh.new (link_left mesh.old chip link up) }
 {
-    yagbolshen::yagbolshen_set_link(mesh, chip, link, up)
+    told(yagbolshen::yagbolshen_set_link(mesh, chip, link, up))
 }
 
 // Hands over a chip's error registers and empties them.

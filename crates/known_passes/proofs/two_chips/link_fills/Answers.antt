@@ -3,14 +3,15 @@ use mathlib.Core.Bool.{◌&&◌}
 use Prim.Native.Nat.{ℕ}
 use native.Mathlib.Omega.{arith}
 use lib.Dec.{eqb}
+use Rattle.packet.proofs.Numbers.{ok_told}
 use Rattle.known_passes.specs.TwoChips.{Held, added, after, inject, link_is, sent, sent_ready, link_fills}
 use Rattle.known_passes.proofs.Following.{open_held, sent_next, ready_next}
 use Rattle.known_passes.proofs.two_chips.link_fills.Goals as goal
 
 pub loop-held-init : goal.loop-held-init
 unfolding sent sent_ready
-loop-held-init c = let opened = open_held c.open-right.new.mesh c.open-right.result c.open-right.ensures.value c.open-right.ensures.mesh_after in
-    record { right = ap (λ (n : ℕ). eqb n 0) opened.0; mesh = opened.1 }
+loop-held-init c = let opened = open_held c.open.new.mesh _ c.open.ensures.value c.open.ensures.mesh_after in
+    record { right = c.is_ok-right.ensures.value ∙ ok_told c.open.result ∙ ap (λ (n : ℕ). eqb n 0) opened.0; mesh = opened.1 }
 
 pub loop-held-preserved : goal.loop-held-preserved
 loop-held-preserved c = let n = c.loop-held.held in

@@ -1,4 +1,4 @@
-use mathlib.Core.Path.{sym, ap}
+use mathlib.Core.Path.{sym, ap, ◌∙◌}
 use lib.Seq.{length-take-le}
 use Rattle.buffer.specs.declared.testing.Tested.{Tested}
 use lib.ListN.{length}
@@ -11,8 +11,8 @@ use Rattle.trace.proofs.making.make.Goals as goal
 pub slice_bounds-inject_tested-end : goal.slice_bounds-inject_tested-end
 slice_bounds-inject_tested-end c = sym (length-take-le c.args.call.length (nine_of c.args.call.bytes) c.requires.0)
 
-pub set_link_tested-refusal-requires : goal.set_link_tested-refusal-requires
-set_link_tested-refusal-requires c = ap (λ (x : Tested). x.holds) c.requires.1
+pub set_link_tested-requires : goal.set_link_tested-requires
+set_link_tested-requires c = ap (λ (x : Tested). x.holds) c.requires.1
 
 pub read_registers_tested-read-requires : goal.read_registers_tested-read-requires
 read_registers_tested-read-requires c = ap (λ (x : Tested). x.holds) c.requires.1
@@ -34,7 +34,7 @@ returns-in-2 c = let t = tables_of c.args.rows.now c.args.starts.now c.args.code
 pub returns-in-3 : goal.returns-in-3
 returns-in-3 c = let t = tables_of c.args.rows.now c.args.starts.now c.args.codes.now c.args.fixed.now (length c.args.room.now) in
     record {
-      moves = made_change t c.args.mesh.now c.args.log.now c.args.call _ c.in-3.is _ c.set_link_tested-refusal.ensures.value c.set_link_tested-refusal.ensures.leaves;
+      moves = made_change t c.args.mesh.now c.args.log.now c.args.call _ c.in-3.is _ (c.told-refusal.ensures ∙ c.set_link_tested.ensures.value) c.set_link_tested.ensures.leaves;
       room_after = room_change t c.args.mesh.now (length c.args.log.now) c.args.call c.args.room.now c.in-3.is;
     }
 
