@@ -7,6 +7,7 @@ use buffer::moving::{inject, round};
 use kept::Registers;
 use kept::keeping::MOST_UNITS;
 use mesh::Added;
+use mesh::lent::Tables;
 use packet::control::carries_of;
 use packet::refused::told;
 use report::course::{Course, answered, answered_lent, going_on};
@@ -45,10 +46,7 @@ pub fn send(
         log,
         chip,
         first_bytes(&bytes, length),
-        rows,
-        starts,
-        codes,
-        fixed,
+        &Tables::new(rows, starts, codes, fixed),
         0,
     );
     let mut c = answered_lent(rt, before, a.refusal, a.place, rows, starts)?;
@@ -156,7 +154,8 @@ pub fn lent_round(
         return round_in_room(mesh, log, rows, starts, codes, fixed);
     }
     let mut none = [0u32; 0];
-    round(mesh, log, rows, starts, codes, fixed, &mut none)
+    let tables = Tables::new(rows, starts, codes, fixed);
+    round(mesh, log, &tables, &mut none)
 }
 
 // To clear the room takes as long as a hundred thousand rows do: it pays where many packets meet long tables.
@@ -174,7 +173,8 @@ fn round_in_room(
     fixed: &[u32],
 ) -> Added {
     let mut room = [0u32; ROOM];
-    round(mesh, log, rows, starts, codes, fixed, &mut room)
+    let tables = Tables::new(rows, starts, codes, fixed);
+    round(mesh, log, &tables, &mut room)
 }
 
 pub fn one_round(

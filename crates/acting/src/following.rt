@@ -4,6 +4,7 @@ use super::passes::tell_pass;
 use buffer::looking::look_flight;
 use buffer::moving::inject;
 use mesh::FlightRead;
+use mesh::lent::Tables;
 use packet::Packet;
 use packet::bytes::bytes_of;
 use report::telling::{number, text};
@@ -33,10 +34,7 @@ pub fn follow_packet(
         log,
         chip,
         first_bytes(&bytes, packed.length),
-        rows,
-        starts,
-        codes,
-        fixed,
+        &Tables::new(rows, starts, codes, fixed),
         0,
     );
     let rounds = follow(rt, b, mesh, log, rows, starts, codes, fixed)?;

@@ -14,6 +14,7 @@ use buffer::looking::{look_flight, look_link, look_mesh, read_counter};
 use buffer::moving::{inject, round};
 use buffer::opening::open;
 use mesh::LinkRead;
+use mesh::lent::Tables;
 use packet::control::mark_of;
 
 // No mesh needs more than 4,096 words a chip and 1,024 besides.
@@ -59,7 +60,8 @@ pub fn send(mesh: &mut [u32; WORDS], log: &mut [u32; 6]) -> u32
     ensures { result ≡ (added_of (inject_left mesh.old lent (length log.old) 0 packet)).added }
 {
     let bytes: [u8; 5] = [0, 0, 0, 0, 1];
-    inject(mesh, log, 0, &bytes, &ROWS, &STARTS, &CODES, &FIXED, 0).added
+    let tables = Tables::new(&ROWS, &STARTS, &CODES, &FIXED);
+    inject(mesh, log, 0, &bytes, &tables, 0).added
 }
 
 // A round, which answers the same.
@@ -67,7 +69,8 @@ pub fn turn(mesh: &mut [u32; WORDS], log: &mut [u32; 6]) -> u32
     ensures { result ≡ (added_of (round_left mesh.old lent (length log.old))).added }
 {
     let mut none = [0u32; 0];
-    round(mesh, log, &ROWS, &STARTS, &CODES, &FIXED, &mut none).added
+    let tables = Tables::new(&ROWS, &STARTS, &CODES, &FIXED);
+    round(mesh, log, &tables, &mut none).added
 }
 
 pub fn watched_link_is_up(mesh: &mut [u32; WORDS], up: bool) {

@@ -1,10 +1,8 @@
 -- Passes one after the other: one is as the mesh's definition says, and some followed by others are all of them.
-use Rattle.std.proofs.Common.{◌≡◌, ℕ, zero, suc, ◌+◌, ◌-◌, ◌*◌, ◌/◌, ◌<◌, ◌≤◌, Bool, true, false, cond, List, [], ◌∷◌, ◌++◌, length, get_or, take, drop, sym, refl, ap, ◌∙◌, subst, le_trans, le_of_eq, le_refl, suc-mul, mul-le-mul, arith, lit<, length-append, length-drop, length-take-le, drop-cons, drop-drop}
+use Rattle.std.proofs.Common.{◌≡◌, ℕ, zero, suc, ◌+◌, ◌-◌, ◌*◌, ◌<◌, ◌≤◌, Bool, true, false, cond, List, [], ◌∷◌, ◌++◌, length, get_or, take, drop, sym, refl, ap, ◌∙◌, subst, arith, lit<, length-append, drop-cons, drop-drop}
 use mathlib.Core.List.{foldl, foldl-append}
-use native.Mathlib.Nat.{add-sub_cancel_left}
 use Rattle.steps.specs.declared.Outcome.{Outcome}
 use Rattle.steps.specs.Deciding.{decided, outcome_of}
-use Rattle.tables.proofs.Starts.{starts_one_more, start_below, start_end}
 use Rattle.tables.specs.Tables.{ChipTables, chip_tables}
 use Rattle.std.specs.Prelude.{Option, Some, None}
 use Rattle.tables.specs.Rows.{Entry, matches, rows_of, first_match, next, matched_of, blank_entry, route_for}
@@ -17,7 +15,7 @@ use Rattle.mesh.specs.Mesh.{Chip, fresh}
 use Rattle.links.specs.Offsets.{width_at, height_at, monitor_at, phase_at, chip_long, chip_place}
 use Rattle.links.specs.Link.{ready_links}
 use Rattle.buffer.specs.Layout.{chip_in, mesh_of, words_for, chips_of, words_of}
-use Rattle.mesh.specs.Lending.{Tables, tables_of, codes_at, tables_at}
+use Rattle.mesh.specs.Lending.{Tables, with_room, tables_at}
 use Rattle.mesh.specs.Steps.{Arrival, Going, log_of, setting_at, chip_after, with_chip, pass_at, same}
 use Rattle.buffer.specs.OnePass.{chip_words, setting_in, CheckedAt, MeshStep}
 use Rattle.buffer.specs.Holding.{head_fine}
@@ -30,67 +28,9 @@ use Rattle.buffer.proofs.MeshParts.{mesh_chip}
 use Rattle.lists.specs.Lists.{All}
 use Rattle.mesh.specs.Sound.{Arrives}
 
--- ---- the tables of one chip
-
-pub record Cuts (t : Tables) (chips c : ℕ) : Type 0 where
-  pub small : c < 144
-  pub start : c + 1 < length t.starts
-  pub fixed : c < length t.fixed
-  pub code_small : c * chips + chips ≤ 20736
-  pub code_end : c * chips + chips ≤ length t.codes
-  pub row_below : get_or t.starts c 0 ≤ get_or t.starts (c + 1) 0
-  pub row_end : get_or t.starts (c + 1) 0 * 3 ≤ length t.rows
-
-module _ (t : Tables) (chips c : ℕ) (lent : Lent t chips) (below : c < chips) where
-  pub rows_below_lem : get_or t.starts c 0 ≤ get_or t.starts (c + 1) 0
-  rows_below_lem = start_below t.starts chips (length t.rows / 3) c lent.starts below
-
-  pub starts_long : length t.starts ≡ chips + 1
-  starts_long = starts_one_more t.starts chips (length t.rows / 3) c lent.starts
-
-  pub rows_end : get_or t.starts (c + 1) 0 * 3 ≤ length t.rows
-  rows_end = omega (arith, start_end t.starts chips (length t.rows / 3) (c + 1) lent.starts (omega arith))
-
-  pub codes_end : c * chips + chips ≤ length t.codes
-  codes_end =
-      let e : suc c * chips ≡ c * chips + chips = simp suc-mul in
-      subst (λ (n : ℕ). c * chips + chips ≤ n) (sym lent.codes) (subst (λ (n : ℕ). n ≤ chips * chips) e (mul-le-mul below (le_refl chips)))
-
-  pub fixed_there : c < length t.fixed
-  fixed_there = omega (arith, lent.fixed)
-
-  pub codes_long : length (codes_at t chips c) ≡ chips
-  codes_long = length-take-le chips (drop (c * chips) t.codes) (simp length-drop (omega (arith, codes_end)))
-
-  pub codes_enough : (all : ℕ) → all ≡ chips → chips ≤ length (take (c * all + all - c * all) (drop (c * all) t.codes))
-  codes_enough all e =
-      let many : c * all + all - c * all ≡ chips = add-sub_cancel_left (c * all) all ∙ e in
-      le_of_eq (sym ((λ i. length (take (many i) (drop (c * e i) t.codes))) ∙ codes_long))
-
-  -- with these the code cuts them out of all that is lent, and stays small
-  pub cuts : chips ≤ 144 → Cuts t chips c
-  cuts few =
-      record {
-        small = omega (arith, below, few);
-        start = omega (arith, below, starts_long);
-        fixed = fixed_there;
-        code_small = le_trans codes_end (subst (λ (k : ℕ). k ≤ 20736) (sym lent.codes) (mul-le-mul few few));
-        code_end = codes_end;
-        row_below = rows_below_lem;
-        row_end = rows_end;
-      }
-
-  -- as the code cuts them out of all that is lent, by the places that it works out
-  pub tables_places : (first next all : ℕ) → first ≡ get_or t.starts c 0 * 3 → next ≡ get_or t.starts (c + 1) 0 * 3 → all ≡ chips
-      → chip_tables (take (next - first) (drop first t.rows)) (take (c * all + all - c * all) (drop (c * all) t.codes)) (get_or t.fixed c 0) ≡ tables_at t chips c
-  tables_places first next all e₁ e₂ e₃ =
-      let long : next - first ≡ (get_or t.starts (c + 1) 0 - get_or t.starts c 0) * 3 = omega (arith, e₁, e₂) in
-      let many : c * all + all - c * all ≡ chips = add-sub_cancel_left (c * all) all ∙ e₃ in
-      λ i. chip_tables (take (long i) (drop (e₁ i) t.rows)) (take (many i) (drop (c * e₃ i) t.codes)) (get_or t.fixed c 0)
-
 -- no pass looks at the room's length
-pub lent_room : (rows starts codes fixed : List ℕ) (a b chips : ℕ) → Lent (tables_of rows starts codes fixed a) chips → Lent (tables_of rows starts codes fixed b) chips
-lent_room rows starts codes fixed a b chips l = record { starts = l.starts; codes = l.codes; fixed = l.fixed }
+pub lent_room : (t : Tables) (room chips : ℕ) → Lent (with_room t room) chips → Lent t chips
+lent_room t room chips l = record { starts = l.starts; codes = l.codes; fixed = l.fixed }
 
 -- ---- one pass
 
@@ -239,18 +179,18 @@ module _ (s : List ℕ) (key : ℕ) where
   none_found e = sym (ap (matched_of (rows_of s)) e)
 
 -- a pass looks at the rows for the route of its packet alone
-outcome_by_route : (rows rows' codes : List ℕ) (fixed : ℕ) (p : Packet) (source : ℕ) (t : Setting) → route_for p.word (rows_of rows) ≡ route_for p.word (rows_of rows')
-    → outcome_of p source (chip_tables rows codes fixed) t ≡ outcome_of p source (chip_tables rows' codes fixed) t
+outcome_by_route : (t : ChipTables) (rows : List ℕ) (p : Packet) (source : ℕ) (s : Setting) → route_for p.word (rows_of rows) ≡ route_for p.word (rows_of t.rows)
+    → outcome_of p source (chip_tables rows t.codes t.fixed) s ≡ outcome_of p source t s
 unfolding outcome_of wanted_of
-outcome_by_route rows rows' codes fixed p source t e =
-    ap (λ (m : Option ℕ). decided (errors_of p source t.phase) (stamped_of p source (errors_of p source t.phase) t.phase) source t.phase (wanted_given (errors_of p source t.phase) p source m codes fixed t) t.ready) e
+outcome_by_route t rows p source s e =
+    ap (λ (m : Option ℕ). decided (errors_of p source s.phase) (stamped_of p source (errors_of p source s.phase) s.phase) source s.phase (wanted_given (errors_of p source s.phase) p source m t.codes t.fixed s) s.ready) e
 
-pub passed_route : (rows rows' codes : List ℕ) (fixed : ℕ) (a : Arrival (Unit {0})) (l log : List ℕ) (n : ℕ) (l' log' : List ℕ) (n' : ℕ) → route_for a.flight.packet.word (rows_of rows) ≡ route_for a.flight.packet.word (rows_of rows')
-    → Passed (pass_by (chip_tables rows codes fixed)) (a ∷ []) l log n l' log' n' → Passed (pass_by (chip_tables rows' codes fixed)) (a ∷ []) l log n l' log' n'
-passed_route rows rows' codes fixed a l log n l' log' n' e =
-    passed_alike (pass_by (chip_tables rows codes fixed)) (pass_by (chip_tables rows' codes fixed)) (a ∷ []) l log n l' log' n'
+pub passed_route : (t : ChipTables) (rows : List ℕ) (a : Arrival (Unit {0})) (l log : List ℕ) (n : ℕ) (l' log' : List ℕ) (n' : ℕ) → route_for a.flight.packet.word (rows_of rows) ≡ route_for a.flight.packet.word (rows_of t.rows)
+    → Passed (pass_by (chip_tables rows t.codes t.fixed)) (a ∷ []) l log n l' log' n' → Passed (pass_by t) (a ∷ []) l log n l' log' n'
+passed_route t rows a l log n l' log' n' e =
+    passed_alike (pass_by (chip_tables rows t.codes t.fixed)) (pass_by t) (a ∷ []) l log n l' log' n'
     (ap (λ (o : Outcome). record { mesh = with_chip (mesh_of l) a.chip (chip_after o tt (get_or (mesh_of l).chips a.chip fresh)); log = take (n * 6) log ++ log_of a.chip o })
-    (outcome_by_route rows rows' codes fixed a.flight.packet a.source (setting_at (mesh_of l) a.chip) e))
+    (outcome_by_route t rows a.flight.packet a.source (setting_at (mesh_of l) a.chip) e))
 
 -- ---- some, and then others
 

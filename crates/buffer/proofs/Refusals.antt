@@ -1,6 +1,8 @@
 -- The first refusal that applies to a call on a mesh, test by test.
 use Rattle.std.proofs.Common.{◌≡◌, ℕ, ◌*◌, ◌/◌, ◌<◌, ◌≤◌, Bool, true, false, cond, not, ◌&&◌, eqb, ltb, List, [], ◌∷◌, length, sym, refl, ap, ◌∙◌, true≢false, arith, lit<, ne_eqb, eqb-true}
 use mathlib.Core.Bool.{false≢true}
+use Rattle.std.specs.Prelude.{Option, Some, None, Result, Ok, Err, is_some}
+use Rattle.buffer.specs.declared.testing.Wrong.{Wrong}
 use borrow.Author.Tests.{eqb-false}
 use Rattle.packet.specs.Refusal.{first_of, refuse, packet_refusals}
 use Rattle.packet.specs.Bytes.{right_length, control_at}
@@ -8,12 +10,11 @@ use Rattle.packet.specs.Control.{is_direct}
 use Rattle.tables.specs.Accept.{starts_right, rows_few}
 use Rattle.packet.proofs.First.{first_append}
 use Rattle.mesh.specs.Lending.{Tables}
-use Rattle.buffer.specs.declared.testing.Tested.{Tested}
 use Rattle.buffer.specs.Layout.{mesh_of, chips_of}
 use Rattle.mesh.specs.Weights.{in_flight}
 use Rattle.buffer.specs.Holding.{holds_mesh}
 use Rattle.mesh.specs.Refusals.{tables_refusals, place_in, inject_refusals, round_refusals, chip_refusals, number_refusals}
-use Rattle.buffer.specs.Testing.{tested_of, inject_number, round_number, place_told, Sized}
+use Rattle.buffer.specs.Testing.{Numbers, numbers_of, tested_of, inject_number, round_number, place_told, Sized}
 
 pub inject_first : (holds : Bool) (chips chip : ℕ) (t : Tables) (room : ℕ) (bytes : List ℕ) → first_of (inject_refusals holds chips chip t room bytes)
     ≡ cond (not holds) 8 (cond (not (ltb chip chips)) 9 (cond (eqb (first_of (tables_refusals t chips)) 0) (cond (ltb room 6) 10 (first_of (packet_refusals bytes))) (first_of (tables_refusals t chips))))
@@ -38,16 +39,21 @@ number_first holds chips chip number end = go holds (ltb chip chips) (ltb number
 
 -- ---- where buffer and tables were tested
 
-module _ (l : List ℕ) (t : Tables) (x : Tested) (tested : x ≡ tested_of l t) where
+pub some_holds : {A : Type 0} → (x : Option (Result A Wrong)) → is_some x ≡ (numbers_of x).holds
+some_holds None = refl
+some_holds (Some (Ok y)) = refl
+some_holds (Some (Err w)) = refl
+
+module _ (l : List ℕ) (t : Tables) (x : Numbers) (tested : x ≡ tested_of l t) where
   pub inject_number_lem : (chip room : ℕ) (bytes : List ℕ) → inject_number x (chips_of l) chip room bytes ≡ first_of (inject_refusals (holds_mesh l) (chips_of l) chip t room bytes)
-  inject_number_lem chip room bytes = ap (λ (y : Tested). inject_number y (chips_of l) chip room bytes) tested ∙ go (holds_mesh l)
+  inject_number_lem chip room bytes = ap (λ (y : Numbers). inject_number y (chips_of l) chip room bytes) tested ∙ go (holds_mesh l)
     where
       go : (b : Bool) → inject_number (record { holds = b; tables = cond b (first_of (tables_refusals t (chips_of l))) 0; place = cond b (place_in t (chips_of l) (first_of (tables_refusals t (chips_of l)))) 0 }) (chips_of l) chip room bytes ≡ first_of (inject_refusals b (chips_of l) chip t room bytes)
       go true = sym (inject_first true (chips_of l) chip t room bytes)
       go false = sym (inject_first false (chips_of l) chip t room bytes)
 
   pub round_number_lem : (room : ℕ) → round_number x (in_flight (mesh_of l)) room ≡ first_of (round_refusals (holds_mesh l) (chips_of l) (in_flight (mesh_of l)) t room)
-  round_number_lem room = ap (λ (y : Tested). round_number y (in_flight (mesh_of l)) room) tested ∙ go (holds_mesh l)
+  round_number_lem room = ap (λ (y : Numbers). round_number y (in_flight (mesh_of l)) room) tested ∙ go (holds_mesh l)
     where
       go : (b : Bool) → round_number (record { holds = b; tables = cond b (first_of (tables_refusals t (chips_of l))) 0; place = cond b (place_in t (chips_of l) (first_of (tables_refusals t (chips_of l)))) 0 }) (in_flight (mesh_of l)) room ≡ first_of (round_refusals b (chips_of l) (in_flight (mesh_of l)) t room)
       go true = sym (round_first true (chips_of l) (in_flight (mesh_of l)) t room)
@@ -67,7 +73,7 @@ packet_small bytes = go (right_length bytes) (is_direct (control_at bytes))
     go true false = lit< tt
     go false b = lit< tt
 
-module _ (l : List ℕ) (t : Tables) (x : Tested) (tested : x ≡ tested_of l t) where
+module _ (l : List ℕ) (t : Tables) (x : Numbers) (tested : x ≡ tested_of l t) where
   -- a number that is not the tables' is below 15
   told : (n : ℕ) → (x.holds ≡ false → n ≡ 8) → (n ≡ 0 → ⊥) → ((n ≡ x.tables → ⊥) → n < 15) → place_told x n ≡ place_in t (chips_of l) n
   told n none some other = go (eqb n x.tables) refl (holds_mesh l) refl
@@ -75,11 +81,11 @@ module _ (l : List ℕ) (t : Tables) (x : Tested) (tested : x ≡ tested_of l t)
       go : (b : Bool) → eqb n x.tables ≡ b → (h : Bool) → holds_mesh l ≡ h → cond b x.place 0 ≡ place_in t (chips_of l) n
       go false e h f = below_15 t (chips_of l) n (other (eqb-false n x.tables e))
       go true e true f =
-          let number : n ≡ first_of (tables_refusals t (chips_of l)) = eqb-true n x.tables e ∙ ap (λ (y : Tested). y.tables) tested ∙ simp f in
-          ap (λ (y : Tested). y.place) tested ∙ simp f (ap (place_in t (chips_of l)) (sym number))
+          let number : n ≡ first_of (tables_refusals t (chips_of l)) = eqb-true n x.tables e ∙ ap (λ (y : Numbers). y.tables) tested ∙ simp f in
+          ap (λ (y : Numbers). y.place) tested ∙ simp f (ap (place_in t (chips_of l)) (sym number))
       go true e false f =
-          let eight : n ≡ 8 = none (ap (λ (y : Tested). y.holds) tested ∙ f) in
-          let zero : x.tables ≡ 0 = ap (λ (y : Tested). y.tables) tested ∙ simp f in
+          let eight : n ≡ 8 = none (ap (λ (y : Numbers). y.holds) tested ∙ f) in
+          let zero : x.tables ≡ 0 = ap (λ (y : Numbers). y.tables) tested ∙ simp f in
           absurd (omega (arith, eqb-true n x.tables e))
 
   pub inject_place : (chip room : ℕ) (bytes : List ℕ) (n : ℕ) → n ≡ inject_number x (chips_of l) chip room bytes → (n ≡ 0 → ⊥) → place_told x n ≡ place_in t (chips_of l) n

@@ -1,8 +1,7 @@
 // One pass at a chip with its own tables, and its record in the log.
-ghost use Rattle.std.specs.Prelude.{◌≡◌, ◌*◌, ◌/◌, ◌<◌, ◌≤◌, [], ◌∷◌, length};
+ghost use Rattle.std.specs.Prelude.{◌≡◌, ◌/◌, ◌<◌, ◌≤◌, [], ◌∷◌, length};
 ghost use Rattle.groups.specs.Groups.{top_of, GroupedFor};
 ghost use Rattle.tables.specs.Rows.{rows_of, route_for};
-ghost use Rattle.tables.specs.Tables.{chip_tables};
 ghost use Rattle.buffer.specs.Layout.{chips_of};
 ghost use Rattle.buffer.specs.PassesInTurn.{arrival, pass_by, Due, Passed};
 
@@ -10,6 +9,7 @@ use super::logging::write_record;
 use super::one_pass::pass_at;
 use groups::searching::grouped_row;
 use packet::Packet;
+use tables::lent::ChipTables;
 
 // One pass. The log has n records before; answers how many it has then.
 pub fn pass_one(
@@ -19,14 +19,12 @@ pub fn pass_one(
     chip: usize,
     source: u32,
     p: Packet,
-    rows: &[u32],
-    codes: &[u8],
-    fixed: u32,
+    tables: &ChipTables<'_>,
 ) -> usize
-    requires { Due (arrival chip source p ∷ []) mesh.old log.old n × (chips_of mesh.old ≤ length codes.now) }
-    ensures { Passed (pass_by (chip_tables rows.now codes.now fixed)) (arrival chip source p ∷ []) mesh.old log.old n mesh.new log.new result }
+    requires { Due (arrival chip source p ∷ []) mesh.old log.old n × (chips_of mesh.old ≤ length tables.now.codes) }
+    ensures { Passed (pass_by tables.now) (arrival chip source p ∷ []) mesh.old log.old n mesh.new log.new result }
 {
-    let o = pass_at(mesh, chip, source, p, rows, codes, fixed);
+    let o = pass_at(mesh, chip, source, p, tables);
     write_record(log, n, chip, o)
 }
 
@@ -38,16 +36,15 @@ pub fn pass_found(
     chip: usize,
     source: u32,
     p: Packet,
-    rows: &[u32],
-    codes: &[u8],
-    fixed: u32,
+    tables: &ChipTables<'_>,
     room: &[u32],
 ) -> usize
-    requires { (Due (arrival chip source p ∷ []) mesh.old log.old n × (chips_of mesh.old ≤ length codes.now)) × ((length rows.now / 3 ≤ 1024) × (top_of p.word < 256 → GroupedFor (rows_of rows.now) room.now p.word)) }
-    ensures { Passed (pass_by (chip_tables rows.now codes.now fixed)) (arrival chip source p ∷ []) mesh.old log.old n mesh.new log.new result }
+    requires { (Due (arrival chip source p ∷ []) mesh.old log.old n × (chips_of mesh.old ≤ length tables.now.codes)) × ((length tables.now.rows / 3 ≤ 1024) × (top_of p.word < 256 → GroupedFor (rows_of tables.now.rows) room.now p.word)) }
+    ensures { Passed (pass_by tables.now) (arrival chip source p ∷ []) mesh.old log.old n mesh.new log.new result }
 {
-    let found = found_row(rows, room, p.word);
-    pass_one(mesh, log, n, chip, source, p, found, codes, fixed)
+    let found = found_row(tables.rows(), room, p.word);
+    let own = ChipTables::new(found, tables.codes(), tables.fixed());
+    pass_one(mesh, log, n, chip, source, p, &own)
 }
 
 // The one row that a key's group finds, or none: the key's route in it is that in the whole table.
@@ -59,11 +56,4 @@ fn found_row<'a>(rows: &'a [u32], room: &[u32], key: u32) -> &'a [u32]
         Some(row) => &rows[row * 3..row * 3 + 3],
         None => &rows[..0],
     }
-}
-
-// Where a row starts, three numbers a row.
-pub fn row_place(row: u32) -> usize
-    ensures { result ≡ row * 3 }
-{
-    (row as usize) * 3
 }

@@ -2,7 +2,6 @@
 ghost use Rattle.std.specs.Prelude.{◌≡◌};
 ghost use Rattle.steps.specs.Deciding.{outcome_of};
 ghost use Rattle.buffer.specs.OnePass.{setting_in, CheckedAt, MeshStep};
-ghost use Rattle.tables.specs.Tables.{chip_tables};
 
 use super::chip::{after, ready_of};
 use links::offsets::{CHIP, HEADER, HEIGHT, MONITOR, PHASE, WIDTH};
@@ -16,12 +15,10 @@ pub fn pass_at(
     chip: usize,
     source: u32,
     p: Packet,
-    rows: &[u32],
-    codes: &[u8],
-    fixed: u32,
+    tables: &ChipTables<'_>,
 ) -> Outcome
-    requires { CheckedAt mesh.old chip source p codes.now }
-    ensures value { result ≡ outcome_of p source (chip_tables rows.now codes.now fixed) (setting_in mesh.old chip) }
+    requires { CheckedAt mesh.old chip source p tables.now.codes }
+    ensures value { result ≡ outcome_of p source tables.now (setting_in mesh.old chip) }
     ensures mesh_step { MeshStep mesh.old mesh.new chip result }
 {
     let at = HEADER + chip * CHIP;
@@ -33,8 +30,7 @@ pub fn pass_at(
         phase: mesh[PHASE],
         ready,
     };
-    let tables = ChipTables::new(rows, codes, fixed);
-    let o = outcome_of(p, source, &tables, t);
+    let o = outcome_of(p, source, tables, t);
     after(&mut mesh[at..at + CHIP], o);
     o
 }

@@ -1,65 +1,73 @@
 // What the calls on a mesh refuse, the first number that applies, where buffer and tables were tested.
-ghost use Rattle.std.specs.Prelude.{◌≡◌};
+ghost use Rattle.std.specs.Prelude.{◌≡◌, IfOk};
+ghost use Rattle.packet.specs.Bytes.{packet_at};
 ghost use Rattle.packet.specs.Refusal.{first_of};
-ghost use Rattle.packet.specs.Refused.{told};
+ghost use Rattle.packet.specs.Refused.{number_of, told};
 ghost use Rattle.buffer.specs.Layout.{mesh_of, chips_of};
 ghost use Rattle.buffer.specs.Holding.{holds_mesh};
 ghost use Rattle.mesh.specs.Weights.{in_flight};
 ghost use Rattle.mesh.specs.Refusals.{chip_refusals, number_refusals};
-ghost use Rattle.buffer.specs.Testing.{inject_number, round_number, place_told};
+ghost use Rattle.buffer.specs.Testing.{numbers_of, inject_number, round_number, place_told};
 
 use super::flight::in_flight;
 use super::testing::Tested;
 use links::offsets::{HEIGHT, WIDTH};
+use packet::Packet;
 use packet::bytes::packet_to_pass;
-use packet::refused::{Refused, told};
+use packet::refused::Refused;
 use tables::size::chips;
 
 // Injection: 8 no mesh, 9 chip, 15 starts, 16 too many rows, 17 route bits, 18 fixed routes, 11 codes, 29 room, 10 log, 2 length, 4 NN with T = 1.
-pub fn inject_refusal(mesh: &[u32], tested: Tested, room: usize, chip: u32, bytes: &[u8]) -> u32
-    requires { tested.holds ≡ holds_mesh mesh.now }
-    ensures { result ≡ inject_number tested (chips_of mesh.now) chip room bytes.now }
+pub fn injected_packet(
+    mesh: &[u32],
+    tested: Tested,
+    room: usize,
+    chip: u32,
+    bytes: &[u8],
+) -> Result<Packet, Refused>
+    requires { (numbers_of tested).holds ≡ holds_mesh mesh.now }
+    ensures refusal { told result ≡ inject_number (numbers_of tested) (chips_of mesh.now) chip room bytes.now }
+    ensures packet { IfOk result (λ p. p ≡ packet_at bytes.now) }
 {
-    if !tested.holds {
-        return 8;
-    }
+    let Some(tables) = tested else {
+        return Err(Refused::NoMesh);
+    };
     if chips(mesh[WIDTH], mesh[HEIGHT]) <= (chip as usize) {
-        return 9;
+        return Err(Refused::NotThere);
     }
-    if tested.tables != 0 {
-        return tested.tables;
+    if let Err(wrong) = tables {
+        return Err(wrong.refused);
     }
     if room < 6 {
-        return 10;
+        return Err(Refused::LogRoom);
     }
-    told(packet_to_pass(bytes))
+    packet_to_pass(bytes)
 }
 
 // A round: 8 no mesh, 15 starts, 16 too many rows, 17 route bits, 18 fixed routes, 11 codes, 29 room, 10 log.
-pub fn round_refusal(mesh: &[u32], tested: Tested, room: usize) -> u32
-    requires { tested.holds ≡ holds_mesh mesh.now }
-    ensures { result ≡ round_number tested (in_flight (mesh_of mesh.now)) room }
+pub fn round_refusal(mesh: &[u32], tested: Tested, room: usize) -> Result<(), Refused>
+    requires { (numbers_of tested).holds ≡ holds_mesh mesh.now }
+    ensures { told result ≡ round_number (numbers_of tested) (in_flight (mesh_of mesh.now)) room }
 {
-    if !tested.holds {
-        return 8;
-    }
-    if tested.tables != 0 {
-        return tested.tables;
+    let Some(tables) = tested else {
+        return Err(Refused::NoMesh);
+    };
+    if let Err(wrong) = tables {
+        return Err(wrong.refused);
     }
     if room < (in_flight(mesh, chips(mesh[WIDTH], mesh[HEIGHT])) as usize) * 6 {
-        return 10;
+        return Err(Refused::LogRoom);
     }
-    0
+    Ok(())
 }
 
-// Where a refusal holds: the tables' own number has a place, and no other.
-pub fn place_told(tested: Tested, refusal: u32) -> u32
-    ensures { result ≡ place_told tested refusal }
+// Where a refusal holds: the tables' own reason has a place, and no other.
+pub fn place_told(tested: Tested, refused: Refused) -> u32
+    ensures { result ≡ place_told (numbers_of tested) (number_of refused) }
 {
-    if refusal == tested.tables {
-        tested.place
-    } else {
-        0
+    match tested {
+        Some(Err(wrong)) if wrong.refused == refused => wrong.place,
+        _ => 0,
     }
 }
 

@@ -1,1 +1,2 @@
+pub mod AsLent
 pub mod Following

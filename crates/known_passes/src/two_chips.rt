@@ -5,6 +5,7 @@ ghost use Rattle.known_passes.specs.TwoChips as case;
 use buffer::looking::{look_link, look_mesh, read_counter};
 use buffer::moving::{inject, round};
 use buffer::opening::open;
+use mesh::lent::Tables;
 
 // No mesh needs more than 4,096 words a chip and 1,024 besides.
 const WORDS: usize = 9216;
@@ -70,7 +71,8 @@ fn passes_on(mesh: &mut [u32; WORDS], flying: u32) -> bool
 {
     let mut log = [0u32; 6];
     let mut none = [0u32; 0];
-    let r = round(mesh, &mut log, &ROWS, &STARTS, &CODES, &FIXED, &mut none);
+    let tables = Tables::new(&ROWS, &STARTS, &CODES, &FIXED);
+    let r = round(mesh, &mut log, &tables, &mut none);
     (r.refusal == 0) & (r.added == 0) & (in_flight(mesh) == flying)
 }
 
@@ -81,7 +83,8 @@ fn ends(mesh: &mut [u32; WORDS], chip: u32) -> bool
 {
     let mut log = [0u32; 6];
     let mut none = [0u32; 0];
-    let r = round(mesh, &mut log, &ROWS, &STARTS, &CODES, &FIXED, &mut none);
+    let tables = Tables::new(&ROWS, &STARTS, &CODES, &FIXED);
+    let r = round(mesh, &mut log, &tables, &mut none);
     (r.refusal == 0) & (r.added == 1) & (in_flight(mesh) == 0) & too_old(&log, chip)
 }
 
@@ -91,7 +94,8 @@ fn injected(mesh: &mut [u32; WORDS], chip: u32) -> bool
     ensures mesh_after { case.held_in mesh.new ≡ case.after (case.held_in mesh.old) (case.inject (case.held_in mesh.old) chip) }
 {
     let mut log = [0u32; 6];
-    let r = inject(mesh, &mut log, chip, &P, &ROWS, &STARTS, &CODES, &FIXED, 0);
+    let tables = Tables::new(&ROWS, &STARTS, &CODES, &FIXED);
+    let r = inject(mesh, &mut log, chip, &P, &tables, 0);
     (r.refusal == 0) & (r.added == 0)
 }
 

@@ -1,4 +1,5 @@
 pub mod Accepts
+pub mod Cuts
 pub mod PlacesTold
 pub mod SoundAfter
 pub mod SoundArrivals

@@ -1,5 +1,6 @@
 // The tables of a whole mesh, as a caller lends them.
 use std::marker::Model;
+use tables::lent::ChipTables;
 
 // The rows of all chips, three numbers each, where each chip's start, the codes chip after chip, and each chip's fixed route.
 #[derive(Drop)]
@@ -19,8 +20,9 @@ impl<'a> Model for Tables<'a> {
 }
 
 impl<'a> Tables<'a> {
-    ghost use Rattle.std.specs.Prelude.{◌≡◌};
-    ghost use Rattle.mesh.specs.Lending.{tables_of};
+    ghost use Rattle.std.specs.Prelude.{◌≡◌, ◌<◌, ◌≤◌};
+    ghost use Rattle.mesh.specs.Lending.{tables_of, tables_at};
+    ghost use Rattle.mesh.specs.Refusals.{Lent};
 
     pub fn new(rows: &'a [u32], starts: &'a [u32], codes: &'a [u8], fixed: &'a [u32]) -> Self
         ensures { result ≡ tables_of rows.now starts.now codes.now fixed.now 0 }
@@ -55,5 +57,22 @@ impl<'a> Tables<'a> {
         ensures { result.now ≡ self.now.fixed }
     {
         self.fixed
+    }
+
+    // What of them is one chip's, in a mesh of so many, for which they were accepted.
+    pub fn chip(&self, chip: usize, chips: usize) -> ChipTables<'a>
+        requires lent { Lent self.now chips }
+        requires there { chip < chips }
+        requires few { chips ≤ 144 }
+        ensures { result ≡ tables_at self.now chips chip }
+    {
+        let first = (self.starts[chip] as usize) * 3;
+        let next = (self.starts[chip + 1] as usize) * 3;
+        let at = chip * chips;
+        ChipTables::new(
+            &self.rows[first..next],
+            &self.codes[at..at + chips],
+            self.fixed[chip],
+        )
     }
 }

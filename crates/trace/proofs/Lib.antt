@@ -1,6 +1,7 @@
 pub mod Directly
 pub mod DoneRecords
 pub mod KeptSizes
+pub mod KindMade
 pub mod MadeCalls
 pub mod Replays
 pub mod Rooms

@@ -12,7 +12,7 @@ ghost use Rattle.router.specs.Call.{pass_of};
 ghost use Rattle.buffer.specs.Opening.{size_of, open_refusals, opening};
 ghost use Rattle.buffer.specs.Layout.{mesh_of};
 ghost use Rattle.buffer.specs.Holding.{holds_mesh};
-ghost use Rattle.mesh.specs.Lending.{tables_of};
+ghost use Rattle.mesh.specs.Lending.{with_room};
 ghost use Rattle.mesh.specs.Calls.{registers_read};
 ghost use Rattle.mesh.specs.Looks.{count_read, mesh_read, link_read, flight_read};
 ghost use Rattle.buffer.specs.Leaving.{Leaves, Moves, inject_left, round_left, round_room, link_left, registers_left};
@@ -25,6 +25,7 @@ ghost use Rattle.yagbolshen.specs.Settings.{setting_of};
 
 use buffer::opening::SizeRead;
 use fewer::Fewer;
+use mesh::lent::Tables;
 use mesh::{Added, CountRead, FlightRead, LinkRead, MeshRead, RegistersRead};
 use packet::refused::{Refused, told};
 use packet::{Fields, FieldsRead, Packed};
@@ -112,51 +113,30 @@ pub fn yagbolshen_inject(
     log: &mut [u32],
     chip: u32,
     packet: &[u8],
-    rows: &[u32],
-    starts: &[u32],
-    codes: &[u8],
-    fixed: &[u32],
+    tables: &Tables<'_>,
     room: &mut [u32],
 ) -> Added
-    ensures moves { Moves mesh.old log.old (inject_left mesh.old (tables_of rows.now starts.now codes.now fixed.now (length room.old)) (length log.old) chip packet.now) result mesh.new log.new }
+    ensures moves { Moves mesh.old log.old (inject_left mesh.old (with_room tables.now (length room.old)) (length log.old) chip packet.now) result mesh.new log.new }
     ensures room_unchanged { room.new ≡ room.old }
 {
-    buffer::moving::inject(
-        mesh,
-        log,
-        chip,
-        packet,
-        rows,
-        starts,
-        codes,
-        fixed,
-        room.len(),
-    )
+    buffer::moving::inject(mesh, log, chip, packet, tables, room.len())
 }
 
 // Passes all that is in flight, once.
 pub fn yagbolshen_round(
     mesh: &mut [u32],
     log: &mut [u32],
-    rows: &[u32],
-    starts: &[u32],
-    codes: &[u8],
-    fixed: &[u32],
+    tables: &Tables<'_>,
     room: &mut [u32],
 ) -> Added
-    ensures moves { Moves mesh.old log.old (round_left mesh.old (tables_of rows.now starts.now codes.now fixed.now (length room.old)) (length log.old)) result mesh.new log.new }
-    ensures room_after { room.new ≡ round_room mesh.old (tables_of rows.now starts.now codes.now fixed.now (length room.old)) (length log.old) room.old }
+    ensures moves { Moves mesh.old log.old (round_left mesh.old (with_room tables.now (length room.old)) (length log.old)) result mesh.new log.new }
+    ensures room_after { room.new ≡ round_room mesh.old (with_room tables.now (length room.old)) (length log.old) room.old }
 {
-    buffer::moving::round(mesh, log, rows, starts, codes, fixed, room)
+    buffer::moving::round(mesh, log, tables, room)
 }
 
 // Takes one directed link of a chip up or down.
-pub fn yagbolshen_set_link(
-    mesh: &mut [u32],
-    chip: u32,
-    link: u32,
-    up: bool,
-) -> Result<(), Refused>
+pub fn yagbolshen_set_link(mesh: &mut [u32], chip: u32, link: u32, up: bool) -> Result<(), Refused>
     ensures value { told result ≡ (link_left mesh.old chip link up).refusal }
     ensures leaves { Leaves mesh.old mesh.new (link_left mesh.old chip link up) }
 {
@@ -219,24 +199,21 @@ pub fn yagbolshen_replay(
     mesh: &mut [u32],
     log: &mut [u32],
     trace: &[u8],
-    rows: &[u32],
-    starts: &[u32],
-    codes: &[u8],
-    fixed: &[u32],
+    tables: &Tables<'_>,
     room: &mut [u32],
 ) -> Replayed
-    ensures replays { Replays mesh.old mesh.new log.old log.new result (replay_of mesh.old (tables_of rows.now starts.now codes.now fixed.now (length room.old)) (length log.old) trace.now) }
-    ensures room_after { room.new ≡ replay_room mesh.old (tables_of rows.now starts.now codes.now fixed.now (length room.old)) (length log.old) trace.now room.old }
+    ensures replays { Replays mesh.old mesh.new log.old log.new result (replay_of mesh.old (with_room tables.now (length room.old)) (length log.old) trace.now) }
+    ensures room_after { room.new ≡ replay_room mesh.old (with_room tables.now (length room.old)) (length log.old) trace.now room.old }
 {
-    trace::replaying::replay(mesh, log, trace, rows, starts, codes, fixed, room)
+    trace::replaying::replay(mesh, log, trace, tables, room)
 }
 
 // Fills all P2P codes of a mesh by flooding over its up links.
-pub fn yagbolshen_flood(mesh: &[u32], codes: &mut [u8]) -> u32
-    ensures value { result ≡ flood_refusal (holds_mesh mesh.now) (mesh_of mesh.now) codes.old }
+pub fn yagbolshen_flood(mesh: &[u32], codes: &mut [u8]) -> Result<(), Refused>
+    ensures value { told result ≡ flood_refusal (holds_mesh mesh.now) (mesh_of mesh.now) codes.old }
     ensures codes_after { codes.new ≡ flooded (holds_mesh mesh.now) (mesh_of mesh.now) codes.old }
 {
-    told(flood::flooding::flood(mesh, codes))
+    flood::flooding::flood(mesh, codes)
 }
 
 // The rows of a table made fewer, with the numbers of those that went.

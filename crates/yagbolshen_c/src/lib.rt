@@ -24,6 +24,7 @@ ghost use Rattle.yagbolshen.specs.Settings.{setting_of};
 
 use buffer::opening::SizeRead;
 use fewer::Fewer;
+use mesh::lent::Tables;
 use mesh::{Added, CountRead, FlightRead, LinkRead, MeshRead, RegistersRead};
 use packet::refused::told;
 use packet::{Fields, FieldsRead, Packed};
@@ -101,13 +102,7 @@ pub extern "C" fn yagbolshen_open(
     ensures value { result ≡ first_of (open_refusals (length mesh.old) width height rounds_per_phase monitor) }
     ensures mesh_after { mesh.new ≡ opening result mesh.old width height rounds_per_phase monitor }
 {
-    told(yagbolshen::yagbolshen_open(
-        mesh,
-        width,
-        height,
-        rounds_per_phase,
-        monitor,
-    ))
+    told(yagbolshen::yagbolshen_open(mesh, width, height, rounds_per_phase, monitor))
 }
 
 // Passes a local packet at a chip.
@@ -126,7 +121,8 @@ pub extern "C" fn yagbolshen_inject(
     ensures moves { Moves mesh.old log.old (inject_left mesh.old (tables_of rows.now starts.now codes.now fixed.now (length room.old)) (length log.old) chip packet.now) result mesh.new log.new }
     ensures room_unchanged { room.new ≡ room.old }
 {
-    yagbolshen::yagbolshen_inject(mesh, log, chip, packet, rows, starts, codes, fixed, room)
+    let tables = Tables::new(rows, starts, codes, fixed);
+    yagbolshen::yagbolshen_inject(mesh, log, chip, packet, &tables, room)
 }
 
 // Passes all that is in flight, once.
@@ -143,7 +139,8 @@ pub extern "C" fn yagbolshen_round(
     ensures moves { Moves mesh.old log.old (round_left mesh.old (tables_of rows.now starts.now codes.now fixed.now (length room.old)) (length log.old)) result mesh.new log.new }
     ensures room_after { room.new ≡ round_room mesh.old (tables_of rows.now starts.now codes.now fixed.now (length room.old)) (length log.old) room.old }
 {
-    yagbolshen::yagbolshen_round(mesh, log, rows, starts, codes, fixed, room)
+    let tables = Tables::new(rows, starts, codes, fixed);
+    yagbolshen::yagbolshen_round(mesh, log, &tables, room)
 }
 
 // Takes one directed link of a chip up or down.
@@ -228,7 +225,8 @@ pub extern "C" fn yagbolshen_replay(
     ensures replays { Replays mesh.old mesh.new log.old log.new result (replay_of mesh.old (tables_of rows.now starts.now codes.now fixed.now (length room.old)) (length log.old) trace.now) }
     ensures room_after { room.new ≡ replay_room mesh.old (tables_of rows.now starts.now codes.now fixed.now (length room.old)) (length log.old) trace.now room.old }
 {
-    yagbolshen::yagbolshen_replay(mesh, log, trace, rows, starts, codes, fixed, room)
+    let tables = Tables::new(rows, starts, codes, fixed);
+    yagbolshen::yagbolshen_replay(mesh, log, trace, &tables, room)
 }
 
 // Fills all P2P codes of a mesh by flooding over its up links.
@@ -237,7 +235,7 @@ pub extern "C" fn yagbolshen_flood(mesh: &[u32], codes: &mut [u8]) -> u32
     ensures value { result ≡ flood_refusal (holds_mesh mesh.now) (mesh_of mesh.now) codes.old }
     ensures codes_after { codes.new ≡ flooded (holds_mesh mesh.now) (mesh_of mesh.now) codes.old }
 {
-    yagbolshen::yagbolshen_flood(mesh, codes)
+    told(yagbolshen::yagbolshen_flood(mesh, codes))
 }
 
 // The rows of a table made fewer, with the numbers of those that went.

@@ -2,5 +2,5 @@ use Rattle.buffer.proofs.LoggedPasses as logged
 use Rattle.buffer.proofs.logged_pass.pass_found.Goals as goal
 
 pub returns : goal.returns
-returns c = let a = c.args in
-    logged.passed_route _ a.rows.now a.codes.now a.fixed _ _ _ _ _ _ _ c.found_row-found.ensures c.pass_one.ensures
+returns c = let own = rw (c.codes.ensures, c.fixed.ensures) at c.new-own.ensures in
+    logged.passed_route c.args.tables.now _ _ _ _ _ _ _ _ (rw c.rows.ensures at c.found_row-found.ensures) (rw own at c.pass_one.ensures)

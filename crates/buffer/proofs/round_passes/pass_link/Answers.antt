@@ -12,7 +12,7 @@ pub pass_next-done-requires : goal.pass_next-done-requires
 pass_next-done-requires c = let at = c.loop-i in
     let read : _ = c.packet_at-p.ensures in
     let hi = c.loop-i-test.true in (
-      (arrivals.link_due c.args.mesh.now c.args.chip c.args.source c.args.log.now c.args.n c.requires.0.1 c.requires.1.0 _ c.requires.0.0 _ at.i hi at.mesh at.log at.done at.invariant _ read, subst (λ (k : ℕ). k ≤ length c.args.codes.now) (sym (arrivals.chips_same _ _ _ _ _ _ _ _ at.invariant)) c.requires.1.1.0),
+      (arrivals.link_due c.args.mesh.now c.args.chip c.args.source c.args.log.now c.args.n c.requires.0.1 c.requires.1.0 _ c.requires.0.0 _ at.i hi at.mesh at.log at.done at.invariant _ read, subst (λ (k : ℕ). k ≤ length c.args.tables.now.codes) (sym (arrivals.chips_same _ _ _ _ _ _ _ _ at.invariant)) c.requires.1.1.0),
       (λ some. let g = c.requires.1.1.1 some in (g.0, arrivals.link_each c.args.mesh.now c.args.chip c.args.source c.args.log.now c.args.n c.requires.0.1 c.requires.1.0 _ c.requires.0.0 _ at.i hi at.mesh at.log at.done at.invariant _ read _ g.1)),
     )
 

@@ -14,7 +14,7 @@ pass_link-done-requires c = let at = c.loop-source in
       (
         arrivals.links_due _ _ _ _ _ _ _ a.chip at.source hi pre.1.0 at.invariant,
         (
-          subst (λ (k : ℕ). k ≤ length a.codes.now) (sym (arrivals.chips_same _ _ _ _ _ _ _ _ at.invariant)) pre.1.1.0,
+          subst (λ (k : ℕ). k ≤ length a.tables.now.codes) (sym (arrivals.chips_same _ _ _ _ _ _ _ _ at.invariant)) pre.1.1.0,
           (λ some. let g = pre.1.1.1 some in (g.0, arrivals.links_each _ _ _ _ _ _ _ a.chip at.source hi pre.1.0 at.invariant _ g.1)),
         ),
       ),

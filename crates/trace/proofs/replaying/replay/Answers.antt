@@ -1,7 +1,7 @@
 use mathlib.Core.Path.{◌∙◌}
 use native.Mathlib.Omega.{arith}
 use lib.ListN.{length}
-use Rattle.mesh.specs.Lending.{tables_of}
+use Rattle.mesh.specs.Lending.{with_room}
 use Rattle.trace.proofs.SoFar.{begun, tested_still}
 use Rattle.trace.proofs.Replays.{log_kept, at_the_end, stopped_here, some_bytes, bytes_within, added_within, one_more}
 use Rattle.trace.proofs.RoomSoFar.{room_begun, room_at_the_end, room_stopped, room_more}
@@ -12,7 +12,7 @@ test-tested-requires c = tt
 
 pub loop-at-init : goal.loop-at-init
 loop-at-init c = let s = c.args in
-    let t = tables_of s.rows.now s.starts.now s.codes.now s.fixed.now (length s.room.now) in
+    let t = with_room s.tables.now (length s.room.now) in
     ((c.test-tested.ensures, room_begun t s.trace.now s.mesh.now s.log.now s.room.now), begun t s.trace.now s.mesh.now s.log.now)
 
 pub overflow_mul-from : goal.overflow_mul-from
@@ -42,7 +42,7 @@ slice_bounds-replay_one-end-in-loop-at c = omega arith
 pub replay_one-done-requires : goal.replay_one-done-requires
 replay_one-done-requires c = let s = c.args in
     let now = c.loop-at in
-    let t = tables_of s.rows.now s.starts.now s.codes.now s.fixed.now (length s.room.now) in
+    let t = with_room s.tables.now (length s.room.now) in
     rw now.invariant.0.1.long (now.invariant.0.0 ∙ tested_still t s.trace.now s.mesh.now s.log.now now.mesh now.log now.at now.added now.invariant.1)
 
 pub shape_of-mesh-then-done-ne0 : goal.shape_of-mesh-then-done-ne0
@@ -51,7 +51,7 @@ shape_of-mesh-then-done-ne0 c = c.replay_one-done.ensures.one_done.buffer.long �
 pub shape_of-log-then-done-ne0 : goal.shape_of-log-then-done-ne0
 shape_of-log-then-done-ne0 c = let s = c.args in
     let now = c.loop-at in
-    let t = tables_of s.rows.now s.starts.now s.codes.now s.fixed.now (length s.room.now) in
+    let t = with_room s.tables.now (length s.room.now) in
     log_kept t s.trace.now s.mesh.now s.log.now now.mesh now.log now.at now.added now.invariant.1 c.replay_one-done.new.log c.replay_one-done.auto.log
 
 pub shape_of-room-then-done-ne0 : goal.shape_of-room-then-done-ne0
@@ -60,7 +60,7 @@ shape_of-room-then-done-ne0 c = c.replay_one-done.auto.room ∙ c.loop-at.invari
 pub returns-then-done-ne0 : goal.returns-then-done-ne0
 returns-then-done-ne0 c = let s = c.args in
     let now = c.loop-at in
-    let t = tables_of s.rows.now s.starts.now s.codes.now s.fixed.now (length s.room.now) in
+    let t = with_room s.tables.now (length s.room.now) in
     let one = c.replay_one-done in
     record {
       replays = stopped_here t s.trace.now s.mesh.now s.log.now now.mesh now.log now.at now.added now.invariant.1 c.loop-at-test.true one.new.mesh one.new.log one.result (rw now.invariant.0.1.long at one.ensures.one_done) c.if-done-ne0.true;
@@ -70,7 +70,7 @@ returns-then-done-ne0 c = let s = c.args in
 pub overflow_add-at : goal.overflow_add-at
 overflow_add-at c = let s = c.args in
     let now = c.loop-at in
-    let t = tables_of s.rows.now s.starts.now s.codes.now s.fixed.now (length s.room.now) in
+    let t = with_room s.tables.now (length s.room.now) in
     let one = c.replay_one-done in
     omega (arith, bytes_within t s.trace.now s.mesh.now s.log.now now.mesh now.log now.at now.added now.invariant.1 c.loop-at-test.true one.new.mesh one.new.log one.result (rw now.invariant.0.1.long at one.ensures.one_done) c.if-done-ne0.false one.auto.log, c.well_formed)
 
@@ -80,21 +80,21 @@ overflow_cast-added c = omega (arith, c.struct_known-in-loop-at-2-1.given.1.1.0)
 pub overflow_add-added : goal.overflow_add-added
 overflow_add-added c = let s = c.args in
     let now = c.loop-at in
-    let t = tables_of s.rows.now s.starts.now s.codes.now s.fixed.now (length s.room.now) in
+    let t = with_room s.tables.now (length s.room.now) in
     let one = c.replay_one-done in
     omega (arith, added_within t s.trace.now s.mesh.now s.log.now now.mesh now.log now.at now.added now.invariant.1 c.loop-at-test.true one.new.mesh one.new.log one.result (rw now.invariant.0.1.long at one.ensures.one_done) c.if-done-ne0.false one.auto.log, c.well_formed)
 
 pub loop-at-smaller : goal.loop-at-smaller
 loop-at-smaller c = let s = c.args in
     let now = c.loop-at in
-    let t = tables_of s.rows.now s.starts.now s.codes.now s.fixed.now (length s.room.now) in
+    let t = with_room s.tables.now (length s.room.now) in
     let one = c.replay_one-done in
     omega (arith, some_bytes t s.trace.now s.mesh.now s.log.now now.mesh now.log now.at now.added now.invariant.1 c.loop-at-test.true one.new.mesh one.new.log one.result (rw now.invariant.0.1.long at one.ensures.one_done) c.if-done-ne0.false one.auto.log, bytes_within t s.trace.now s.mesh.now s.log.now now.mesh now.log now.at now.added now.invariant.1 c.loop-at-test.true one.new.mesh one.new.log one.result (rw now.invariant.0.1.long at one.ensures.one_done) c.if-done-ne0.false one.auto.log)
 
 pub loop-at-preserved : goal.loop-at-preserved
 loop-at-preserved c = let s = c.args in
     let now = c.loop-at in
-    let t = tables_of s.rows.now s.starts.now s.codes.now s.fixed.now (length s.room.now) in
+    let t = with_room s.tables.now (length s.room.now) in
     let one = c.replay_one-done in
     ((now.invariant.0.0, room_more t s.trace.now s.mesh.now s.log.now s.room.now now.mesh now.log now.room now.at now.added now.invariant.1 now.invariant.0.1 c.loop-at-test.true one.new.mesh one.new.log one.result (rw now.invariant.0.1.long at one.ensures.one_done) _ (rw now.invariant.0.1.long at one.ensures.room_after) c.if-done-ne0.false one.auto.log one.auto.room), one_more t s.trace.now s.mesh.now s.log.now now.mesh now.log now.at now.added now.invariant.1 c.loop-at-test.true one.new.mesh one.new.log one.result (rw now.invariant.0.1.long at one.ensures.one_done) c.if-done-ne0.false one.auto.log)
 
@@ -110,7 +110,7 @@ shape_of-room c = c.loop-at.invariant.0.1.long
 pub returns : goal.returns
 returns c = let s = c.args in
     let now = c.loop-at in
-    let t = tables_of s.rows.now s.starts.now s.codes.now s.fixed.now (length s.room.now) in
+    let t = with_room s.tables.now (length s.room.now) in
     record {
       replays = at_the_end t s.trace.now s.mesh.now s.log.now now.mesh now.log now.at now.added now.invariant.1 c.loop-at-test.false;
       room_after = room_at_the_end t s.trace.now s.mesh.now s.log.now s.room.now now.mesh now.log now.room now.at now.added now.invariant.1 now.invariant.0.1 c.loop-at-test.false;
