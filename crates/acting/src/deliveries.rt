@@ -1,11 +1,32 @@
 // A line for each delivery that a call put into the log.
+use super::play::Play;
 use packet::control::{carries_of, is_marked, mark_of};
 use report::course::Course;
-use report::telling::{number, place, small, tell_packet, text};
+use report::telling::Contents;
 use script::cells::item;
-use sheet::board::LOG;
-use std::io;
-use std::num::wrapping_add_u64;
+use std::{fmt, io};
+
+impl<'a> Play<'a> {
+    // Tells all deliveries of a call. `came` says whether they came by a link, in a round.
+    pub fn tell_deliveries(&mut self, added: u32, came: bool) -> io::Result<()> {
+        for record in self.memory.log.chunks_exact(6).take(added as usize) {
+            tell_delivery(self.rt, &mut self.course, &Delivery::of(record), came)?;
+        }
+        Ok(())
+    }
+}
+
+fn tell_delivery(rt: &HostRuntime, c: &mut Course, d: &Delivery, came: bool) -> io::Result<()> {
+    c.errors = c.errors.wrapping_add(d.weight_in_error(came));
+    let place = c.board.place(d.chip);
+    println!(rt;
+        "round {}  chip {place} {}  {}{}",
+        c.rounds,
+        Processors(d.processors),
+        d.contents(),
+        Errors(d.errors)
+    )
+}
 
 // A log record.
 #[derive(Clone, Copy)]
@@ -18,123 +39,76 @@ struct Delivery {
     payload: u32,
 }
 
-// Tells all deliveries of a call. `came` says whether they came by a link, in a round.
-pub fn tell_deliveries(
-    rt: &HostRuntime,
-    before: Course,
-    log: &[u32; LOG],
-    added: u32,
-    came: bool,
-) -> io::Result<Course> {
-    let mut c = before;
-    let mut i = 0;
-    while i < added {
-        c = tell_one(rt, c, log, i, came)?;
-        i += 1;
-    }
-    Ok(c)
-}
-
-fn tell_one(
-    rt: &HostRuntime,
-    before: Course,
-    log: &[u32; LOG],
-    i: u32,
-    came: bool,
-) -> io::Result<Course> {
-    let d = record_at(log, i);
-    tell_delivery(rt, before, d)?;
-    let mut c = before;
-    c.errors = wrapping_add_u64(c.errors, weight_in_error(d, came));
-    Ok(c)
-}
-
-fn record_at(log: &[u32; LOG], i: u32) -> Delivery {
-    let at = (i as usize) * 6;
-    Delivery {
-        chip: item(log, at),
-        processors: item(log, at + 1),
-        errors: item(log, at + 2),
-        control: item(log, at + 3),
-        word: item(log, at + 4),
-        payload: item(log, at + 5),
-    }
-}
-
-fn tell_delivery(rt: &HostRuntime, c: Course, d: Delivery) -> io::Result<()> {
-    let b = c.board;
-    text(rt, b"round ")?;
-    number(rt, c.rounds)?;
-    text(rt, b"  chip ")?;
-    place(rt, b.x_of(d.chip), b.y_of(d.chip))?;
-    text(rt, b" ")?;
-    tell_processors(rt, d.processors)?;
-    text(rt, b"  ")?;
-    tell_packet(rt, d.control, d.word, d.payload, has_payload(d))?;
-    tell_errors(rt, d.errors)?;
-    text(rt, b"\n")
-}
-
-// A packet of nine bytes: bit 1 of its control byte says so, unless its length is in error.
-fn has_payload(d: Delivery) -> bool {
-    if d.errors & 4 == 0 {
-        carries_of(d.control) == 1
-    } else {
-        carries_of(d.control) == 0
-    }
-}
-
-// A packet in error ends with the weight that it had: two if it was in flight marked 01.
-fn weight_in_error(d: Delivery, came: bool) -> u64 {
-    if d.errors == 0 {
-        return 0;
-    }
-    if came & is_marked(d.control) & (mark_of(d.control) == 1) {
-        2
-    } else {
-        1
-    }
-}
-
-pub fn tell_processors(rt: &HostRuntime, set: u32) -> io::Result<()> {
-    let mut k = 0;
-    while k < 20 {
-        tell_processor(rt, set, k)?;
-        k += 1;
-    }
-    Ok(())
-}
-
-fn tell_processor(rt: &HostRuntime, set: u32, k: u32) -> io::Result<()> {
-    if k < 32 {
-        if (set >> k) & 1 == 1 {
-            text(rt, b" p")?;
-            small(rt, k)?;
+impl Delivery {
+    fn of(record: &[u32]) -> Delivery {
+        Delivery {
+            chip: item(record, 0),
+            processors: item(record, 1),
+            errors: item(record, 2),
+            control: item(record, 3),
+            word: item(record, 4),
+            payload: item(record, 5),
         }
     }
-    Ok(())
-}
 
-pub fn tell_errors(rt: &HostRuntime, errors: u32) -> io::Result<()> {
-    if errors == 0 {
-        return Ok(());
-    }
-    text(rt, b"  error: ")?;
-    tell_error(rt, errors, 1, b"parity even")?;
-    tell_error(rt, errors, 2, b"too old")?;
-    tell_error(rt, errors, 4, b"wrong length")?;
-    tell_error(rt, errors, 8, b"bad local")
-}
-
-// One of the errors, behind a comma where a lower one stands before it.
-fn tell_error(rt: &HostRuntime, errors: u32, flag: u32, name: &[u8]) -> io::Result<()> {
-    if errors & flag == 0 {
-        return Ok(());
-    }
-    if flag > 0 {
-        if errors & (flag - 1) != 0 {
-            text(rt, b", ")?;
+    // A packet of nine bytes has a payload: bit 1 of its control byte says so, unless its length is in error.
+    fn contents(&self) -> Contents {
+        let wrong = self.errors & 4 != 0;
+        let nine = (carries_of(self.control) == 1) != wrong;
+        Contents {
+            control: self.control,
+            word: self.word,
+            payload: if nine { Some(self.payload) } else { None },
         }
     }
-    text(rt, name)
+
+    // A packet in error ends with the weight that it had: two if it was in flight marked 01.
+    fn weight_in_error(&self, came: bool) -> u64 {
+        if self.errors == 0 {
+            0
+        } else if came && is_marked(self.control) && mark_of(self.control) == 1 {
+            2
+        } else {
+            1
+        }
+    }
+}
+
+// Processors by their bits.
+#[derive(Clone, Copy)]
+pub struct Processors(pub u32);
+
+impl fmt::Display for Processors {
+    fn fmt<W: fmt::Write>(&self, f: &mut fmt::Formatter<W>) -> fmt::Result {
+        for k in 0..20u32 {
+            if (self.0 >> k) & 1 == 1 {
+                write!(f, " p{k}")?;
+            }
+        }
+        Ok(())
+    }
+}
+
+// The errors of a packet, by their flags: nothing where there is none.
+#[derive(Clone, Copy)]
+pub struct Errors(pub u32);
+
+const NAMES: [(u32, &str); 4] = [
+    (1, "parity even"),
+    (2, "too old"),
+    (4, "wrong length"),
+    (8, "bad local"),
+];
+
+impl fmt::Display for Errors {
+    fn fmt<W: fmt::Write>(&self, f: &mut fmt::Formatter<W>) -> fmt::Result {
+        let mut before = "  error: ";
+        for (flag, name) in NAMES {
+            if self.0 & flag != 0 {
+                write!(f, "{before}{name}")?;
+                before = ", ";
+            }
+        }
+        Ok(())
+    }
 }

@@ -1,77 +1,73 @@
-// Accepted calls as records of a trace.
+// Calls as a trace keeps them: those that are accepted are written there.
+use super::play::Play;
+use packet::bytes::bytes_of;
+use packet::{Packed, Packet};
 use records::Call;
+use records::kinds::Kind;
 use records::writing::write_record;
-use report::course::Course;
 use script::cells::between;
-use script::files::number_of;
 use std::fs::File;
+use std::io;
 use std::io::Write;
-use steps::errors::flag_of;
 
 // A record is 15 bytes at the most.
 const ROOM: usize = 16;
 
-// Keeps a call that was accepted, where the run keeps a trace.
-pub fn kept(before: Course, refusal: u32, call: Call, trace: Option<&File>) -> Course {
-    let mut c = before;
-    if refusal != 0 {
-        return c;
-    }
-    if let Some(to) = trace {
-        let failure = written(to, call);
-        if let Err(number) = failure {
-            c.unkept = true;
-            c.failure = number;
+impl<'a> Play<'a> {
+    // Keeps a call that was accepted, where the run keeps a trace.
+    pub fn keep(&mut self, call: Call) {
+        if let Some(to) = &mut self.trace {
+            if let Err(e) = written(to, call) {
+                self.failure = Some(e);
+            }
         }
     }
-    c
 }
 
-// Answers the system's number for what failed, 0 where the record itself is refused.
-fn written(to: &File, call: Call) -> Result<(), i32> {
+// Where the record itself is refused, the system has no error: its number is 0.
+fn written(to: &mut File, call: Call) -> io::Result<()> {
     let mut room = [0u8; ROOM];
     let w = write_record(&mut room, call);
     if w.refusal != 0 {
-        return Err(0);
+        return Err(io::Error::from_raw_os_error(0));
     }
-    let mut writer = to;
-    match writer.write_all(between(&room, 0, w.length)) {
-        Ok(()) => Ok(()),
-        Err(e) => Err(number_of(&e)),
-    }
+    to.write_all(between(&room, 0, w.length))
 }
 
-pub fn injection(chip: u32, bytes: [u8; 9], length: u32) -> Call {
+pub fn injection(chip: u32, packet: Packet) -> Call {
+    let Packed { length, bytes, .. } = bytes_of(packet);
     Call {
-        kind: 1,
         chip,
-        link: 0,
-        up: 0,
         length,
         bytes,
+        ..call_of(Kind::Injection)
     }
-}
-
-pub fn round_made() -> Call {
-    without_packet(2, 0, 0, 0)
 }
 
 pub fn link_change(chip: u32, link: u32, up: bool) -> Call {
-    without_packet(3, chip, link, flag_of(up, 1))
+    Call {
+        chip,
+        link,
+        up: u32::from(up),
+        ..call_of(Kind::LinkChange)
+    }
 }
 
 pub fn registers_read(chip: u32) -> Call {
-    without_packet(4, chip, 0, 0)
+    Call {
+        chip,
+        ..call_of(Kind::Registers)
+    }
 }
 
-fn without_packet(kind: u32, chip: u32, link: u32, up: u32) -> Call {
-    let bytes = [0u8; 9];
+// A call of a kind, with 0 for all else.
+pub fn call_of(kind: Kind) -> Call {
     Call {
-        kind,
-        chip,
-        link,
-        up,
+        kind: kind as u32,
+        chip: 0,
+        link: 0,
+        up: 0,
         length: 0,
-        bytes,
+        bytes: [0; 9],
     }
 }

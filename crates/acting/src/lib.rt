@@ -3,10 +3,12 @@
 
 mod calls;
 mod deliveries;
-pub mod flooding;
-pub mod following;
+mod flooding;
+mod following;
 mod keeping;
 mod passes;
-pub mod replaying;
+pub mod play;
+mod registers;
+mod replaying;
 pub mod running;
 mod spent;

@@ -1,218 +1,225 @@
 // One pass of a packet at a chip, in words: what matched, what is sent with which mark, what is handed over or dropped.
 use super::calls::first_bytes;
-use super::deliveries::{tell_errors, tell_processors};
-use super::spent::{after, has, ready_set};
+use super::deliveries::{Errors, Processors};
+use super::play::Play;
+use super::spent::{Spent, has};
 use buffer::looking::look_mesh;
 use packet::Packet;
 use packet::bytes::bytes_of;
 use packet::control::{is_fixed, mark_of};
-use report::telling::{number, place, text};
 use router::Pass;
 use router::call::pass;
-use script::board::Board;
-use script::cells::{between, item};
+use script::cells::between;
 use script::names::link_name;
-use sheet::board::WORDS;
-use sheet::storing::word_of;
-use std::io;
-use std::num::wrapping_add_usize;
+use std::{fmt, io};
 use steps::Setting;
 use tables::lent::ChipTables;
 use tables::search::first_match;
 
-// Tells the pass of a packet at a chip, and answers what the chip has sent in this round after it.
-pub fn tell_pass(
-    rt: &HostRuntime,
-    b: Board,
-    round: u64,
-    chip: u32,
-    source: u32,
-    p: Packet,
-    spent: u32,
-    mesh: &[u32; WORDS],
-    rows: &[u32],
-    starts: &[u32],
-    codes: &[u8],
-    fixed: &[u32],
-) -> io::Result<u32> {
-    let own = rows_at(chip, rows, starts);
-    let o = pass_at(
-        b,
-        chip,
-        source,
-        p,
-        ready_set(chip, spent, mesh),
-        mesh,
-        own,
-        codes,
-        item(fixed, chip as usize),
-    );
-    tell_place(rt, b, round, chip, source)?;
-    tell_match(rt, own, p, source, o.errors)?;
-    tell_outcome(rt, o, mark_of(p.control))?;
-    Ok(after(spent, o.sent, o.leg_sent))
+// What a pass takes as the source of a packet that is local.
+const LOCAL: u32 = 7;
+
+// A packet that comes to a chip in a round: by a link, or it is local. What the chip has sent in that round before.
+#[derive(Clone, Copy)]
+pub struct Arrival {
+    pub round: u64,
+    pub chip: u32,
+    pub source: Option<u32>,
+    pub packet: Packet,
+    pub spent: Spent,
 }
 
-// The rows of a chip.
-fn rows_at<'a>(chip: u32, rows: &'a [u32], starts: &[u32]) -> &'a [u32] {
-    let from = word_of(item(starts, chip as usize) as usize);
-    let to = word_of(item(starts, chip as usize + 1) as usize);
-    between(rows, from, to)
-}
+impl<'a> Play<'a> {
+    // Tells the pass of a packet at a chip, and answers what the chip has sent in this round after it.
+    pub fn tell_pass(&self, a: Arrival) -> io::Result<Spent> {
+        let own = self.memory.sheet.rows_of(a.chip);
+        let outcome = Outcome {
+            pass: self.pass_at(&a, own),
+            mark: mark_of(a.packet.control),
+        };
+        let Arrival { round, chip, .. } = a;
+        let place = self.course.board.place(chip);
+        let way = Way(a.source);
+        let decided = Decided::of(&a, own, outcome.pass.errors);
+        println!(self.rt; "round {round}  chip {place}{way}{decided}{outcome}")?;
+        Ok(a.spent.after(outcome.pass.sent, outcome.pass.leg_sent))
+    }
 
-// The pass as the one-router call makes it.
-fn pass_at(
-    b: Board,
-    chip: u32,
-    source: u32,
-    p: Packet,
-    ready: u32,
-    mesh: &[u32; WORDS],
-    rows: &[u32],
-    codes: &[u8],
-    fixed: u32,
-) -> Pass {
-    let packed = bytes_of(p);
-    let bytes = packed.bytes;
-    let all = b.chips();
-    let from = chip as usize * all as usize;
-    let t = Setting {
-        width: b.width,
-        height: b.height,
-        monitor: b.monitor,
-        phase: look_mesh(mesh).phase,
-        ready,
-    };
-    let own = between(codes, from, wrapping_add_usize(from, all as usize));
-    pass(
-        first_bytes(&bytes, packed.length),
-        source,
-        &ChipTables::new(rows, own, fixed),
-        t,
-        0,
-    )
-}
-
-fn tell_place(rt: &HostRuntime, b: Board, round: u64, chip: u32, source: u32) -> io::Result<()> {
-    text(rt, b"round ")?;
-    number(rt, round)?;
-    text(rt, b"  chip ")?;
-    place(rt, b.x_of(chip), b.y_of(chip))?;
-    if source < 6 {
-        text(rt, b"  in by ")?;
-        text(rt, link_name(source).as_bytes())?;
-    } else {
-        text(rt, b"  local")?;
-    }
-    Ok(())
-}
-
-// The row that takes the key, or what else decides. A packet in error asks no row, nor does one marked 10, nor a fixed-route packet.
-fn tell_match(
-    rt: &HostRuntime,
-    rows: &[u32],
-    p: Packet,
-    source: u32,
-    errors: u32,
-) -> io::Result<()> {
-    if errors != 0 {
-        tell_errors(rt, errors)?;
-        return Ok(());
-    }
-    if mark_of(p.control) == 2 {
-        text(rt, b"  on its detour")?;
-        return Ok(());
-    }
-    if is_fixed(p.control) {
-        text(rt, b"  fixed route")?;
-        return Ok(());
-    }
-    match first_match(rows, p.word) {
-        Some(n) => tell_row(rt, n),
-        None => tell_no_row(rt, source),
+    // The pass as the one-router call makes it.
+    fn pass_at(&self, a: &Arrival, own: &[u32]) -> Pass {
+        let b = self.course.board;
+        let mesh = &self.memory.mesh;
+        let sheet = &self.memory.sheet;
+        let packed = bytes_of(a.packet);
+        let all = b.chips() as usize;
+        let from = (a.chip as usize).wrapping_mul(all);
+        let t = Setting {
+            width: b.width,
+            height: b.height,
+            monitor: b.monitor,
+            phase: look_mesh(mesh).phase,
+            ready: a.spent.ready_set(a.chip, mesh),
+        };
+        let codes = between(sheet.codes(), from, from.wrapping_add(all));
+        pass(
+            first_bytes(&packed.bytes, packed.length),
+            a.source.unwrap_or(LOCAL),
+            &ChipTables::new(own, codes, sheet.route(a.chip)),
+            t,
+            0,
+        )
     }
 }
 
-fn tell_row(rt: &HostRuntime, n: usize) -> io::Result<()> {
-    text(rt, b"  row ")?;
-    number(rt, n as u64)
-}
+// How a packet came.
+#[derive(Clone, Copy)]
+struct Way(Option<u32>);
 
-fn tell_no_row(rt: &HostRuntime, source: u32) -> io::Result<()> {
-    if source < 6 {
-        text(rt, b"  default")?;
-    } else {
-        text(rt, b"  no row: to the monitor")?;
-    }
-    Ok(())
-}
-
-fn tell_outcome(rt: &HostRuntime, o: Pass, mark: u32) -> io::Result<()> {
-    tell_sent(rt, o)?;
-    if o.leg_sent != 0 {
-        let leg = o.leg;
-        tell_link(rt, link_in(o.leg_sent), mark_of(leg.control))?;
-    }
-    tell_dropped(rt, b"  dropped at", o.dropped)?;
-    tell_dropped(rt, b"  second leg dropped at", o.leg_dropped)?;
-    if is_swallowed(o, mark) {
-        text(rt, b"  swallowed")?;
-    }
-    if o.processors != 0 {
-        text(rt, b" ")?;
-        tell_processors(rt, o.processors)?;
-    }
-    text(rt, b"\n")
-}
-
-// Whether the wanted set is swallowed. A packet in error has none, nor has one marked 10.
-fn is_swallowed(o: Pass, mark: u32) -> bool {
-    (o.errors == 0) & (mark != 2) & (o.wanted == 0)
-}
-
-fn tell_sent(rt: &HostRuntime, o: Pass) -> io::Result<()> {
-    let packets = o.packets;
-    let set = o.sent;
-    let mut i = 0;
-    while i < 6 {
-        let p = packets[i];
-        if has(set, i as u32) {
-            tell_link(rt, i as u32, mark_of(p.control))?;
+impl fmt::Display for Way {
+    fn fmt<W: fmt::Write>(&self, f: &mut fmt::Formatter<W>) -> fmt::Result {
+        match self.0 {
+            Some(link) => write!(f, "  in by {}", link_name(link)),
+            None => f.write_str("  local"),
         }
-        i += 1;
-    }
-    Ok(())
-}
-
-fn tell_link(rt: &HostRuntime, link: u32, mark: u32) -> io::Result<()> {
-    text(rt, b"  out by ")?;
-    text(rt, link_name(link).as_bytes())?;
-    match mark {
-        0 => text(rt, b": normal"),
-        1 => text(rt, b": with a detour's copy"),
-        2 => text(rt, b": detour"),
-        _ => text(rt, b": second leg"),
     }
 }
 
-fn tell_dropped(rt: &HostRuntime, name: &[u8], set: u32) -> io::Result<()> {
-    let mut i = 0;
-    while i < 6 {
-        if has(set, i) {
-            tell_lost(rt, name, i)?;
+// What decides where a packet goes.
+#[derive(Clone, Copy)]
+enum Decided {
+    // A packet in error goes nowhere.
+    Wrong(Errors),
+    Detour,
+    FixedRoute,
+    // The row that takes the key.
+    Row(usize),
+    Default,
+    Monitor,
+}
+
+impl Decided {
+    // A packet in error asks no row, nor does one marked 10, nor a fixed-route packet.
+    fn of(a: &Arrival, rows: &[u32], errors: u32) -> Decided {
+        let control = a.packet.control;
+        if errors != 0 {
+            return Decided::Wrong(Errors(errors));
         }
-        i += 1;
+        if mark_of(control) == 2 {
+            return Decided::Detour;
+        }
+        if is_fixed(control) {
+            return Decided::FixedRoute;
+        }
+        match (first_match(rows, a.packet.word), a.source) {
+            (Some(n), _) => Decided::Row(n),
+            (None, Some(_)) => Decided::Default,
+            (None, None) => Decided::Monitor,
+        }
     }
-    Ok(())
 }
 
-fn tell_lost(rt: &HostRuntime, name: &[u8], link: u32) -> io::Result<()> {
-    text(rt, name)?;
-    text(rt, b" ")?;
-    text(rt, link_name(link).as_bytes())
+impl fmt::Display for Decided {
+    fn fmt<W: fmt::Write>(&self, f: &mut fmt::Formatter<W>) -> fmt::Result {
+        match self {
+            Decided::Wrong(errors) => write!(f, "{errors}"),
+            Decided::Detour => f.write_str("  on its detour"),
+            Decided::FixedRoute => f.write_str("  fixed route"),
+            Decided::Row(n) => write!(f, "  row {n}"),
+            Decided::Default => f.write_str("  default"),
+            Decided::Monitor => f.write_str("  no row: to the monitor"),
+        }
+    }
 }
 
-// The link of a set of one.
-fn link_in(set: u32) -> u32 {
-    u32::trailing_zeros(set)
+// What came of the pass of a packet with a mark.
+#[derive(Clone, Copy)]
+struct Outcome {
+    pass: Pass,
+    mark: u32,
+}
+
+impl Outcome {
+    // Whether the wanted set is swallowed. A packet in error has none, nor has one marked 10.
+    fn is_swallowed(&self) -> bool {
+        self.pass.errors == 0 && self.mark != 2 && self.pass.wanted == 0
+    }
+}
+
+impl fmt::Display for Outcome {
+    fn fmt<W: fmt::Write>(&self, f: &mut fmt::Formatter<W>) -> fmt::Result {
+        let o = &self.pass;
+        for link in 0..6 {
+            if has(o.sent, link) {
+                write!(f, "{}", Sent::of(link, o.packets[link as usize]))?;
+            }
+        }
+        if o.leg_sent != 0 {
+            write!(f, "{}", Sent::of(o.leg_sent.trailing_zeros(), o.leg))?;
+        }
+        write!(
+            f,
+            "{}{}",
+            Dropped::of("", o.dropped),
+            Dropped::of("second leg ", o.leg_dropped)
+        )?;
+        if self.is_swallowed() {
+            f.write_str("  swallowed")?;
+        }
+        if o.processors != 0 {
+            write!(f, " {}", Processors(o.processors))?;
+        }
+        Ok(())
+    }
+}
+
+// A packet that is sent by a link, by its mark.
+#[derive(Clone, Copy)]
+struct Sent {
+    link: u32,
+    mark: u32,
+}
+
+impl Sent {
+    fn of(link: u32, p: Packet) -> Sent {
+        Sent {
+            link,
+            mark: mark_of(p.control),
+        }
+    }
+}
+
+impl fmt::Display for Sent {
+    fn fmt<W: fmt::Write>(&self, f: &mut fmt::Formatter<W>) -> fmt::Result {
+        let what = match self.mark {
+            0 => "normal",
+            1 => "with a detour's copy",
+            2 => "detour",
+            _ => "second leg",
+        };
+        write!(f, "  out by {}: {what}", link_name(self.link))
+    }
+}
+
+// The links at which a packet, or its second leg, is dropped.
+#[derive(Clone, Copy)]
+struct Dropped<'a> {
+    what: &'a str,
+    links: u32,
+}
+
+impl<'a> Dropped<'a> {
+    fn of(what: &'a str, links: u32) -> Dropped<'a> {
+        Dropped { what, links }
+    }
+}
+
+impl<'a> fmt::Display for Dropped<'a> {
+    fn fmt<W: fmt::Write>(&self, f: &mut fmt::Formatter<W>) -> fmt::Result {
+        for link in 0..6 {
+            if has(self.links, link) {
+                write!(f, "  {}dropped at {}", self.what, link_name(link))?;
+            }
+        }
+        Ok(())
+    }
 }

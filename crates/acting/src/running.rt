@@ -1,172 +1,62 @@
 // FILE's second reading: its calls are made in order, with all its tables. A flood writes the codes that later calls are lent.
-use super::calls;
-use super::flooding::{all_codes, flooded};
-use packet::Packet;
-use packet::bytes::bytes_of;
-use report::course::Course;
-use script::cells::between;
+use super::keeping::{injection, link_change, registers_read};
+use super::play::Play;
+use report::course::Caller;
 use script::lines::Lines;
 use script::parts::Place;
 use script::statements::{Statement, read_statement};
 use script::words::before_comment;
-use sheet::board::{CODES, LOG, WORDS};
 use std::fs::File;
 use std::io;
 
 // No chip has this number.
 const NO_CHIP: u32 = 65535;
 
-// Makes the calls of FILE. What was read once is taken to be the same again.
-pub fn run_file(
-    rt: &HostRuntime,
-    from: File,
-    before: Course,
-    trace: Option<&File>,
-    mesh: &mut [u32; WORDS],
-    log: &mut [u32; LOG],
-    rows: &[u32],
-    starts: &[u32],
-    codes: &mut [u8; CODES],
-    fixed: &[u32],
-) -> io::Result<Course> {
-    let mut lines = Lines::of(from);
-    let mut c = before;
-    for _ in 0..u64::MAX {
-        let Ok(Some(line)) = lines.next_line() else {
-            break;
-        };
-        c.at = line.number;
-        if let Ok(s) = read_statement(before_comment(line.bytes)) {
-            c = called(rt, c, trace, s, mesh, log, rows, starts, codes, fixed)?;
+// Which of FILE's calls are made.
+#[derive(Clone, Copy, Debug, PartialEq, Eq)]
+pub enum Calls {
+    All,
+    LinksAndFloods,
+}
+
+impl<'a> Play<'a> {
+    // Makes the calls of FILE. What was read once is taken to be the same again.
+    pub fn run(&mut self, from: File, which: Calls) -> io::Result<()> {
+        let mut lines = Lines::of(from);
+        for _ in 0..u64::MAX {
+            let Ok(Some(line)) = lines.next_line() else {
+                break;
+            };
+            self.course.caller = Caller::Line(line.number);
+            if let Ok(statement) = read_statement(before_comment(line.bytes)) {
+                self.make_stated(statement, which)?;
+            }
+        }
+        Ok(())
+    }
+
+    // Makes the call that a statement asks for, if it asks for one of those.
+    fn make_stated(&mut self, statement: Statement<'_>, which: Calls) -> io::Result<()> {
+        match (which, statement) {
+            (_, Statement::Link { place, link, up }) => {
+                self.make(link_change(self.chip(place), link, up))
+            }
+            (_, Statement::Flood) => self.flood(),
+            (Calls::LinksAndFloods, _) => Ok(()),
+            (Calls::All, Statement::Send { place, packet }) => {
+                self.make(injection(self.chip(place), packet))
+            }
+            (Calls::All, Statement::Rounds(n)) => self.rounds(n),
+            (Calls::All, Statement::UntilQuiet) => self.until_quiet(),
+            (Calls::All, Statement::Registers { place }) => {
+                self.make(registers_read(self.chip(place)))
+            }
+            (Calls::All, _) => Ok(()),
         }
     }
-    Ok(c)
-}
 
-// Makes the call that a statement asks for, if it asks for one.
-fn called(
-    rt: &HostRuntime,
-    c: Course,
-    trace: Option<&File>,
-    s: Statement<'_>,
-    mesh: &mut [u32; WORDS],
-    log: &mut [u32; LOG],
-    rows: &[u32],
-    starts: &[u32],
-    codes: &mut [u8; CODES],
-    fixed: &[u32],
-) -> io::Result<Course> {
-    if c.links {
-        return linked(rt, c, trace, s, mesh, codes);
+    // The chip that is named so: one that is not there is refused as one that no mesh has.
+    fn chip(&self, place: Place) -> u32 {
+        self.course.board.chip(place).unwrap_or(NO_CHIP)
     }
-    match s {
-        Statement::Send { place, packet } => sent(
-            rt,
-            c,
-            trace,
-            chip_of(c, place),
-            packet,
-            mesh,
-            log,
-            rows,
-            starts,
-            between(codes, 0, all_codes(c.board)),
-            fixed,
-        ),
-        Statement::Rounds(n) => calls::rounds(
-            rt,
-            c,
-            trace,
-            n,
-            mesh,
-            log,
-            rows,
-            starts,
-            between(codes, 0, all_codes(c.board)),
-            fixed,
-        ),
-        Statement::UntilQuiet => calls::until_quiet(
-            rt,
-            c,
-            trace,
-            mesh,
-            log,
-            rows,
-            starts,
-            between(codes, 0, all_codes(c.board)),
-            fixed,
-        ),
-        Statement::Link { place, link, up } => calls::change_link(
-            rt,
-            c,
-            trace,
-            chip_of(c, place),
-            link,
-            up,
-            mesh,
-        ),
-        Statement::Registers { place } => calls::registers(rt, c, trace, chip_of(c, place), mesh),
-        Statement::Flood => flooded(rt, c, mesh, codes),
-        _ => Ok(c),
-    }
-}
-
-// The chip that is named so: one that is not there is refused as one that no mesh has.
-fn chip_of(c: Course, place: Place) -> u32 {
-    c.board.chip(place).unwrap_or(NO_CHIP)
-}
-
-// A link change or a flood alone, told where it is refused.
-fn linked(
-    rt: &HostRuntime,
-    c: Course,
-    trace: Option<&File>,
-    s: Statement<'_>,
-    mesh: &mut [u32; WORDS],
-    codes: &mut [u8; CODES],
-) -> io::Result<Course> {
-    match s {
-        Statement::Link { place, link, up } => calls::change_link(
-            rt,
-            c,
-            trace,
-            chip_of(c, place),
-            link,
-            up,
-            mesh,
-        ),
-        Statement::Flood => flooded(rt, c, mesh, codes),
-        _ => Ok(c),
-    }
-}
-
-fn sent(
-    rt: &HostRuntime,
-    c: Course,
-    trace: Option<&File>,
-    chip: u32,
-    p: Packet,
-    mesh: &mut [u32; WORDS],
-    log: &mut [u32; LOG],
-    rows: &[u32],
-    starts: &[u32],
-    codes: &[u8],
-    fixed: &[u32],
-) -> io::Result<Course> {
-    let packed = bytes_of(p);
-    let bytes = packed.bytes;
-    calls::send(
-        rt,
-        c,
-        trace,
-        chip,
-        bytes,
-        packed.length,
-        mesh,
-        log,
-        rows,
-        starts,
-        codes,
-        fixed,
-    )
 }

@@ -2,145 +2,128 @@
 use buffer::looking::{look_flight, read_counter};
 use packet::control::{is_marked, mark_of};
 use report::course::Course;
-use report::telling::{place, small, text};
-use script::say;
+use report::telling::unless_refused;
 use sheet::board::WORDS;
-use std::io;
-use std::io::Write;
-use std::num::{wrapping_add_u64, wrapping_sub_u64};
+use std::{fmt, io};
 
-pub const DELIVERED: u32 = 6;
-
-pub const DROPPED: u32 = 7;
-
-pub const SWALLOWED: u32 = 8;
-
-const MISSED: u32 = 9;
-
-// Units over all chips.
+// A chip's counters that are told, by their numbers in the rules.
 #[derive(Clone, Copy)]
-pub struct Units {
-    pub delivered: u64,
-    pub dropped: u64,
-    pub swallowed: u64,
-    pub flying: u64,
+pub enum Counter {
+    Parity = 1,
+    Age = 2,
+    Length = 3,
+    BadLocal = 4,
+    Delivered = 6,
+    Dropped = 7,
+    Swallowed = 8,
+    Missed = 9,
 }
 
-pub fn tell_account(rt: &HostRuntime, c: Course, mesh: &[u32; WORDS]) -> io::Result<()> {
-    tell_all_losses(rt, c, mesh)?;
-    say_account(&mut rt.stdout(), c, sum_units(c, mesh))?;
-    text(rt, b"\n")
+// Packets injected, and the units over all chips.
+#[derive(Clone, Copy)]
+pub struct Account {
+    injected: u64,
+    delivered: u64,
+    errors: u64,
+    dropped: u64,
+    swallowed: u64,
+    flying: u64,
 }
 
-// The account in a line, without its end.
-pub fn say_account<W: Write>(to: &mut W, c: Course, u: Units) -> io::Result<()> {
-    let ends = wrapping_add_u64(
-        wrapping_add_u64(u.delivered, c.errors),
-        wrapping_add_u64(u.dropped, u.swallowed),
-    );
-    let all = wrapping_add_u64(ends, u.flying);
-    say::text(to, b"account: ")?;
-    say::number(to, c.injected)?;
-    say::text(to, b" injected + ")?;
-    say::number(to, wrapping_sub_u64(all, c.injected))?;
-    say::text(to, b" branches = ")?;
-    say::number(to, u.delivered)?;
-    say::text(to, b" delivered + ")?;
-    say::number(to, c.errors)?;
-    say::text(to, b" in error + ")?;
-    say_rest(to, u)
-}
-
-fn say_rest<W: Write>(to: &mut W, u: Units) -> io::Result<()> {
-    say::number(to, u.dropped)?;
-    say::text(to, b" dropped + ")?;
-    say::number(to, u.swallowed)?;
-    say::text(to, b" swallowed + ")?;
-    say::number(to, u.flying)?;
-    say::text(to, b" in flight")
-}
-
-pub fn sum_units(c: Course, mesh: &[u32; WORDS]) -> Units {
-    let mut u = Units {
-        delivered: 0,
-        dropped: 0,
-        swallowed: 0,
-        flying: 0,
-    };
-    let all = c.board.chips();
-    let mut chip = 0;
-    while chip < all {
-        u = with_chip(u, mesh, chip);
-        chip += 1;
+impl Account {
+    pub fn of(c: &Course, mesh: &[u32; WORDS]) -> Account {
+        let mut account = Account {
+            injected: c.injected,
+            delivered: 0,
+            errors: c.errors,
+            dropped: 0,
+            swallowed: 0,
+            flying: 0,
+        };
+        for chip in 0..c.board.chips() {
+            account = account.with_chip(mesh, chip);
+        }
+        account
     }
-    u
+
+    fn with_chip(self, mesh: &[u32; WORDS], chip: u32) -> Account {
+        let more = |units: u64, counter| units.wrapping_add(u64::from(counted(
+            mesh, chip, counter,
+        )));
+        Account {
+            delivered: more(self.delivered, Counter::Delivered),
+            dropped: more(self.dropped, Counter::Dropped),
+            swallowed: more(self.swallowed, Counter::Swallowed),
+            flying: self.flying.wrapping_add(flying_from(mesh, chip)),
+            ..self
+        }
+    }
+
+    // How many units are more than the packets injected.
+    fn branches(&self) -> u64 {
+        self.delivered
+            .wrapping_add(self.errors)
+            .wrapping_add(self.dropped)
+            .wrapping_add(self.swallowed)
+            .wrapping_add(self.flying)
+            .wrapping_sub(self.injected)
+    }
 }
 
-// Each chip that lost something.
-fn tell_all_losses(rt: &HostRuntime, c: Course, mesh: &[u32; WORDS]) -> io::Result<()> {
-    let all = c.board.chips();
-    let mut chip = 0;
-    while chip < all {
+impl fmt::Display for Account {
+    fn fmt<W: fmt::Write>(&self, f: &mut fmt::Formatter<W>) -> fmt::Result {
+        write!(
+            f,
+            "account: {} injected + {} branches = {} delivered + {} in error + ",
+            self.injected,
+            self.branches(),
+            self.delivered,
+            self.errors
+        )?;
+        write!(
+            f,
+            "{} dropped + {} swallowed + {} in flight",
+            self.dropped, self.swallowed, self.flying
+        )
+    }
+}
+
+pub fn tell_account(rt: &HostRuntime, c: &Course, mesh: &[u32; WORDS]) -> io::Result<()> {
+    for chip in 0..c.board.chips() {
         tell_losses(rt, c, mesh, chip)?;
-        chip += 1;
     }
-    Ok(())
+    println!(rt; "{}", Account::of(c, mesh))
 }
 
-fn tell_losses(rt: &HostRuntime, c: Course, mesh: &[u32; WORDS], chip: u32) -> io::Result<()> {
-    let dropped = read_counter(mesh, chip, DROPPED).count;
-    let swallowed = read_counter(mesh, chip, SWALLOWED).count;
-    let missed = read_counter(mesh, chip, MISSED).count;
+// What a chip lost, if it lost something.
+fn tell_losses(rt: &HostRuntime, c: &Course, mesh: &[u32; WORDS], chip: u32) -> io::Result<()> {
+    let dropped = counted(mesh, chip, Counter::Dropped);
+    let swallowed = counted(mesh, chip, Counter::Swallowed);
+    let missed = counted(mesh, chip, Counter::Missed);
     if dropped | swallowed | missed == 0 {
         return Ok(());
     }
-    let b = c.board;
-    text(rt, b"chip ")?;
-    place(rt, b.x_of(chip), b.y_of(chip))?;
-    text(rt, b": dropped ")?;
-    small(rt, dropped)?;
-    text(rt, b", swallowed ")?;
-    small(rt, swallowed)?;
-    text(rt, b", local misses ")?;
-    small(rt, missed)?;
-    text(rt, b"\n")
+    let place = c.board.place(chip);
+    println!(rt; "chip {place}: dropped {dropped}, swallowed {swallowed}, local misses {missed}")
 }
 
-fn with_chip(u: Units, mesh: &[u32; WORDS], chip: u32) -> Units {
-    Units {
-        delivered: wrapping_add_u64(u.delivered, counted(mesh, chip, DELIVERED)),
-        dropped: wrapping_add_u64(u.dropped, counted(mesh, chip, DROPPED)),
-        swallowed: wrapping_add_u64(u.swallowed, counted(mesh, chip, SWALLOWED)),
-        flying: wrapping_add_u64(u.flying, flying_from(mesh, chip)),
-    }
-}
-
-fn counted(mesh: &[u32; WORDS], chip: u32, counter: u32) -> u64 {
-    let r = read_counter(mesh, chip, counter);
-    r.count as u64
+pub fn counted(mesh: &[u32; WORDS], chip: u32, counter: Counter) -> u32 {
+    read_counter(mesh, chip, counter as u32).count
 }
 
 // The units in flight on a chip's six links, which hold up to eight packets each.
 fn flying_from(mesh: &[u32; WORDS], chip: u32) -> u64 {
-    let mut all = 0;
-    let mut n = 0;
-    while n < 48 {
-        all = wrapping_add_u64(all, weight_at(mesh, chip, n / 8, n % 8));
-        n += 1;
-    }
-    all
+    (0..48)
+        .map(|n| weight_at(mesh, chip, n / 8, n % 8))
+        .fold(0u64, |all, weight| all.wrapping_add(weight))
 }
 
 // The weight of the packet at a place of a link, 0 the oldest: two for one marked 01 that is MC or fixed-route, none where there is no packet.
 fn weight_at(mesh: &[u32; WORDS], chip: u32, link: u32, place: u32) -> u64 {
     let f = look_flight(mesh, chip, link, place);
-    if f.refusal != 0 {
-        return 0;
-    }
-    let p = f.packet;
-    if is_marked(p.control) & (mark_of(p.control) == 1) {
-        2
-    } else {
-        1
+    match unless_refused(f.refusal, f.packet) {
+        Ok(p) if is_marked(p.control) && mark_of(p.control) == 1 => 2,
+        Ok(_) => 1,
+        Err(_) => 0,
     }
 }

@@ -1,17 +1,17 @@
 // A picture of the mesh as it stands: chips with what they counted, each directed link as a half-line at its chip.
 ghost use Rattle.std.specs.Prelude.{◌≤◌};
 
-use super::account::{DELIVERED, DROPPED, SWALLOWED};
+use super::account::{Counter, counted};
 use super::legend::draw_legend;
 use super::svg;
-use buffer::looking::{look_link, read_counter};
+use super::svg::Point;
+use buffer::looking::look_link;
 use report::course::Course;
 use script::board::Board;
-use script::say;
+use script::parts::Place;
 use sheet::board::WORDS;
 use std::fs::File;
-use std::io;
-use std::num::{wrapping_add_u32, wrapping_sub_u32};
+use std::{fmt, io};
 
 // From chip to chip, around all chips, and the least width of the legend.
 const PITCH: u32 = 150;
@@ -32,16 +32,34 @@ const STUB: u32 = 60;
 
 const MIDST: u32 = 52;
 
-pub fn draw(to: &mut File, c: Course, mesh: &[u32; WORDS]) -> io::Result<()> {
+// A number, or the most that is written and a plus.
+#[derive(Clone, Copy)]
+struct UpTo {
+    most: u32,
+    n: u32,
+}
+
+impl fmt::Display for UpTo {
+    fn fmt<W: fmt::Write>(&self, f: &mut fmt::Formatter<W>) -> fmt::Result {
+        if self.n <= self.most {
+            write!(f, "{}", self.n)
+        } else {
+            write!(f, "{}+", self.most)
+        }
+    }
+}
+
+pub fn draw(to: &mut File, c: &Course, mesh: &[u32; WORDS]) -> io::Result<()> {
     let b = c.board;
-    let width = pitches(b.width);
     let below = pitches(b.height);
     svg::begin_picture(
         to,
-        wrapping_add_u32(width, left_of(b) * 2),
-        wrapping_add_u32(below, 176),
+        pitches(b.width).wrapping_add(left_of(b) * 2),
+        below.wrapping_add(176),
     )?;
-    draw_chips(to, b, mesh)?;
+    for chip in 0..b.chips() {
+        draw_chip(to, b, mesh, chip)?;
+    }
     draw_legend(to, c, mesh, below)?;
     svg::end_picture(to)
 }
@@ -50,39 +68,28 @@ pub fn draw(to: &mut File, c: Course, mesh: &[u32; WORDS]) -> io::Result<()> {
 fn left_of(b: Board) -> u32
     ensures { result ≤ 450 }
 {
-    let width = pitches(b.width);
-    if width < LEAST {
-        (LEAST - width) / 2
-    } else {
-        0
-    }
+    LEAST.saturating_sub(pitches(b.width)) / 2
 }
 
 fn pitches(n: u32) -> u32 {
-    n.saturating_mul(PITCH).saturating_add(EDGE * 2)
-}
-
-fn draw_chips(to: &mut File, b: Board, mesh: &[u32; WORDS]) -> io::Result<()> {
-    let all = b.chips();
-    let mut chip = 0;
-    while chip < all {
-        draw_chip(to, b, mesh, chip)?;
-        chip += 1;
-    }
-    Ok(())
+    n.wrapping_mul(PITCH).wrapping_add(EDGE * 2)
 }
 
 fn draw_chip(to: &mut File, b: Board, mesh: &[u32; WORDS], chip: u32) -> io::Result<()> {
-    let x = wrapping_add_u32(middle(b.x_of(chip)), left_of(b));
     // North is up.
-    let y = middle(wrapping_sub_u32(wrapping_sub_u32(b.height, 1), b.y_of(chip)));
-    draw_links(to, b, mesh, chip, x, y)?;
-    draw_box(to, b, mesh, chip, x, y)?;
-    draw_badges(to, mesh, chip, wrapping_sub_u32(x, SIDE), y)
+    let middle = Point {
+        x: middle(b.x_of(chip)).wrapping_add(left_of(b)),
+        y: middle(b.height.wrapping_sub(1).wrapping_sub(b.y_of(chip))),
+    };
+    for link in 0..6 {
+        draw_link(to, b, mesh, chip, link, middle)?;
+    }
+    draw_box(to, b, mesh, chip, middle)?;
+    draw_badges(to, mesh, chip, middle.left(SIDE))
 }
 
 fn middle(n: u32) -> u32 {
-    wrapping_add_u32(pitches(n), PITCH / 2 - EDGE)
+    pitches(n).wrapping_add(PITCH / 2 - EDGE)
 }
 
 fn draw_box(
@@ -90,112 +97,55 @@ fn draw_box(
     b: Board,
     mesh: &[u32; WORDS],
     chip: u32,
-    x: u32,
-    y: u32,
+    middle: Point,
 ) -> io::Result<()> {
-    let delivered = counted(mesh, chip, DELIVERED);
-    match delivered {
-        0 => draw_square(to, b"s0", x, y)?,
-        1 => draw_square(to, b"s1", x, y)?,
-        2..=9 => draw_square(to, b"s2", x, y)?,
-        10..=99 => draw_square(to, b"s3", x, y)?,
-        _ => draw_square(to, b"s4", x, y)?,
-    }
-    svg::begin_words(to, b"name", x, wrapping_sub_u32(y, 20))?;
-    say::place(to, b.x_of(chip), b.y_of(chip))?;
-    svg::end_words(to)?;
+    let delivered = counted(mesh, chip, Counter::Delivered);
+    let shade = match delivered {
+        0 => "s0",
+        1 => "s1",
+        2..=9 => "s2",
+        10..=99 => "s3",
+        _ => "s4",
+    };
+    svg::rect(to, shade, middle.left(SIDE).up(SIDE), SIDE * 2, SIDE * 2)?;
+    svg::words(to, "name", middle.up(20), b.place(chip))?;
     if delivered != 0 {
-        svg::begin_words(to, b"count", x, wrapping_sub_u32(y, 3))?;
-        say_up_to(to, delivered, 9999999)?;
-        svg::end_words(to)?;
+        let count = UpTo {
+            most: 9999999,
+            n: delivered,
+        };
+        svg::words(to, "count", middle.up(3), count)?;
     }
     Ok(())
 }
 
-fn draw_square(to: &mut File, class: &[u8], x: u32, y: u32) -> io::Result<()> {
-    svg::rect(
-        to,
-        class,
-        wrapping_sub_u32(x, SIDE),
-        wrapping_sub_u32(y, SIDE),
-        SIDE * 2,
-        SIDE * 2,
-    )
+// What was lost at the chip whose left side is given, at its middle's height.
+fn draw_badges(to: &mut File, mesh: &[u32; WORDS], chip: u32, side: Point) -> io::Result<()> {
+    let dropped = counted(mesh, chip, Counter::Dropped);
+    let swallowed = counted(mesh, chip, Counter::Swallowed);
+    draw_badge(to, "drop", dropped, side.down(1))?;
+    draw_badge(to, "swallow", swallowed, side.down(13))?;
+    draw_badge(to, "error", errors(mesh, chip), side.down(25))
 }
 
-// What was lost at the chip whose left side and middle are given.
-fn draw_badges(to: &mut File, mesh: &[u32; WORDS], chip: u32, x: u32, y: u32) -> io::Result<()> {
-    draw_badge(
-        to,
-        b"drop",
-        counted(mesh, chip, DROPPED),
-        x,
-        wrapping_add_u32(y, 1),
-    )?;
-    draw_badge(
-        to,
-        b"swallow",
-        counted(mesh, chip, SWALLOWED),
-        x,
-        wrapping_add_u32(y, 13),
-    )?;
-    draw_badge(to, b"error", errors(mesh, chip), x, wrapping_add_u32(y, 25))
-}
-
-fn draw_badge(to: &mut File, class: &[u8], count: u32, x: u32, y: u32) -> io::Result<()> {
-    if count == 0 {
+fn draw_badge(to: &mut File, class: &str, n: u32, at: Point) -> io::Result<()> {
+    if n == 0 {
         return Ok(());
     }
-    svg::rect(to, class, wrapping_add_u32(x, 3), y, SIDE * 2 - 6, 12)?;
-    svg::begin_words(
-        to,
-        b"badge",
-        wrapping_add_u32(x, SIDE),
-        wrapping_add_u32(y, 10),
-    )?;
-    say::text(to, class)?;
-    say::text(to, b" ")?;
-    say_up_to(to, count, 999)?;
-    svg::end_words(to)
+    svg::badge(to, class, at.right(3), SIDE * 2 - 6, UpTo { most: 999, n })
 }
 
 // How often the four errors were found.
 fn errors(mesh: &[u32; WORDS], chip: u32) -> u32 {
-    wrapping_add_u32(
-        wrapping_add_u32(counted(mesh, chip, 1), counted(mesh, chip, 2)),
-        wrapping_add_u32(counted(mesh, chip, 3), counted(mesh, chip, 4)),
-    )
-}
-
-fn counted(mesh: &[u32; WORDS], chip: u32, counter: u32) -> u32 {
-    read_counter(mesh, chip, counter).count
-}
-
-// A number, or the most that is written and a plus.
-fn say_up_to(to: &mut File, n: u32, most: u32) -> io::Result<()> {
-    if n <= most {
-        say::small(to, n)?;
-    } else {
-        say::small(to, most)?;
-        say::text(to, b"+")?;
-    }
-    Ok(())
-}
-
-fn draw_links(
-    to: &mut File,
-    b: Board,
-    mesh: &[u32; WORDS],
-    chip: u32,
-    x: u32,
-    y: u32,
-) -> io::Result<()> {
-    let mut link = 0;
-    while link < 6 {
-        draw_link(to, b, mesh, chip, link, x, y)?;
-        link += 1;
-    }
-    Ok(())
+    [
+        Counter::Parity,
+        Counter::Age,
+        Counter::Length,
+        Counter::BadLocal,
+    ]
+    .iter()
+    .map(|counter| counted(mesh, chip, *counter))
+    .fold(0u32, |all, found| all.wrapping_add(found))
 }
 
 fn draw_link(
@@ -204,81 +154,54 @@ fn draw_link(
     mesh: &[u32; WORDS],
     chip: u32,
     link: u32,
-    x: u32,
-    y: u32,
+    middle: Point,
 ) -> io::Result<()> {
-    let l = look_link(mesh, chip, link);
     let round = leads_round(b, chip, link);
     let end = if round { STUB } else { FAR };
-    if l.up == 0 {
-        draw_half(to, b"down", link, x, y, end)?;
-        draw_held(to, b"down dot", l.held, link, x, y)?;
-    } else if l.held <= 6 {
-        draw_ready(to, l.held, link, x, y, end)?;
-    } else {
-        draw_half(to, b"full", link, x, y, end)?;
-        draw_held(to, b"full dot", l.held, link, x, y)?;
-    }
-    if round {
-        let far = b.beyond(chip, link);
-        draw_name(to, link, b.x_of(far), b.y_of(far), x, y)?;
-    }
-    Ok(())
-}
-
-fn draw_ready(to: &mut File, held: u32, link: u32, x: u32, y: u32, end: u32) -> io::Result<()> {
-    if held == 0 {
-        draw_half(to, b"up", link, x, y, end)?;
-    } else {
-        draw_half(to, b"holds", link, x, y, end)?;
-        draw_held(to, b"holds dot", held, link, x, y)?;
-    }
-    Ok(())
-}
-
-fn draw_half(to: &mut File, class: &[u8], link: u32, x: u32, y: u32, end: u32) -> io::Result<()> {
+    let l = look_link(mesh, chip, link);
+    let (class, dot) = look_of(l.up != 0, l.held);
     svg::line(
         to,
         class,
-        along_x(x, link, NEAR),
-        along_y(y, link, NEAR),
-        along_x(x, link, end),
-        along_y(y, link, end),
-    )
+        along(middle, link, NEAR),
+        along(middle, link, end),
+    )?;
+    if l.held != 0 {
+        svg::held(to, dot, along(middle, link, MIDST), l.held)?;
+    }
+    if round {
+        draw_name(to, link, middle, b.place(b.beyond(chip, link)))?;
+    }
+    Ok(())
 }
 
-// How many packets a link holds, if any.
-fn draw_held(to: &mut File, class: &[u8], held: u32, link: u32, x: u32, y: u32) -> io::Result<()> {
-    if held == 0 {
-        return Ok(());
+// The classes of a link and of what says how many packets it holds: one that holds more than six is not ready.
+fn look_of(up: bool, held: u32) -> (&'static str, &'static str) {
+    match (up, held) {
+        (false, _) => ("down", "down dot"),
+        (true, 0) => ("up", "up dot"),
+        (true, 1..=6) => ("holds", "holds dot"),
+        (true, _) => ("full", "full dot"),
     }
-    let at_x = along_x(x, link, MIDST);
-    let at_y = along_y(y, link, MIDST);
-    svg::circle(to, class, at_x, at_y, 9)?;
-    svg::begin_words(to, b"held", at_x, wrapping_add_u32(at_y, 5))?;
-    say::small(to, held)?;
-    svg::end_words(to)
 }
 
 // The chip that a link leads to round the edge, behind the end of its half-line.
-fn draw_name(to: &mut File, link: u32, to_x: u32, to_y: u32, x: u32, y: u32) -> io::Result<()> {
-    let at_x = along_x(x, link, STUB + 6);
-    let at_y = along_y(y, link, STUB + 6);
-    match link {
-        0 => svg::begin_words(to, b"from", at_x, wrapping_add_u32(at_y, 4))?,
-        1 => svg::begin_words(to, b"from", at_x, at_y)?,
-        2 => svg::begin_words(to, b"over", at_x, at_y)?,
-        3 => svg::begin_words(to, b"to", at_x, wrapping_add_u32(at_y, 4))?,
-        4 => svg::begin_words(to, b"to", at_x, wrapping_add_u32(at_y, 9))?,
-        _ => svg::begin_words(to, b"over", at_x, wrapping_add_u32(at_y, 9))?,
-    }
-    say::place(to, to_x, to_y)?;
-    svg::end_words(to)
+fn draw_name(to: &mut File, link: u32, middle: Point, far: Place) -> io::Result<()> {
+    let end = along(middle, link, STUB + 6);
+    let (class, at) = match link {
+        0 => ("from", end.down(4)),
+        1 => ("from", end),
+        2 => ("over", end),
+        3 => ("to", end.down(4)),
+        4 => ("to", end.down(9)),
+        _ => ("over", end.down(9)),
+    };
+    svg::words(to, class, at, far)
 }
 
 fn leads_round(b: Board, chip: u32, link: u32) -> bool {
-    let east = wrapping_add_u32(b.x_of(chip), 1) == b.width;
-    let north = wrapping_add_u32(b.y_of(chip), 1) == b.height;
+    let east = b.x_of(chip).wrapping_add(1) == b.width;
+    let north = b.y_of(chip).wrapping_add(1) == b.height;
     let west = b.x_of(chip) == 0;
     let south = b.y_of(chip) == 0;
     match link {
@@ -292,18 +215,13 @@ fn leads_round(b: Board, chip: u32, link: u32) -> bool {
 }
 
 // A place so far along a link from a chip's middle: in both directions, where the link leads aslant.
-fn along_x(x: u32, link: u32, by: u32) -> u32 {
+fn along(middle: Point, link: u32, by: u32) -> Point {
     match link {
-        0 | 1 => wrapping_add_u32(x, by),
-        3 | 4 => wrapping_sub_u32(x, by),
-        _ => x,
-    }
-}
-
-fn along_y(y: u32, link: u32, by: u32) -> u32 {
-    match link {
-        1 | 2 => wrapping_sub_u32(y, by),
-        4 | 5 => wrapping_add_u32(y, by),
-        _ => y,
+        0 => middle.right(by),
+        1 => middle.right(by).up(by),
+        2 => middle.up(by),
+        3 => middle.left(by),
+        4 => middle.left(by).down(by),
+        _ => middle.down(by),
     }
 }

@@ -5,15 +5,20 @@
 mod commands;
 mod playing;
 mod showing;
+mod status;
 
+use acting::play::Memory;
 use sheet::board::{LOG, WORDS};
 use sheet::storing::Sheet;
 use std::io;
 
-// All memory of the program stands here, but for the room that a round may be lent (`calls` of `acting`).
 fn main(rt: HostRuntime) -> io::Result<()> {
-    let mut sheet = Sheet::empty();
-    let mut mesh = [0u32; WORDS];
-    let mut log = [0u32; LOG];
-    commands::command(&rt, &mut sheet, &mut mesh, &mut log)
+    // Made here and not by a function of its own: what that returned would stand on the stack twice.
+    let mut memory = Memory {
+        sheet: Sheet::empty(),
+        mesh: [0; WORDS],
+        log: [0; LOG],
+    };
+    let status = commands::status_of(&rt, &mut memory)?;
+    println!(rt; "status {status}")
 }

@@ -1,205 +1,140 @@
 // Calls made on the mesh and tables of FILE: those of FILE, kept as a trace or not, or those of a kept trace.
-use acting::flooding::all_codes;
-use acting::following::follow_packet;
-use acting::replaying::replay_trace;
-use acting::running::run_file;
+use super::status::{Status, Stop, failed, readable, writable};
+use acting::play::{Memory, Play};
+use acting::running::Calls;
 use buffer::opening::open;
 use drawing::account::tell_account;
 use drawing::picture::draw;
 use packet::Packet;
-use report::course::{Course, course_on};
-use report::telling::text;
+use report::course::Course;
 use script::board::Board;
-use script::cells::between;
-use script::files::{fail, open_overwrite, open_read};
 use script::numbers::number;
 use script::parts::Place;
 use script::sendings::{fixed_of, spike_of};
-use sheet::board::{CODES, LOG, WORDS};
-use sheet::checking::check;
+use sheet::board::WORDS;
+use sheet::checking;
 use sheet::paths::Name;
 use sheet::reading::{Past, read_file};
-use sheet::storing::{InUse, Sheet};
-use std::fs::File;
 use std::io;
 
-// The ways to play.
-pub const RUN: u32 = 0;
+#[derive(Clone, Copy, Debug, PartialEq, Eq)]
+pub enum Way {
+    Run,
+    Keep,
+    Replay,
+    Where,
+    Map,
+}
 
-pub const KEEP: u32 = 1;
-
-pub const REPLAY: u32 = 2;
-
-pub const WHERE: u32 = 3;
-
-pub const MAP: u32 = 4;
-
-// What is odd in FILE's tables and, where it floods, in its links. Answers the status.
-pub fn play_check(
-    rt: &HostRuntime,
-    sheet: &mut Sheet,
-    mesh: &mut [u32; WORDS],
-    log: &mut [u32; LOG],
-) -> io::Result<u32> {
+// What is odd in FILE's tables and, where it floods, in its links.
+pub fn check(rt: &HostRuntime, m: &mut Memory) -> Result<Status, Stop> {
     let file = Name::argument(rt, 2);
-    let Some(k) = check(rt, file.bytes(), sheet)? else {
-        return Ok(2);
+    let Some(k) = checking::check(rt, file.bytes(), &mut m.sheet)? else {
+        return Ok(Status::Unread);
     };
-    let contents = k.contents;
-    let unreached = if contents.flood {
-        check_floods(rt, file.bytes(), contents.board, sheet.in_use(), mesh, log)?
+    let unreached = if k.contents.flood {
+        check_floods(rt, file.bytes(), k.contents.board, m)?
     } else {
         0
     };
-    if !k.refused & (k.odd == 0) & (unreached == 0) {
-        text(rt, b"nothing odd\n")?;
+    if k.refused {
+        return Ok(Status::Refused);
     }
-    Ok(if k.refused { 1 } else { 0 })
+    if k.odd == 0 && unreached == 0 {
+        println!(rt; "nothing odd")?;
+    }
+    Ok(Status::Accepted)
 }
 
 // How many pairs of chips a flood of FILE finds no way for.
-fn check_floods(
-    rt: &HostRuntime,
+fn check_floods<'a>(
+    rt: &'a HostRuntime,
     file: &[u8],
     b: Board,
-    tables: InUse<'_>,
-    mesh: &mut [u32; WORDS],
-    log: &mut [u32; LOG],
+    m: &'a mut Memory,
 ) -> io::Result<u64> {
-    open(mesh, b.width, b.height, b.phase, b.monitor);
-    let mut c = course_on(rt, b);
-    c.pairs = true;
-    let InUse {
-        rows,
-        starts,
-        codes,
-        fixed,
-    } = tables;
-    c = run_links(rt, file, c, mesh, log, rows, starts, codes, fixed)?;
-    Ok(c.unreached)
+    let mut course = Course::on(rt, b);
+    course.unreached = Some(0);
+    let mut p = play_on(rt, course, m);
+    unless_told(run_links(&mut p, file))?;
+    Ok(p.course.unreached.unwrap_or_default())
 }
 
-// Reads FILE, and plays where nothing is wrong with it. Answers the status.
-pub fn play(
-    rt: &HostRuntime,
-    how: u32,
-    sheet: &mut Sheet,
-    mesh: &mut [u32; WORDS],
-    log: &mut [u32; LOG],
-) -> io::Result<u32> {
+// Reads FILE, and plays where nothing is wrong with it.
+pub fn play(rt: &HostRuntime, way: Way, m: &mut Memory) -> Result<Status, Stop> {
     let name = Name::argument(rt, 2);
     let file = name.bytes();
-    let Some(contents) = read_file(rt, file, Past::Wrong, sheet)? else {
-        return Ok(2);
+    let Some(contents) = read_file(rt, file, Past::Wrong, &mut m.sheet)? else {
+        return Ok(Status::Unread);
     };
     let b = contents.board;
-    sheet.move_together(b);
-    open(mesh, b.width, b.height, b.phase, b.monitor);
-    let InUse {
-        rows,
-        starts,
-        codes,
-        fixed,
-    } = sheet.in_use();
-    if (how == REPLAY) & contents.flood {
-        flood_before(rt, file, b, mesh, log, rows, starts, codes, fixed)?;
+    m.sheet.move_together(b);
+    let mut p = play_on(rt, Course::on(rt, b), m);
+    match way {
+        Way::Where => play_where(&mut p, file),
+        Way::Replay => {
+            if contents.flood {
+                flood_before(&mut p, file)?;
+            }
+            play_calls(&mut p, way, file)
+        }
+        _ => play_calls(&mut p, way, file),
     }
-    if how == WHERE {
-        return play_where(rt, file, b, mesh, log, rows, starts, codes, fixed);
-    }
-    let trace = Name::argument(rt, 3);
-    play_calls(
+}
+
+// A mesh opened anew.
+fn play_on<'a>(rt: &'a HostRuntime, course: Course, memory: &'a mut Memory) -> Play<'a> {
+    open_anew(&mut memory.mesh, course.board);
+    Play {
         rt,
-        how,
-        file,
-        trace.bytes(),
-        b,
-        mesh,
-        log,
-        rows,
-        starts,
-        codes,
-        fixed,
-    )
+        course,
+        memory,
+        trace: None,
+        failure: None,
+    }
+}
+
+fn open_anew(mesh: &mut [u32; WORDS], b: Board) {
+    open(mesh, b.width, b.height, b.phase, b.monitor);
 }
 
 // Sets the links as FILE has them, and follows the packet that the arguments name.
-fn play_where(
-    rt: &HostRuntime,
-    file: &[u8],
-    b: Board,
-    mesh: &mut [u32; WORDS],
-    log: &mut [u32; LOG],
-    rows: &[u32],
-    starts: &[u32],
-    codes: &mut [u8; CODES],
-    fixed: &[u32],
-) -> io::Result<u32> {
-    let (Some(chip), Some(p)) = (chip_asked(rt, b), packet_asked(rt)) else {
-        eprintln!(rt;
-            "where FILE X Y KEY: X and Y are those of a chip, and KEY is a number up to 0xffffffff, or the word fixed for a fixed-route packet"
+fn play_where(p: &mut Play<'_>, file: &[u8]) -> Result<Status, Stop> {
+    let rt = p.rt;
+    let (Some(chip), Some(packet)) = (chip_asked(rt, p.course.board), packet_asked(rt)) else {
+        eprint!(rt;
+            "where FILE X Y KEY: X and Y are those of a chip, and KEY is a number up to 0xffffffff, "
         )?;
-        return Ok(2);
+        eprintln!(rt; "or the word fixed for a fixed-route packet")?;
+        return Ok(Status::Unread);
     };
-    let begun = course_on(rt, b);
-    let c = run_links(rt, file, begun, mesh, log, rows, starts, codes, fixed)?;
-    if c.unread {
-        return Ok(2);
-    }
-    follow_packet(
-        rt,
-        b,
-        chip,
-        p,
-        mesh,
-        log,
-        rows,
-        starts,
-        between(codes, 0, all_codes(b)),
-        fixed,
-    )?;
-    Ok(if c.refused == 0 { 0 } else { 1 })
+    run_links(p, file)?;
+    p.follow(chip, packet)?;
+    Ok(Status::of(&p.course))
 }
 
 // FILE's link changes and floods alone.
-pub fn run_links(
-    rt: &HostRuntime,
-    file: &[u8],
-    before: Course,
-    mesh: &mut [u32; WORDS],
-    log: &mut [u32; LOG],
-    rows: &[u32],
-    starts: &[u32],
-    codes: &mut [u8; CODES],
-    fixed: &[u32],
-) -> io::Result<Course> {
-    let mut c = before;
-    c.links = true;
-    match readable(rt, file)? {
-        Some(from) => run_file(rt, from, c, None, mesh, log, rows, starts, codes, fixed),
-        None => {
-            c.unread = true;
-            Ok(c)
-        }
-    }
+fn run_links(p: &mut Play<'_>, file: &[u8]) -> Result<(), Stop> {
+    let from = readable(p.rt, file)?;
+    p.run(from, Calls::LinksAndFloods)?;
+    Ok(())
 }
 
 // A trace keeps no flood: a replay has the codes as they stand at FILE's end, and a mesh opened anew.
-fn flood_before(
-    rt: &HostRuntime,
-    file: &[u8],
-    b: Board,
-    mesh: &mut [u32; WORDS],
-    log: &mut [u32; LOG],
-    rows: &[u32],
-    starts: &[u32],
-    codes: &mut [u8; CODES],
-    fixed: &[u32],
-) -> io::Result<()> {
-    let begun = course_on(rt, b);
-    run_links(rt, file, begun, mesh, log, rows, starts, codes, fixed)?;
-    open(mesh, b.width, b.height, b.phase, b.monitor);
+fn flood_before(p: &mut Play<'_>, file: &[u8]) -> io::Result<()> {
+    unless_told(run_links(p, file))?;
+    let b = p.course.board;
+    open_anew(&mut p.memory.mesh, b);
+    p.course = Course::on(p.rt, b);
     Ok(())
+}
+
+// What goes on where FILE cannot be read again: that is told already.
+fn unless_told(end: Result<(), Stop>) -> io::Result<()> {
+    match end {
+        Err(Stop::Io(e)) => Err(e),
+        _ => Ok(()),
+    }
 }
 
 fn chip_asked(rt: &HostRuntime, b: Board) -> Option<u32> {
@@ -208,155 +143,43 @@ fn chip_asked(rt: &HostRuntime, b: Board) -> Option<u32> {
 
 // The packet that is asked for: a spike of a key, or the fixed-route packet of key 0.
 fn packet_asked(rt: &HostRuntime) -> Option<Packet> {
-    if Name::argument(rt, 5).bytes() == b"fixed".as_slice() {
-        return Some(fixed_of(0));
+    match Name::argument(rt, 5).bytes() {
+        b"fixed" => Some(fixed_of(0)),
+        _ => Some(spike_of(number_of_arg(rt, 5)?)),
     }
-    Some(spike_of(number_of_arg(rt, 5)?))
 }
 
 fn number_of_arg(rt: &HostRuntime, i: usize) -> Option<u32> {
     number(Name::argument(rt, i).bytes())
 }
 
-// Opens what holds the calls, and what is to hold them.
-fn play_calls(
-    rt: &HostRuntime,
-    how: u32,
-    file: &[u8],
-    trace: &[u8],
-    b: Board,
-    mesh: &mut [u32; WORDS],
-    log: &mut [u32; LOG],
-    rows: &[u32],
-    starts: &[u32],
-    codes: &mut [u8; CODES],
-    fixed: &[u32],
-) -> io::Result<u32> {
-    let from = match opened_calls(rt, how, file, trace)? {
-        Some(from) => from,
-        None => return Ok(2),
-    };
-    let c = course_on(rt, b);
-    match how {
-        REPLAY => replay_calls(rt, from, c, trace, mesh, log, rows, starts, codes, fixed),
-        KEEP => keep_calls(rt, from, c, trace, mesh, log, rows, starts, codes, fixed),
-        MAP => map_calls(rt, from, c, trace, mesh, log, rows, starts, codes, fixed),
-        _ => {
-            let after = run_file(rt, from, c, None, mesh, log, rows, starts, codes, fixed)?;
-            ended(rt, after, trace, mesh)
+// Makes the calls. What is kept, replayed or drawn has its path behind FILE's.
+fn play_calls(p: &mut Play<'_>, way: Way, file: &[u8]) -> Result<Status, Stop> {
+    let rt = p.rt;
+    let name = Name::argument(rt, 3);
+    let other = name.bytes();
+    let from = readable(rt, if way == Way::Replay { other } else { file })?;
+    match way {
+        Way::Replay => p.replay(from)?,
+        Way::Keep => {
+            p.trace = Some(writable(rt, other)?);
+            p.run(from, Calls::All)?;
         }
-    }
-}
-
-fn replay_calls(
-    rt: &HostRuntime,
-    from: File,
-    c: Course,
-    trace: &[u8],
-    mesh: &mut [u32; WORDS],
-    log: &mut [u32; LOG],
-    rows: &[u32],
-    starts: &[u32],
-    codes: &mut [u8; CODES],
-    fixed: &[u32],
-) -> io::Result<u32> {
-    let own = between(codes, 0, all_codes(c.board));
-    let after = replay_trace(rt, from, c, mesh, log, rows, starts, own, fixed)?;
-    ended(rt, after, trace, mesh)
-}
-
-// Makes the calls, and keeps those that are accepted as a trace.
-fn keep_calls(
-    rt: &HostRuntime,
-    from: File,
-    c: Course,
-    trace: &[u8],
-    mesh: &mut [u32; WORDS],
-    log: &mut [u32; LOG],
-    rows: &[u32],
-    starts: &[u32],
-    codes: &mut [u8; CODES],
-    fixed: &[u32],
-) -> io::Result<u32> {
-    match writable(rt, trace)? {
-        Some(to) => {
-            let after = run_file(
-                rt,
-                from,
-                c,
-                Some(&to),
-                mesh,
-                log,
-                rows,
-                starts,
-                codes,
-                fixed,
-            )?;
-            ended(rt, after, trace, mesh)
+        Way::Map => {
+            let mut to = writable(rt, other)?;
+            p.run(from, Calls::All)?;
+            draw(&mut to, &p.course, &p.memory.mesh)?;
         }
-        None => Ok(2),
+        _ => p.run(from, Calls::All)?,
     }
+    ended(p, other)
 }
 
-// Makes the calls, and draws the mesh as it then stands.
-fn map_calls(
-    rt: &HostRuntime,
-    from: File,
-    c: Course,
-    picture: &[u8],
-    mesh: &mut [u32; WORDS],
-    log: &mut [u32; LOG],
-    rows: &[u32],
-    starts: &[u32],
-    codes: &mut [u8; CODES],
-    fixed: &[u32],
-) -> io::Result<u32> {
-    match writable(rt, picture)? {
-        Some(mut to) => {
-            let after = run_file(rt, from, c, None, mesh, log, rows, starts, codes, fixed)?;
-            draw(&mut to, after, mesh)?;
-            ended(rt, after, picture, mesh)
-        }
-        None => Ok(2),
+// Tells the account.
+fn ended(p: &Play<'_>, trace: &[u8]) -> Result<Status, Stop> {
+    tell_account(p.rt, &p.course, &p.memory.mesh)?;
+    match &p.failure {
+        Some(e) => Err(failed(p.rt, trace, e)),
+        None => Ok(Status::of(&p.course)),
     }
-}
-
-fn opened_calls(rt: &HostRuntime, how: u32, file: &[u8], trace: &[u8]) -> io::Result<Option<File>> {
-    if how == REPLAY {
-        readable(rt, trace)
-    } else {
-        readable(rt, file)
-    }
-}
-
-// The file of a path, opened to be read: none where that failed, which is told.
-fn readable(rt: &HostRuntime, path: &[u8]) -> io::Result<Option<File>> {
-    match open_read(rt, path) {
-        Ok(from) => Ok(Some(from)),
-        Err(e) => {
-            fail(rt, path, &e)?;
-            Ok(None)
-        }
-    }
-}
-
-// The same of a file to be written.
-fn writable(rt: &HostRuntime, path: &[u8]) -> io::Result<Option<File>> {
-    match open_overwrite(rt, path) {
-        Ok(to) => Ok(Some(to)),
-        Err(e) => {
-            fail(rt, path, &e)?;
-            Ok(None)
-        }
-    }
-}
-
-// Tells the account. Answers the status.
-fn ended(rt: &HostRuntime, c: Course, trace: &[u8], mesh: &[u32; WORDS]) -> io::Result<u32> {
-    tell_account(rt, c, mesh)?;
-    if c.unkept | c.unread {
-        fail(rt, trace, &io::Error::from_raw_os_error(c.failure))?;
-        return Ok(2);
-    }
-    Ok(if c.refused == 0 { 0 } else { 1 })
 }

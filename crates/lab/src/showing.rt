@@ -1,141 +1,118 @@
 // A trace as lines that FILE could hold: kept again behind FILE's mesh and tables they give the same bytes.
+use super::status::{Status, Stop, failed, readable};
 use records::Call;
+use records::kinds::Kind;
 use records::reading::read_record;
+use report::course::Caller;
 use report::records::{Record, Records};
-use report::telling::{number, small, tell_refusal, text};
-use script::files::fail;
+use report::telling::unless_refused;
 use script::names::link_name;
-use script::say;
-use std::fs::File;
-use std::io;
+use sheet::paths::Name;
+use std::{fmt, io};
 
-// As many rounds as a line takes are shown by one line.
-const MOST: u32 = 4294967295;
-
-#[derive(Clone, Copy)]
-struct Show {
-    // Rounds read and not yet shown; what a record is refused with.
-    rounds: u32,
-    refusal: u32,
+pub fn show(rt: &HostRuntime) -> Result<Status, Stop> {
+    let name = Name::argument(rt, 2);
+    let mut lines = Lines {
+        rt,
+        rounds: 0,
+        status: Status::Accepted,
+    };
+    lines.show_records(name.bytes())?;
+    lines.show_rounds()?;
+    Ok(lines.status)
 }
 
-// Shows a trace. Answers the status.
-pub fn show_trace(rt: &HostRuntime, trace: &[u8], from: File) -> io::Result<u32> {
-    let mut records = Records::of(from);
-    let mut s = Show {
-        rounds: 0,
-        refusal: 0,
-    };
-    for _ in 0..u64::MAX {
-        match records.next_record() {
-            Ok(Some(record)) => {
-                s = show_bytes(rt, s, record)?;
-                if s.refusal != 0 {
-                    break;
+// Rounds read and not yet shown: as many as a line takes are shown by one line. Whether a record was refused.
+#[derive(Clone, Copy)]
+struct Lines<'a> {
+    rt: &'a HostRuntime,
+    rounds: u32,
+    status: Status,
+}
+
+impl<'a> Lines<'a> {
+    // Shows records up to the first that is refused.
+    fn show_records(&mut self, trace: &[u8]) -> Result<(), Stop> {
+        let mut records = Records::of(readable(self.rt, trace)?);
+        for _ in 0..u64::MAX {
+            match records.next_record() {
+                Ok(Some(record)) => self.show_record(record)?,
+                Ok(None) => break,
+                Err(e) => {
+                    self.show_rounds()?;
+                    return Err(failed(self.rt, trace, &e));
                 }
             }
-            Ok(None) => break,
-            Err(e) => {
-                shown_rounds(rt, s)?;
-                fail(rt, trace, &e)?;
-                return Ok(2);
+            if self.status == Status::Refused {
+                break;
+            }
+        }
+        Ok(())
+    }
+
+    fn show_record(&mut self, record: Record<'_>) -> io::Result<()> {
+        let r = read_record(record.bytes);
+        match unless_refused(r.refusal, r.call) {
+            Ok(call) => self.show_call(call),
+            Err(refusal) => {
+                self.show_rounds()?;
+                self.status = Status::Refused;
+                println!(self.rt; "# {}: refused {refusal}", Caller::Record(record.at))
             }
         }
     }
-    let s = shown_rounds(rt, s)?;
-    Ok(if s.refusal == 0 { 0 } else { 1 })
-}
 
-fn show_bytes(rt: &HostRuntime, before: Show, record: Record<'_>) -> io::Result<Show> {
-    let r = read_record(record.bytes);
-    if r.refusal == 0 {
-        let call = r.call;
-        return show_call(rt, before, call);
-    }
-    let mut s = shown_rounds(rt, before)?;
-    text(rt, b"# ")?;
-    tell_refusal(rt, record.at, true, r.refusal)?;
-    s.refusal = r.refusal;
-    Ok(s)
-}
-
-fn show_call(rt: &HostRuntime, before: Show, call: Call) -> io::Result<Show> {
-    let kind = call.kind;
-    if kind == 2 {
-        return with_round(rt, before);
-    }
-    let s = shown_rounds(rt, before)?;
-    match kind {
-        1 => show_injection(rt, call)?,
-        3 => show_link(rt, call)?,
-        _ => show_chip(rt, b"registers", call.chip)?,
-    }
-    text(rt, b"\n")?;
-    Ok(s)
-}
-
-fn with_round(rt: &HostRuntime, before: Show) -> io::Result<Show> {
-    let mut s = before;
-    if s.rounds == MOST {
-        s = shown_rounds(rt, s)?;
-    }
-    if s.rounds < MOST {
-        s.rounds += 1;
-    }
-    Ok(s)
-}
-
-fn shown_rounds(rt: &HostRuntime, before: Show) -> io::Result<Show> {
-    let mut s = before;
-    if s.rounds != 0 {
-        text(rt, b"rounds ")?;
-        small(rt, s.rounds)?;
-        text(rt, b"\n")?;
-    }
-    s.rounds = 0;
-    Ok(s)
-}
-
-fn show_injection(rt: &HostRuntime, call: Call) -> io::Result<()> {
-    let bytes = call.bytes;
-    show_chip(rt, b"packet", call.chip)?;
-    show_packet(rt, bytes, call.length)
-}
-
-fn show_packet(rt: &HostRuntime, bytes: [u8; 9], length: u32) -> io::Result<()> {
-    let mut i = 0;
-    while i < 9 {
-        if i < length as usize {
-            show_byte(rt, bytes[i])?;
+    fn show_call(&mut self, call: Call) -> io::Result<()> {
+        if let Ok(Kind::Round) = Kind::try_from(call.kind) {
+            return self.with_round();
         }
-        i += 1;
+        self.show_rounds()?;
+        println!(self.rt; "{}", Line(call))
     }
-    Ok(())
+
+    fn with_round(&mut self) -> io::Result<()> {
+        if self.rounds == u32::MAX {
+            self.show_rounds()?;
+        }
+        self.rounds = self.rounds.saturating_add(1);
+        Ok(())
+    }
+
+    fn show_rounds(&mut self) -> io::Result<()> {
+        let rounds = self.rounds;
+        self.rounds = 0;
+        if rounds == 0 {
+            return Ok(());
+        }
+        println!(self.rt; "rounds {rounds}")
+    }
 }
 
-fn show_byte(rt: &HostRuntime, b: u8) -> io::Result<()> {
-    text(rt, b" ")?;
-    say::byte(&mut rt.stdout(), b)
-}
+// The line of a call that is no round.
+#[derive(Clone, Copy)]
+struct Line(Call);
 
-// A link that no chip has is shown as its number, though no line takes it.
-fn show_link(rt: &HostRuntime, call: Call) -> io::Result<()> {
-    if call.up == 1 {
-        show_chip(rt, b"up", call.chip)?;
-    } else {
-        show_chip(rt, b"down", call.chip)?;
+impl fmt::Display for Line {
+    fn fmt<W: fmt::Write>(&self, f: &mut fmt::Formatter<W>) -> fmt::Result {
+        let call = &self.0;
+        match Kind::try_from(call.kind) {
+            Ok(Kind::Injection) => {
+                write!(f, "packet chip {}", call.chip)?;
+                for byte in call.bytes.iter().take(call.length as usize) {
+                    write!(f, " {byte:02x}")?;
+                }
+                Ok(())
+            }
+            Ok(Kind::LinkChange) => {
+                let to = if call.up == 1 { "up" } else { "down" };
+                write!(f, "{to} chip {} ", call.chip)?;
+                // A link that no chip has is shown as its number, though no line takes it.
+                match call.link {
+                    link @ 0..=5 => write!(f, "{}", link_name(link)),
+                    other => write!(f, "{other}"),
+                }
+            }
+            _ => write!(f, "registers chip {}", call.chip),
+        }
     }
-    text(rt, b" ")?;
-    if call.link < 6 {
-        text(rt, link_name(call.link).as_bytes())?;
-    } else {
-        small(rt, call.link)?;
-    }
-    Ok(())
-}
-
-fn show_chip(rt: &HostRuntime, name: &[u8], chip: u32) -> io::Result<()> {
-    text(rt, name)?;
-    text(rt, b" chip ")?;
-    number(rt, chip as u64)
 }

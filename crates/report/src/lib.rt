@@ -2,6 +2,6 @@
 #![tactic(auto)]
 
 pub mod course;
-mod placing;
+pub mod placing;
 pub mod records;
 pub mod telling;

@@ -23,15 +23,6 @@ pub struct Sheet {
     alone: Option<u32>,
 }
 
-// The tables cut to what is in use, and the codes of the largest mesh, which a flood writes.
-#[derive(Drop)]
-pub struct InUse<'a> {
-    pub rows: &'a [u32],
-    pub starts: &'a [u32],
-    pub codes: &'a mut [u8; CODES],
-    pub fixed: &'a [u32],
-}
-
 impl Sheet {
     pub fn empty() -> Sheet {
         Sheet {
@@ -103,19 +94,13 @@ impl Sheet {
         self.chips = chips;
     }
 
-    // What the model is lent.
-    pub fn in_use(&mut self) -> InUse<'_> {
-        let chips = self.chips;
-        let words = self.start(chips);
-        let rows = between(&self.rows, 0, words);
-        let starts = between(&self.starts, 0, chips.saturating_add(1));
-        let fixed = between(&self.fixed, 0, chips);
-        InUse {
-            rows,
-            starts,
-            codes: &mut self.codes,
-            fixed,
-        }
+    // What the model is lent: the tables cut to what is in use.
+    pub fn rows(&self) -> &[u32] {
+        between(&self.rows, 0, self.start(self.chips))
+    }
+
+    pub fn starts(&self) -> &[u32] {
+        between(&self.starts, 0, self.chips.saturating_add(1))
     }
 
     pub fn codes(&self) -> &[u8] {
@@ -124,6 +109,12 @@ impl Sheet {
 
     pub fn fixed(&self) -> &[u32] {
         between(&self.fixed, 0, self.chips)
+    }
+
+    // The codes in use, which a flood writes.
+    pub fn codes_mut(&mut self) -> &mut [u8] {
+        let all = self.chips.saturating_mul(self.chips);
+        self.codes.get_mut(..all).unwrap_or_default()
     }
 
     // A chip's fixed route.
