@@ -1,6 +1,7 @@
 -- No rule of the model, but what the steps of the code promise each other of the rows in hand: each with the number that it first had.
 use Rattle.std.specs.Prelude.{ℕ, ◌-◌, ◌*◌, ◌≤◌, ◌<◌, min, ◌≡◌, Bool, true, false, List, [], ◌∷◌, ◌++◌, ◌⊎◌, length, get_or, take, drop}
 use Rattle.tables.specs.Rows.{Entry}
+use Rattle.std.specs.Borrow.{Bor}
 use Rattle.fewer.specs.declared.Held.{Held}
 use Rattle.fewer.specs.declared.Pairs.{Pairs}
 use Rattle.fewer.specs.declared.Walk.{Walk}
@@ -93,6 +94,18 @@ abbrev pub Passes : List Held → List ℕ → Walk → Numbered → Bool → Li
 Passes held₀ gone₀ w₀ row told held gone w =
     (lo hi : ℕ) → Walking lo hi held₀ gone₀ w₀ → row ≡ get_or (held_of held₀) w₀.next blank → Tested (held_of held₀) row.entry lo (min hi w₀.kept) told
     → (Walking lo hi held gone w) × (WentOn held₀ gone₀ w₀ held gone w)
+
+-- A test that may be asked of any row, of so many of the first rows in hand.
+abbrev pub TakesRows : (Bor (List Held) → Held → ℕ → Type 0) → Type 0
+TakesRows may = (held : Bor (List Held)) (row : Held) (upto : ℕ) → upto ≤ length held.now → may held row upto
+
+-- A walk is begun, by a test that tells of each row that it comes to whether one of those from `lo` up to `hi` covers it.
+pub record Begins (tells : Bor (List Held) → Held → ℕ → Bool → Type 0) (held₀ : List Held) (gone₀ : List ℕ) (w₀ : Walk) : Type 0 where
+  pub lo : ℕ
+  pub hi : ℕ
+  pub walking : Walking lo hi held₀ gone₀ w₀
+  pub tested : (held : Bor (List Held)) (gone : List ℕ) (w : Walk) (row : Held) (b : Bool) → Walking lo hi held.now gone w → WentOn held₀ gone₀ w₀ held.now gone w → w.next < w.count
+      → numbered_of row ≡ get_or (held_of held.now) w.next blank → tells held row w.kept b → Tested (held_of held.now) (numbered_of row).entry lo (min hi w.kept) b
 
 -- The walk is over: r rows are kept, and none of them goes.
 pub record TookOut (held₀ : List Held) (gone₀ : List ℕ) (w₀ : Walk) (held : List Held) (gone : List ℕ) (r : ℕ) : Type 0 where

@@ -1,7 +1,7 @@
 // Taking out, in one walk down the rows in hand: a row stays where it matches some key and none of those kept covers it.
-ghost use Rattle.std.specs.Prelude.{◌≡◌, length, ◌+◌, ◌≤◌, ◌<◌};
+ghost use Rattle.std.specs.Prelude.{◌≡◌, not, length, ◌+◌, ◌≤◌, ◌<◌};
 ghost use Rattle.fewer.specs.Process.{covers, matches_some};
-ghost use Rattle.fewer.specs.Hand.{numbered_of, held_of, AllMatch, walk_rows, Walking, Tested, Covered, Passes, TookOut};
+ghost use Rattle.fewer.specs.Hand.{numbered_of, held_of, AllMatch, walk_rows, Walking, Tested, Covered, Passes, TookOut, TakesRows, Begins};
 
 use super::{Held, Walk};
 
@@ -10,19 +10,16 @@ pub fn take_out(held: &mut [Held], gone: &mut [u32], count: usize) -> usize
     requires { Walking 0 count held.old gone.old (record { kept = 0; next = 0; count = count }) }
     ensures { TookOut held.old gone.old (record { kept = 0; next = 0; count = count }) held.new gone.new result }
 {
-    let mut walk = Walk {
+    let begun = Walk {
         kept: 0,
         next: 0,
         count: count,
     };
-    // `pass` moves the walk, and its place is part of what the steps promise each other: a range would count it twice.
-    while walk.next < walk.count {
-        let next = walk.next;
-        let row = held[next];
-        let staying = stays(held, row, walk.kept);
-        walk = pass(held, gone, walk, row, staying);
-    }
-    walk.kept
+    let uncovered = |held: &[Held], row: Held, kept: usize|
+        requires { kept ≤ length held.now }
+        ensures { Tested (held_of held.now) (numbered_of row).entry 0 kept result }
+    { row.matches_some() && !any_covers(held, row, kept) };
+    walk_down(held, gone, begun, uncovered)
 }
 
 // How many rows stay once row `at` is a joined one, and the row below it is gone: no row can go but by it.
@@ -31,16 +28,34 @@ pub fn take_out_under(held: &mut [Held], gone: &mut [u32], at: usize, count: usi
     ensures { TookOut held.old gone.old (record { kept = at + 1; next = at + 2; count = count }) held.new gone.new result }
 {
     let one = held[at];
-    let mut walk = Walk {
+    let begun = Walk {
         kept: at + 1,
         next: at + 2,
         count: count,
     };
+    let uncovered = |_: &[Held], row: Held, _: usize|
+        ensures { result ≡ not (covers (numbered_of one).entry (numbered_of row).entry) }
+    { !one.covers(row) };
+    walk_down(held, gone, begun, uncovered)
+}
+
+// How many rows stay at the end of a walk, by a test of each: it is given the rows in hand, the row, and how many of the first rows are kept.
+// The rows, the room for numbers and the walk stay apart: `Walk` is what `walk_rows`, `Walking` and `WentOn` of specs/Hand speak of, and a struct that borrowed
+// both slices would be one value more to take apart in each of them and in its callers, which go on with the slices.
+fn walk_down<F: Fn(&[Held], Held, usize) -> bool>(
+    held: &mut [Held],
+    gone: &mut [u32],
+    mut walk: Walk,
+    stays: F,
+) -> usize
+    requires takes { TakesRows (F.pre stays) }
+    requires begins { Begins (F.post stays) held.old gone.old walk }
+    ensures { TookOut held.old gone.old walk held.new gone.new result }
+{
     // `pass` moves the walk, and its place is part of what the steps promise each other: a range would count it twice.
     while walk.next < walk.count {
-        let next = walk.next;
-        let row = held[next];
-        let staying = !one.covers(row);
+        let row = held[walk.next];
+        let staying = stays(held, row, walk.kept);
         walk = pass(held, gone, walk, row, staying);
     }
     walk.kept
@@ -70,14 +85,6 @@ fn pass(held: &mut [Held], gone: &mut [u32], walk: Walk, row: Held, staying: boo
         next: next + 1,
         count: count,
     }
-}
-
-// Whether a row matches some key, and none of the first rows covers it.
-fn stays(held: &[Held], row: Held, upto: usize) -> bool
-    requires { upto ≤ length held.now }
-    ensures { Tested (held_of held.now) (numbered_of row).entry 0 upto result }
-{
-    row.matches_some() && !any_covers(held, row, upto)
 }
 
 // Whether one of the first rows covers a row: four of them a turn, then what is left of them.
