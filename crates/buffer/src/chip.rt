@@ -55,7 +55,7 @@ fn send_all(chip: &mut [u32], o: Outcome)
     send_legs(chip, o);
 }
 
-// Only the links that send are gone through, lowest first.
+// Only the links that send are gone through, lowest first: a set's bits are taken out one by one, and no index is counted.
 fn send_packets(chip: &mut [u32], o: Outcome)
     requires { PushFits o.sent chip.old }
     ensures { ChangedBut (pushing o.sent (packet_on o)) (among 0) chip.old chip.new }
@@ -68,7 +68,7 @@ fn send_packets(chip: &mut [u32], o: Outcome)
     }
 }
 
-// A loop of its own, so that a pass without a second leg does not work out its packet.
+// A loop of its own, as above, so that a pass without a second leg does not work out its packet.
 fn send_legs(chip: &mut [u32], o: Outcome)
     requires { PushFits o.leg_sent chip.old }
     ensures { ChangedBut (pushing o.leg_sent (λ _. leg_packet o)) (among 0) chip.old chip.new }

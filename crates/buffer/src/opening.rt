@@ -11,7 +11,7 @@ use links::offsets::{CHIP, HEADER, HEIGHT, MONITOR, ROUNDS, WIDTH};
 use packet::refused::Refused;
 use tables::size::{chips, size_fine};
 
-// What asking for the size answers.
+// What asking for the size answers, in the form of the C interface.
 #[repr(C)]
 #[derive(Clone, Copy)]
 pub struct SizeRead {

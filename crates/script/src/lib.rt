@@ -11,7 +11,6 @@ pub mod numbers;
 pub mod parts;
 pub mod pieces;
 pub mod routes;
-pub mod say;
 pub mod sendings;
 pub mod statements;
 pub mod targets;

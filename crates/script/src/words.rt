@@ -13,7 +13,7 @@ impl<'a> Words<'a> {
         Words { rest: line }
     }
 
-    // The next word, empty at the line's end.
+    // The next word, empty at the line's end: whoever wants a word there tells an empty one as the line's end.
     pub fn word(&mut self) -> &'a [u8] {
         self.next().unwrap_or_default()
     }

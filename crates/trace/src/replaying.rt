@@ -25,6 +25,7 @@ pub fn replay(
     let tested = test(mesh, tables, room.len());
     let mut at = 0;
     let mut added = 0;
+    // Each record's length says where the next one stands: no range counts it.
     while at < trace.len() {
         let from = added * 6;
         let done = replay_one(mesh, &mut log[from..], &trace[at..], tables, room, tested);
