@@ -132,6 +132,8 @@ impl Held {
         (self.key & self.mask) == self.key
     }
 
+    // Not `covered::covers`, which asks as well whether the later row matches some key: `Process.covers`, of which the law `covers_exactly` speaks, is without that, and
+    // where the rows left are searched it would be asked again at each of them.
     fn covers(self, later: Held) -> bool
         ensures { result ≡ covers (numbered_of self).entry (numbered_of later).entry }
     {

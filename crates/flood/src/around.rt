@@ -9,7 +9,8 @@ use links::across::across_link;
 use links::offsets::{CHIP, HEADER, HEIGHT, LINK, LINKS_AT, STATE, WIDTH};
 use tables::size::chips;
 
-// What stands for a link that is down: no chip has this number.
+// What stands for a link that is down: no chip has this number. Not an `Option`: one comparison, `lead < 144` in `marking::is_below`, asks both whether a link is up and
+// whether the chip that it leads to has a mark, where a `Some` would leave the second to be asked.
 const DOWN: u8 = 255;
 
 pub fn around_all(mesh: &[u32]) -> [u8; 864]
