@@ -49,6 +49,7 @@ fn word_at(s: &[u8], at: usize) -> u32
     u32::from_be_bytes([s[at], s[at + 1], s[at + 2], s[at + 3]])
 }
 
+// Five bytes and nine are two literals: one for both would take all that differs as parameters.
 fn five(s: &[u8]) -> Packet
     requires { length s.now ≡ 5 }
     ensures { result ≡ packet_at s.now }

@@ -26,8 +26,8 @@ pub fn with_stamp(p: Packet, stamp: u32) -> Packet
     set_right(with_control(p, stamp_in(p.control, stamp)))
 }
 
-// The three words laid over each other, and then the upper half of what is left over the lower, down to one bit. It was
-// asked for, and the law `Folded.ones_folded` is of it, so that the library's `count_ones` does not take its place.
+// The three words laid over each other, and then the upper half of what is left over the lower, down to one bit. The wrong
+// program `last_fold_left_out` is of its last fold, so that the library's `count_ones` does not take its place.
 fn folded_ones(p: Packet) -> u32
     ensures { result ≡ ones_of p % 2 }
 {

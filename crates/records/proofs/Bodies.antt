@@ -6,9 +6,9 @@ use mathlib.Core.List.{List}
 use Prim.Native.Nat.{ℕ, ◌≤◌, ◌<◌}
 use native.Mathlib.Omega.{arith}
 use lib.Dec.{eqb, leb}
-use lib.ListN.{get_or}
+use lib.ListN.{length, get_or}
 use borrow.Author.Tests.{eq-eqb, ne_eqb, eqb-true, leb-true}
-use Rattle.records.specs.Records.{body_fits, body_length, body_fine}
+use Rattle.records.specs.Records.{body_fits, body_length, body_fine, Readable}
 
 -- the three numbers that decide
 abbrev fits : ℕ → ℕ → ℕ → Bool
@@ -23,6 +23,12 @@ module _ (s : List ℕ) where
 
   of_change : get_or s 3 0 ≡ 3 → (eqb (body_length s) 6 && leb (get_or s 7 0) 1) ≡ body_fine s
   of_change e = ap (λ (k : ℕ). fits k (body_length s) (get_or s 7 0)) (sym e)
+
+  pub of_state : get_or s 3 0 ≡ 3 → body_length s ≡ 6 → leb (get_or s 7 0) 1 ≡ body_fine s
+  of_state e six = ap (λ (b : Bool). b && leb (get_or s 7 0) 1) (sym (eq-eqb (body_length s) 6 six)) ∙ of_change e
+
+  pub of_no_state : get_or s 3 0 ≡ 3 → (body_length s ≡ 6 → ⊥) → false ≡ body_fine s
+  of_no_state e other = ap (λ (b : Bool). b && leb (get_or s 7 0) 1) (sym (ne_eqb (body_length s) 6 other)) ∙ of_change e
 
   pub of_read : get_or s 3 0 ≡ 4 → eqb (body_length s) 4 ≡ body_fine s
   of_read e = sym (and-true _) ∙ ap (λ (k : ℕ). fits k (body_length s) (get_or s 7 0)) (sym e)
@@ -76,3 +82,7 @@ module _ (s : List ℕ) where
         go : (d : Bool) → leb 2 (body_length s) ≡ d → 2 ≤ body_length s
         go true x = leb-true _ _ x
         go false x = absurd (false≢true (of_short (borrow.Author.Tests.leb-false _ _ x) ∙ fine))
+
+  pub injection_long : Readable s → (body_length s ≡ 9) ⊎ (body_length s ≡ 13) → 11 ≤ length s
+  injection_long r (inl e) = omega (arith, r.whole)
+  injection_long r (inr e) = omega (arith, r.whole)

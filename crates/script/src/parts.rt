@@ -15,7 +15,7 @@ pub enum Place {
 }
 
 impl Place {
-    // A chip by two numbers of a command: behind an x that no chip has stands the chip's number. The program has taken it so from its beginning.
+    // A chip by two numbers of a command: behind an x that no chip has stands the chip's number. `where FILE 65536 N KEY` is what the program takes.
     pub fn of_numbers(x: u32, y: u32) -> Place {
         if x == 65536 {
             Place::Number(y)

@@ -41,8 +41,7 @@ impl Sheet {
         self.alone = Some(chip);
     }
 
-    // One more row of a chip. Answers false where the chip has 1,024 already: the row is then counted, and kept only where the chip is read alone. The row is
-    // counted whatever the answer, so that it is no Result.
+    // One more row of a chip. Answers false where the chip has 1,024 already: the row is then counted, and kept only where the chip is read alone.
     pub fn keep_row(&mut self, chip: u32, row: Row) -> bool {
         let count = self.count(chip);
         put(&mut self.starts, chip as usize, count.wrapping_add(1));

@@ -1,5 +1,5 @@
 // The first place where lent tables are wrong, for a call that refuses them. Each walk goes once more over what a quick test has found wrong as a whole.
-// The answers are numbers and no `Option`: a call asks only where there is such a place, and would have to say what it answers where there is none.
+// The answers are numbers, one past the end for none, as the definitions have them, of which the theorem `places_exact` speaks.
 ghost use Rattle.std.specs.Prelude.{◌≡◌, not, length, ◌+◌, ◌-◌, ◌≤◌};
 ghost use Rattle.tables.specs.Accept.{few_rows};
 ghost use Rattle.tables.specs.Places.{starts_place, crowd_place, route_place, fixed_place};
