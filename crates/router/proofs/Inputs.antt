@@ -1,6 +1,6 @@
 -- What is known of the inputs of the one-router call once nothing is refused.
 use mathlib.Core.Path.{◌≡◌, refl, sym, ap, ◌∙◌}
-use mathlib.Core.Bool.{Bool, true, false, cond, not, and-eq-true_iff}
+use mathlib.Core.Bool.{Bool, true, false, cond, not, ◌&&◌, and-eq-true_iff, true≢false}
 use mathlib.Core.List.{List}
 use Rattle.std.specs.Prelude.{Result, Ok, Err, IfOk}
 use Prim.Native.Nat.{ℕ, zero, suc, ◌*◌, ◌/◌, ◌≤◌, ◌<◌}
@@ -118,6 +118,21 @@ checked_packet bytes source tables t room (Ok p) e =
     let n = none_refused bytes source tables t room (sym (ap (λ (x : Taken). x.refusal) e)) in
     let whole : p ≡ packet_at bytes = ap (λ (x : Taken). x.packet) (e ∙ n.packet) in
     checked p source tables t (rw whole (mod-lt _ (lit< tt))) n.tests
+
+-- ---- which of the tables' numbers it is
+
+-- where one of three tests fails, the first that does
+pub lent_number : (few routes fixed : Bool) (rest : ℕ) → ((few && routes) && fixed) ≡ false → cond (not few) 16 (cond (not routes) 17 18) ≡ cond (not few) 16 (cond (not routes) 17 (cond (not fixed) 18 rest))
+lent_number true true true rest e = absurd (true≢false e)
+lent_number true true false rest e = refl
+lent_number true false fixed rest e = refl
+lent_number false routes fixed rest e = refl
+
+pub all_fine : (few routes fixed : Bool) → ((few && routes) && fixed) ≡ true → (few ≡ true) × ((routes ≡ true) × (fixed ≡ true))
+all_fine few routes fixed e =
+    let t = (and-eq-true_iff (few && routes) fixed).0 e in
+    let u = (and-eq-true_iff few routes).0 t.0 in
+    (u.0, (u.1, t.1))
 
 -- 17 comes after 16
 pub few_at_17 : (bytes : List ℕ) (source : ℕ) (tables : ChipTables) (t : Setting) (room : ℕ) → (checked_of bytes source tables t room).refusal ≡ 17 → length tables.rows / 3 ≤ 1024

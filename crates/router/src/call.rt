@@ -1,20 +1,20 @@
 // The one-router call: it takes anything, and answers or refuses.
-ghost use Rattle.std.specs.Prelude.{◌≡◌, cond, not, length, ◌/◌, ◌≤◌};
+ghost use Rattle.std.specs.Prelude.{◌≡◌, IfOk, cond, not, ◌&&◌, eqb, length, ◌/◌, ◌≤◌};
 ghost use Rattle.packet.specs.Bytes.{as_taken};
 ghost use Rattle.packet.specs.Refusal.{first_of};
-ghost use Rattle.packet.specs.Refused.{number_of, told};
-ghost use Rattle.tables.specs.Accept.{few_rows, routes_fine, route_fine};
+ghost use Rattle.packet.specs.Refused.{told};
+ghost use Rattle.tables.specs.Accept.{few_rows, routes_fine, route_fine, rows_fine};
 ghost use Rattle.groups.specs.Room.{room_short};
-ghost use Rattle.steps.specs.Deciding.{Checked, outcome_of};
+ghost use Rattle.steps.specs.Deciding.{Checked, no_outcome, outcome_of};
 ghost use Rattle.router.specs.Call.{setting_fine, source_fine, setting_refusals, checked_of, place_of, pass_of};
 
 use super::Pass;
-use super::showing::{no_pass, shown};
+use super::showing::shown;
 use groups::lending::short_for;
 use packet::Packet;
 use packet::bytes::packet_to_pass;
-use packet::refused::Refused;
-use steps::deciding::decide;
+use packet::refused::{Refused, told};
+use steps::deciding::{decide, no_outcome};
 use steps::errors::{errors_of, stamped_of};
 use steps::wants::wanted_of;
 use steps::{Outcome, Setting};
@@ -29,21 +29,33 @@ use tables::size::{chips, size_fine};
 pub fn pass(bytes: &[u8], source: u32, tables: &ChipTables<'_>, t: Setting, room: usize) -> Pass
     ensures { result ≡ pass_of bytes.now source tables.now t room }
 {
-    match checked(bytes, source, tables, t, room) {
-        Ok(p) => shown(passed(p, source, tables, t)),
-        Err(refused) => no_pass(u32::from(refused), place_of(refused, tables.rows())),
-    }
+    let taken = checked(bytes, source, tables, t, room);
+    let refusal = told(taken);
+    let o = outcome_unless(taken, source, tables, t);
+    let place = place_of(refusal, tables.rows());
+    shown(refusal, place, o)
 }
 
-// The steps stand here as in `outcome_of`, which the mesh calls: with two callers the compiler would not put it in place in either.
-fn passed(p: Packet, source: u32, tables: &ChipTables<'_>, t: Setting) -> Outcome
-    requires { Checked p source tables.now t }
-    ensures { result ≡ outcome_of p source tables.now t }
+// What a pass does, or nothing where it is refused. The steps stand here as in `outcome_of`, which the mesh calls: with two callers
+// the compiler would not put it in place in either.
+fn outcome_unless(
+    taken: Result<Packet, Refused>,
+    source: u32,
+    tables: &ChipTables<'_>,
+    t: Setting,
+) -> Outcome
+    requires { IfOk taken (λ p. Checked p source tables.now t) }
+    ensures { result ≡ cond (eqb (as_taken taken).refusal 0) (outcome_of (as_taken taken).packet source tables.now t) no_outcome }
 {
-    let errors = errors_of(p, source, t.phase);
-    let stamped = stamped_of(p, source, errors, t.phase);
-    let wanted = wanted_of(errors, p, source, tables, t);
-    decide(errors, stamped, source, t.phase, wanted, t.ready)
+    match taken {
+        Ok(p) => {
+            let errors = errors_of(p, source, t.phase);
+            let stamped = stamped_of(p, source, errors, t.phase);
+            let wanted = wanted_of(errors, p, source, tables, t);
+            decide(errors, stamped, source, t.phase, wanted, t.ready)
+        }
+        Err(_) => no_outcome(),
+    }
 }
 
 // The packet where nothing is refused, or the first refusal.
@@ -112,14 +124,14 @@ fn last_refusal(source: u32, rows: usize, room: usize) -> Result<(), Refused>
 }
 
 // Where a refusal holds: the first bad row for 17, and 0 for all others.
-fn place_of(refused: Refused, rows: &[u32]) -> u32
-    requires { number_of refused ≡ 17 → length rows.now / 3 ≤ 1024 }
-    ensures { result ≡ place_of (number_of refused) rows.now }
+fn place_of(refusal: u32, rows: &[u32]) -> u32
+    requires { refusal ≡ 17 → length rows.now / 3 ≤ 1024 }
+    ensures { result ≡ place_of refusal rows.now }
 {
-    match refused {
-        Refused::RouteBits => route_place(rows) as u32,
-        _ => 0,
+    if refusal == 17 {
+        return route_place(rows) as u32;
     }
+    0
 }
 
 fn setting_fine(t: Setting) -> bool
