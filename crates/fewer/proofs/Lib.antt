@@ -2,10 +2,10 @@ pub mod AllAccounted
 pub mod Answers
 pub mod AtRest
 pub mod BitByBit
-pub mod CoveredBy
 pub mod Covers
 pub mod CoversExactly
 pub mod Ending
+pub mod Fours
 pub mod Going
 pub mod HeldRows
 pub mod Joined

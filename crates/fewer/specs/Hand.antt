@@ -2,6 +2,7 @@
 use Rattle.std.specs.Prelude.{ℕ, ◌-◌, ◌*◌, ◌≤◌, ◌<◌, min, ◌≡◌, Bool, true, false, List, [], ◌∷◌, ◌++◌, ◌⊎◌, length, get_or, take, drop}
 use Rattle.tables.specs.Rows.{Entry}
 use Rattle.std.specs.Borrow.{Bor}
+use Rattle.std.specs.List.{list_any}
 use Rattle.fewer.specs.declared.Held.{Held}
 use Rattle.fewer.specs.declared.Pairs.{Pairs}
 use Rattle.fewer.specs.declared.Walk.{Walk}
@@ -75,6 +76,10 @@ pub record Walking (lo hi : ℕ) (held : List Held) (gone : List ℕ) (w : Walk)
 abbrev pub Tested : List Numbered → Entry → ℕ → ℕ → Bool → Type 0
 Tested rows r lo upto true = (matches_some r ≡ true) × ((i : ℕ) → lo ≤ i → i < upto → covers (row_at rows i) r ≡ false)
 Tested rows r lo upto false = (matches_some r ≡ false) ⊎ ((i : ℕ) × ((i < upto) × (covers (row_at rows i) r ≡ true)))
+
+-- Whether one of some rows covers a row.
+abbrev pub some_covers : Entry → List Held → Bool
+some_covers r held = list_any (λ (h : Held). covers (numbered_of h).entry r) held
 
 -- What a search tells of the rows from `lo` up to `upto`: one above `upto` covers a row, or none of them does.
 abbrev pub Covered : List Numbered → Entry → ℕ → ℕ → Bool → Type 0

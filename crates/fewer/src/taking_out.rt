@@ -1,7 +1,7 @@
 // Taking out, in one walk down the rows in hand: a row stays where it matches some key and none of those kept covers it.
 ghost use Rattle.std.specs.Prelude.{◌≡◌, not, length, ◌+◌, ◌≤◌, ◌<◌};
 ghost use Rattle.fewer.specs.Process.{covers, matches_some};
-ghost use Rattle.fewer.specs.Hand.{numbered_of, held_of, AllMatch, walk_rows, Walking, Tested, Covered, Passes, TookOut, TakesRows, Begins};
+ghost use Rattle.fewer.specs.Hand.{numbered_of, held_of, AllMatch, walk_rows, Walking, Tested, Covered, Passes, TookOut, TakesRows, Begins, some_covers};
 
 use super::{Held, Walk};
 
@@ -92,37 +92,17 @@ fn any_covers(held: &[Held], row: Held, upto: usize) -> bool
     requires { upto ≤ length held.now }
     ensures { Covered (held_of held.now) (numbered_of row).entry 0 upto result }
 {
-    let fours = upto / 4;
-    for i in 0..fours {
-        if four_cover(held, row, i * 4) {
-            return true;
-        }
-    }
-    last_cover(held, row, fours * 4, upto)
+    let mut fours = held[..upto].chunks_exact(4);
+    let rest = fours.remainder();
+    fours.any(|four| four_cover(four, row)) || rest.iter().any(|one| one.covers(row))
 }
 
 // Whether one of four rows covers a row.
-fn four_cover(held: &[Held], row: Held, i: usize) -> bool
-    requires { i + 4 ≤ length held.now }
-    ensures { Covered (held_of held.now) (numbered_of row).entry i (i + 4) result }
+fn four_cover(four: &[Held], row: Held) -> bool
+    requires { length four.now ≡ 4 }
+    ensures { result ≡ some_covers (numbered_of row).entry four.now }
 {
-    held[i].covers(row)
-        | held[i + 1].covers(row)
-        | held[i + 2].covers(row)
-        | held[i + 3].covers(row)
-}
-
-// Whether one of the rows from a place on covers a row, one after another.
-fn last_cover(held: &[Held], row: Held, from: usize, upto: usize) -> bool
-    requires { upto ≤ length held.now }
-    ensures { Covered (held_of held.now) (numbered_of row).entry from upto result }
-{
-    for i in from..upto {
-        if held[i].covers(row) {
-            return true;
-        }
-    }
-    false
+    four[0].covers(row) | four[1].covers(row) | four[2].covers(row) | four[3].covers(row)
 }
 
 impl Held {

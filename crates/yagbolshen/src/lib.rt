@@ -27,7 +27,7 @@ use buffer::opening::SizeRead;
 use fewer::Fewer;
 use mesh::lent::Tables;
 use mesh::{Added, CountRead, FlightRead, LinkRead, MeshRead, RegistersRead};
-use packet::refused::{Refused, told};
+use packet::refused::Refused;
 use packet::{Fields, FieldsRead, Packed};
 use records::{Call, Record, Written};
 use router::Pass;
