@@ -2,6 +2,7 @@ pub mod AllAccounted
 pub mod Answers
 pub mod AtRest
 pub mod BitByBit
+pub mod CoveredBy
 pub mod Covers
 pub mod CoversExactly
 pub mod Ending
