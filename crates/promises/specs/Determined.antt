@@ -1,8 +1,11 @@
 -- What the calls answer and leave is determined by their inputs: two answers that meet one contract are equal.
-use Rattle.std.specs.Prelude.{ℕ, ◌+◌, ◌*◌, ◌≤◌, ◌<◌, length, drop, ◌≡◌, Bool, true, List}
+use Rattle.std.specs.Prelude.{ℕ, ◌+◌, ◌*◌, ◌≤◌, ◌<◌, length, drop, ◌≡◌, refl, Bool, true, List, Result, Ok, Err}
 use Rattle.std.proofs.Common.{arith, sym, ap, ◌∙◌}
 use Rattle.packet.specs.Refusal.{first_of}
 use Rattle.packet.proofs.Determined.{determined}
+use Rattle.packet.proofs.Numbers.{same_reason, number_some}
+use Rattle.packet.specs.Refused.{told}
+use Rattle.packet.specs.declared.refused.Refused.{Refused}
 use Rattle.tables.specs.declared.Row.{Row}
 use Rattle.tables.specs.declared.RowFound.{RowFound}
 use Rattle.tables.specs.Rows.{found_in}
@@ -156,3 +159,27 @@ no_link_above_8 l holds chip link hc hl =
     let sound = holds_sound l holds in
     let c = chip_sound sound chip hc in
     (all_get_d SoundLink (chip_of (mesh_of l) chip).links link idle c.links (omega (arith, c.six))).few
+
+-- ---- opening, a link change and a flood answer a Result
+
+-- Where two tell one number, they are one.
+pub results_alike : (a b : Result (Unit {0}) Refused) → told a ≡ told b → a ≡ b
+results_alike (Ok x) (Ok y) e = refl
+results_alike (Ok x) (Err s) e = absurd (number_some s (sym e))
+results_alike (Err r) (Ok y) e = absurd (number_some r e)
+results_alike (Err r) (Err s) e = ap Err (same_reason r s e)
+
+pub open_answer_determined : (before : List ℕ) (width height rounds monitor : ℕ) (r s : Result (Unit {0}) Refused)
+    → told r ≡ first_of (open_refusals (length before) width height rounds monitor)
+    → told s ≡ first_of (open_refusals (length before) width height rounds monitor)
+    → r ≡ s
+open_answer_determined before width height rounds monitor r s e f = results_alike r s (e ∙ sym f)
+
+pub set_link_answer_determined : (before : List ℕ) (chip link : ℕ) (up : Bool) (r s : Result (Unit {0}) Refused)
+    → told r ≡ (link_left before chip link up).refusal → told s ≡ (link_left before chip link up).refusal → r ≡ s
+set_link_answer_determined before chip link up r s e f = results_alike r s (e ∙ sym f)
+
+pub flood_answer_determined : (mesh codes : List ℕ) (r s : Result (Unit {0}) Refused)
+    → told r ≡ flood_refusal (holds_mesh mesh) (mesh_of mesh) codes → told s ≡ flood_refusal (holds_mesh mesh) (mesh_of mesh) codes
+    → r ≡ s
+flood_answer_determined mesh codes r s e f = results_alike r s (e ∙ sym f)
