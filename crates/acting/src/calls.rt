@@ -31,9 +31,7 @@ impl<'a> Play<'a> {
     }
 
     fn send(&mut self, call: Call) -> io::Result<()> {
-        let a = self
-            .memory
-            .inject(call.chip, first_bytes(&call.bytes, call.length));
+        let a = self.memory.inject(self.sheet, call.chip, first_bytes(&call.bytes, call.length));
         let Some(added) = self.accepted(a)? else {
             return Ok(());
         };
@@ -45,7 +43,7 @@ impl<'a> Play<'a> {
     // How many deliveries a call that is lent tables has put into the log, if it was not refused.
     fn accepted(&mut self, a: Added) -> io::Result<Option<u32>> {
         let board = self.course.board;
-        let sheet = &self.memory.sheet;
+        let sheet = &*self.sheet;
         let answer = unless_refused(a.refusal, a.added).map_err(|refusal| LentRefusal {
             refusal,
             place: a.place,
@@ -105,20 +103,21 @@ impl<'a> Play<'a> {
         if self.may_pay() {
             self.round_in_room()
         } else {
-            self.memory.round(&mut [0; 0])
+            self.memory.round(self.sheet, &mut [0; 0])
         }
     }
 
     // To clear the room takes as long as a hundred thousand rows do: it pays where many packets meet long tables.
     fn may_pay(&self) -> bool {
-        MANY_ROWS <= self.memory.sheet.rows().len() / 3
+        MANY_ROWS <= self.sheet.rows().len() / 3
             && MANY_PACKETS <= look_mesh(&self.memory.mesh).in_flight
     }
 
-    // The room stands here, and not with the program's other memory: most runs need none.
+    // The room stands here, and not with the program's other memory: most runs need none. Put in place where it is called, it would stand there.
+    #[inline(never)]
     fn round_in_room(&mut self) -> Added {
         let mut room = [0u32; ROOM];
-        self.memory.round(&mut room)
+        self.memory.round(self.sheet, &mut room)
     }
 
     fn change_link(&mut self, call: Call) -> io::Result<()> {

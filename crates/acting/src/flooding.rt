@@ -12,11 +12,10 @@ const NOWHERE: u8 = 6;
 
 impl<'a> Play<'a> {
     pub fn flood(&mut self) -> io::Result<()> {
-        let m = &mut *self.memory;
-        let answer = flood(&m.mesh, m.sheet.codes_mut()).map_err(Refusal::from);
+        let answer = flood(&self.memory.mesh, self.sheet.codes_mut()).map_err(Refusal::from);
         self.course.accepted(self.rt, answer)?;
         if let Some(before) = self.course.unreached {
-            let more = tell_unreached(self.rt, &self.course, self.memory.sheet.codes())?;
+            let more = tell_unreached(self.rt, &self.course, self.sheet.codes())?;
             self.course.unreached = Some(before.wrapping_add(more as u64));
         }
         Ok(())

@@ -21,8 +21,7 @@ impl<'a> Play<'a> {
             spent: Spent::default(),
         })?;
         let packed = bytes_of(packet);
-        self.memory
-            .inject(chip, first_bytes(&packed.bytes, packed.length));
+        self.memory.inject(self.sheet, chip, first_bytes(&packed.bytes, packed.length));
         match self.followed()? {
             1 => println!(self.rt; "nothing is in flight after 1 round"),
             rounds => println!(self.rt; "nothing is in flight after {rounds} rounds"),

@@ -32,7 +32,7 @@ pub struct Arrival {
 impl<'a> Play<'a> {
     // Tells the pass of a packet at a chip, and answers what the chip has sent in this round after it.
     pub fn tell_pass(&self, a: Arrival) -> io::Result<Spent> {
-        let own = self.memory.sheet.rows_of(a.chip);
+        let own = self.sheet.rows_of(a.chip);
         let outcome = Outcome {
             pass: self.pass_at(&a, own),
             mark: mark_of(a.packet.control),
@@ -49,7 +49,7 @@ impl<'a> Play<'a> {
     fn pass_at(&self, a: &Arrival, own: &[u32]) -> Pass {
         let b = self.course.board;
         let mesh = &self.memory.mesh;
-        let sheet = &self.memory.sheet;
+        let sheet = &*self.sheet;
         let packed = bytes_of(a.packet);
         let all = b.chips() as usize;
         let from = (a.chip as usize).wrapping_mul(all);

@@ -8,34 +8,24 @@ use sheet::storing::Sheet;
 use std::fs::File;
 use std::io;
 
-// All memory of the program, but for what files are read into and for the room that a round may be lent.
+// All memory of the program, but for the sheet, for what files are read into and for the room that a round may be lent. The sheet stands
+// beside it: made inside it, it would stand on the stack twice.
 #[derive(Drop)]
 pub struct Memory {
-    pub sheet: Sheet,
     pub mesh: [u32; WORDS],
     pub log: [u32; LOG],
 }
 
 impl Memory {
     // Injects the packet of some bytes at a chip.
-    pub fn inject(&mut self, chip: u32, bytes: &[u8]) -> Added {
-        let tables = Tables::new(
-            self.sheet.rows(),
-            self.sheet.starts(),
-            self.sheet.codes(),
-            self.sheet.fixed(),
-        );
+    pub fn inject(&mut self, sheet: &Sheet, chip: u32, bytes: &[u8]) -> Added {
+        let tables = Tables::new(sheet.rows(), sheet.starts(), sheet.codes(), sheet.fixed());
         inject(&mut self.mesh, &mut self.log, chip, bytes, &tables, 0)
     }
 
     // A round, with room for groups.
-    pub fn round(&mut self, room: &mut [u32]) -> Added {
-        let tables = Tables::new(
-            self.sheet.rows(),
-            self.sheet.starts(),
-            self.sheet.codes(),
-            self.sheet.fixed(),
-        );
+    pub fn round(&mut self, sheet: &Sheet, room: &mut [u32]) -> Added {
+        let tables = Tables::new(sheet.rows(), sheet.starts(), sheet.codes(), sheet.fixed());
         round(&mut self.mesh, &mut self.log, &tables, room)
     }
 }
@@ -44,6 +34,7 @@ impl Memory {
 pub struct Play<'a> {
     pub rt: &'a HostRuntime,
     pub course: Course,
+    pub sheet: &'a mut Sheet,
     pub memory: &'a mut Memory,
     // Where accepted calls are kept, if they are.
     pub trace: Option<File>,

@@ -9,7 +9,7 @@ use std::io;
 
 impl<'a> Play<'a> {
     pub fn replay(&mut self, from: File) -> io::Result<()> {
-        let mut records = Records::of(from);
+        let mut records = Records::of(&from);
         for _ in 0..u64::MAX {
             match records.next_record() {
                 Ok(Some(record)) => self.replay_record(record)?,

@@ -22,7 +22,7 @@ pub enum Calls {
 impl<'a> Play<'a> {
     // Makes the calls of FILE. What was read once is taken to be the same again.
     pub fn run(&mut self, from: File, which: Calls) -> io::Result<()> {
-        let mut lines = Lines::of(from);
+        let mut lines = Lines::of(&from);
         for _ in 0..u64::MAX {
             let Ok(Some(line)) = lines.next_line() else {
                 break;

@@ -4,6 +4,7 @@ use super::showing::show;
 use super::status::{Status, Stop};
 use acting::play::Memory;
 use sheet::paths::Name;
+use sheet::storing::Sheet;
 use std::env::{Env, FillError};
 use std::io;
 use thinning::file::{Printed, print_fewer};
@@ -17,20 +18,20 @@ enum Command {
 }
 
 // What a command came to.
-pub fn status_of(rt: &HostRuntime, memory: &mut Memory) -> io::Result<Status> {
-    match done(rt, memory) {
+pub fn status_of(rt: &HostRuntime, sheet: &mut Sheet, memory: &mut Memory) -> io::Result<Status> {
+    match done(rt, sheet, memory) {
         Ok(status) => Ok(status),
         Err(Stop::Told(status)) => Ok(status),
         Err(Stop::Io(e)) => Err(e),
     }
 }
 
-fn done(rt: &HostRuntime, memory: &mut Memory) -> Result<Status, Stop> {
+fn done(rt: &HostRuntime, sheet: &mut Sheet, memory: &mut Memory) -> Result<Status, Stop> {
     match asked(rt) {
-        Some(Command::Play(way)) => play(rt, way, memory),
+        Some(Command::Play(way)) => play(rt, way, sheet, memory),
         Some(Command::Show) => show(rt),
-        Some(Command::Check) => check(rt, memory),
-        Some(Command::Fewer) => fewer(rt, memory),
+        Some(Command::Check) => check(rt, sheet, memory),
+        Some(Command::Fewer) => fewer(rt, sheet),
         None => {
             eprint!(rt;
                 "what is wanted: lab run FILE, keep FILE TRACE, replay FILE TRACE, show TRACE, "
@@ -68,9 +69,9 @@ fn has_argument(rt: &HostRuntime, n: usize) -> bool {
     !matches!(rt.arg(n, &mut []), Err(FillError::NotPresent))
 }
 
-fn fewer(rt: &HostRuntime, memory: &mut Memory) -> Result<Status, Stop> {
+fn fewer(rt: &HostRuntime, sheet: &mut Sheet) -> Result<Status, Stop> {
     let file = Name::argument(rt, 2);
-    match print_fewer(rt, file.bytes(), &mut memory.sheet)? {
+    match print_fewer(rt, file.bytes(), sheet)? {
         Printed::Whole => Ok(Status::Accepted),
         Printed::TooMany => Ok(Status::Refused),
         Printed::Unread => Ok(Status::Unread),

@@ -8,17 +8,24 @@ mod showing;
 mod status;
 
 use acting::play::Memory;
-use sheet::board::{LOG, WORDS};
-use sheet::storing::Sheet;
+use sheet::board::{CHIPS, CODES, LOG, ROWS, STARTS, WORDS};
+use sheet::storing::{NOWHERE, Sheet};
 use std::io;
 
 fn main(rt: HostRuntime) -> io::Result<()> {
-    // Made here and not by a function of its own: what that returned would stand on the stack twice.
+    let mut sheet = Sheet {
+        rows: [0; ROWS],
+        starts: [0; STARTS],
+        codes: [NOWHERE; CODES],
+        fixed: [0; CHIPS],
+        chips: 0,
+        pairs: 0,
+        alone: None,
+    };
     let mut memory = Memory {
-        sheet: Sheet::empty(),
         mesh: [0; WORDS],
         log: [0; LOG],
     };
-    let status = commands::status_of(&rt, &mut memory)?;
+    let status = commands::status_of(&rt, &mut sheet, &mut memory)?;
     println!(rt; "status {status}")
 }

@@ -15,6 +15,7 @@ use sheet::board::WORDS;
 use sheet::checking;
 use sheet::paths::Name;
 use sheet::reading::{Past, read_file};
+use sheet::storing::Sheet;
 use std::io;
 
 #[derive(Clone, Copy, Debug, PartialEq, Eq)]
@@ -27,13 +28,13 @@ pub enum Way {
 }
 
 // What is odd in FILE's tables and, where it floods, in its links.
-pub fn check(rt: &HostRuntime, m: &mut Memory) -> Result<Status, Stop> {
+pub fn check(rt: &HostRuntime, sheet: &mut Sheet, m: &mut Memory) -> Result<Status, Stop> {
     let file = Name::argument(rt, 2);
-    let Some(k) = checking::check(rt, file.bytes(), &mut m.sheet)? else {
+    let Some(k) = checking::check(rt, file.bytes(), sheet)? else {
         return Ok(Status::Unread);
     };
     let unreached = if k.contents.flood {
-        check_floods(rt, file.bytes(), k.contents.board, m)?
+        check_floods(rt, file.bytes(), k.contents.board, sheet, m)?
     } else {
         0
     };
@@ -51,25 +52,26 @@ fn check_floods<'a>(
     rt: &'a HostRuntime,
     file: &[u8],
     b: Board,
+    sheet: &'a mut Sheet,
     m: &'a mut Memory,
 ) -> io::Result<u64> {
     let mut course = Course::on(rt, b);
     course.unreached = Some(0);
-    let mut p = play_on(rt, course, m);
+    let mut p = play_on(rt, course, sheet, m);
     unless_told(run_links(&mut p, file))?;
     Ok(p.course.unreached.unwrap_or_default())
 }
 
 // Reads FILE, and plays where nothing is wrong with it.
-pub fn play(rt: &HostRuntime, way: Way, m: &mut Memory) -> Result<Status, Stop> {
+pub fn play(rt: &HostRuntime, way: Way, sheet: &mut Sheet, m: &mut Memory) -> Result<Status, Stop> {
     let name = Name::argument(rt, 2);
     let file = name.bytes();
-    let Some(contents) = read_file(rt, file, Past::Wrong, &mut m.sheet)? else {
+    let Some(contents) = read_file(rt, file, Past::Wrong, sheet)? else {
         return Ok(Status::Unread);
     };
     let b = contents.board;
-    m.sheet.move_together(b);
-    let mut p = play_on(rt, Course::on(rt, b), m);
+    sheet.move_together(b);
+    let mut p = play_on(rt, Course::on(rt, b), sheet, m);
     match way {
         Way::Where => play_where(&mut p, file),
         Way::Replay => {
@@ -83,11 +85,17 @@ pub fn play(rt: &HostRuntime, way: Way, m: &mut Memory) -> Result<Status, Stop> 
 }
 
 // A mesh opened anew.
-fn play_on<'a>(rt: &'a HostRuntime, course: Course, memory: &'a mut Memory) -> Play<'a> {
+fn play_on<'a>(
+    rt: &'a HostRuntime,
+    course: Course,
+    sheet: &'a mut Sheet,
+    memory: &'a mut Memory,
+) -> Play<'a> {
     open_anew(&mut memory.mesh, course.board);
     Play {
         rt,
         course,
+        sheet,
         memory,
         trace: None,
         failure: None,
@@ -159,6 +167,8 @@ fn play_calls(p: &mut Play<'_>, way: Way, file: &[u8]) -> Result<Status, Stop> {
     let name = Name::argument(rt, 3);
     let other = name.bytes();
     let from = readable(rt, if way == Way::Replay { other } else { file })?;
+    // Opening a pipe may wait: the run's first second begins here.
+    p.course = Course::on(rt, p.course.board);
     match way {
         Way::Replay => p.replay(from)?,
         Way::Keep => {
@@ -169,6 +179,8 @@ fn play_calls(p: &mut Play<'_>, way: Way, file: &[u8]) -> Result<Status, Stop> {
             let mut to = writable(rt, other)?;
             p.run(from, Calls::All)?;
             draw(&mut to, &p.course, &p.memory.mesh)?;
+            // The account is told before the picture is closed.
+            return ended(p, other);
         }
         _ => p.run(from, Calls::All)?,
     }

@@ -33,7 +33,8 @@ struct Lines<'a> {
 impl<'a> Lines<'a> {
     // Shows records up to the first that is refused.
     fn show_records(&mut self, trace: &[u8]) -> Result<(), Stop> {
-        let mut records = Records::of(readable(self.rt, trace)?);
+        let from = readable(self.rt, trace)?;
+        let mut records = Records::of(&from);
         for _ in 0..u64::MAX {
             match records.next_record() {
                 Ok(Some(record)) => self.show_record(record)?,

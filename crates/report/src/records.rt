@@ -5,11 +5,11 @@ use std::fs::File;
 use std::io;
 
 // Two bytes of length, and as many behind them as they can say.
-const RECORD: usize = 65537;
+pub const RECORD: usize = 65537;
 
-#[derive(Drop)]
-pub struct Records {
-    bytes: Bytes,
+#[derive(Clone, Copy)]
+pub struct Records<'a> {
+    bytes: Bytes<'a>,
     record: [u8; RECORD],
     // Where the record starts, and how many bytes of it are there.
     at: u64,
@@ -23,8 +23,8 @@ pub struct Record<'a> {
     pub bytes: &'a [u8],
 }
 
-impl Records {
-    pub fn of(file: File) -> Records {
+impl<'a> Records<'a> {
+    pub fn of(file: &'a File) -> Self {
         Records {
             bytes: Bytes::of(file),
             record: [0; RECORD],

@@ -35,15 +35,10 @@ impl Board {
     }
 
     // The chip that is named so, if there is one.
-    #[tactic(auto, using(crate::proofs::Chips::chip_below))]
     pub fn chip(self, place: Place) -> Option<u32>
         ensures { IfSome result (λ n. n < self.width * self.height) }
     {
-        match place {
-            Place::At { x, y } if x < self.width && y < self.height => Some(y * self.width + x),
-            Place::Number(n) if n < self.chips() => Some(n),
-            _ => None,
-        }
+        chip_at(self.width, self.height, place)
     }
 
     // A chip's name by its x and y.
@@ -82,6 +77,26 @@ impl Board {
         let y = self.y_of(chip).wrapping_add(by_y) % self.height;
         y * self.width + x
     }
+}
+
+// The chip that is named so in a mesh of these sides, if there is one. They may be any two numbers: a side of 0 stands for no mesh.
+#[tactic(auto, using(crate::proofs::Chips::chip_below))]
+pub fn chip_at(width: u32, height: u32, place: Place) -> Option<u32>
+    ensures { IfSome result (λ n. width ≤ 144 → height ≤ 144 → n < width * height) }
+{
+    match place {
+        Place::At { x, y } if x < width && y < height => Some(times(width, y).wrapping_add(x)),
+        Place::Number(n) if n < times(width, height) => Some(n),
+        _ => None,
+    }
+}
+
+// A product of two sides, or of a side and what is counted along one: 0 where one of them is above 144.
+fn times(a: u32, b: u32) -> u32
+    ensures value { a ≤ 144 → b ≤ 144 → result ≡ a * b }
+    ensures most { result ≤ 20736 }
+{
+    if a <= 144 && b <= 144 { a * b } else { 0 }
 }
 
 // The link that a packet sent by a link arrives by, and the other way round.

@@ -1,8 +1,9 @@
 // Elements at any index: past the end every element is 0, and nothing is stored.
-ghost use Rattle.std.specs.Prelude.{◌≡◌, ◌<◌, length, get_or};
+ghost use Rattle.std.specs.Prelude.{◌≡◌, ◌<◌, ◌≤◌, length, get_or};
 
 pub fn item<T: Copy + Default>(s: &[T], i: usize) -> T
-    ensures { i < length s.now → result ≡ get_or s.now i result }
+    ensures there { i < length s.now → result ≡ get_or s.now i result }
+    ensures past { length s.now ≤ i → T.is_default result }
 {
     s.get(i).copied().unwrap_or_default()
 }

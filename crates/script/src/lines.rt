@@ -5,11 +5,11 @@ use super::pieces::Bytes;
 use std::fs::File;
 use std::io;
 
-const LINE: usize = 4096;
+pub const LINE: usize = 4096;
 
-#[derive(Drop)]
-pub struct Lines {
-    bytes: Bytes,
+#[derive(Clone, Copy)]
+pub struct Lines<'a> {
+    bytes: Bytes<'a>,
     line: [u8; LINE],
     // The line's number, how many bytes of it are kept, and whether it has more.
     number: u64,
@@ -25,8 +25,8 @@ pub struct Line<'a> {
     pub long: bool,
 }
 
-impl Lines {
-    pub fn of(file: File) -> Lines {
+impl<'a> Lines<'a> {
+    pub fn of(file: &'a File) -> Self {
         Lines {
             bytes: Bytes::of(file),
             line: [0; LINE],
@@ -77,13 +77,14 @@ pub fn each_line<F: FnMut(Line<'_>) -> io::Result<bool>>(
 ) -> io::Result<bool>
     requires { F.IsAlwaysCallable take }
 {
-    let mut lines = match open_read(rt, file) {
-        Ok(from) => Lines::of(from),
+    let from = match open_read(rt, file) {
+        Ok(from) => from,
         Err(e) => {
             fail(rt, file, &e)?;
             return Ok(false);
         }
     };
+    let mut lines = Lines::of(&from);
     for _ in 0..u64::MAX {
         match lines.next_line() {
             Ok(Some(line)) => {

@@ -3,19 +3,19 @@ use std::fs::File;
 use std::io;
 use std::io::Read;
 
-const PIECE: usize = 65536;
+pub const PIECE: usize = 65536;
 
-#[derive(Drop)]
-pub struct Bytes {
-    file: File,
+#[derive(Clone, Copy)]
+pub struct Bytes<'a> {
+    file: &'a File,
     piece: [u8; PIECE],
     // What is left of the piece.
     at: usize,
     end: usize,
 }
 
-impl Bytes {
-    pub fn of(file: File) -> Bytes {
+impl<'a> Bytes<'a> {
+    pub fn of(file: &'a File) -> Self {
         Bytes {
             file,
             piece: [0; PIECE],
@@ -27,7 +27,8 @@ impl Bytes {
     // The next byte: none at the file's end.
     pub fn next_byte(&mut self) -> io::Result<Option<u8>> {
         if self.at >= self.end {
-            self.end = self.file.read(&mut self.piece)?;
+            let mut from = self.file;
+            self.end = from.read(&mut self.piece)?;
             self.at = 0;
         }
         if self.at >= self.end {

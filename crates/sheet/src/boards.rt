@@ -28,7 +28,8 @@ pub fn read_rows(
     chip: u32,
     sheet: &mut Sheet,
 ) -> Result<(), RowsFault> {
-    let mut bytes = Bytes::of(open_read(rt, path)?);
+    let from = open_read(rt, path)?;
+    let mut bytes = Bytes::of(&from);
     let mut room = true;
     for before in 0..u64::MAX {
         let Some(row) = next_row(&mut bytes)? else {
@@ -54,7 +55,7 @@ pub fn read_rows(
 }
 
 // The next row: none at the file's end.
-fn next_row(bytes: &mut Bytes) -> Result<Option<Row>, RowsFault> {
+fn next_row(bytes: &mut Bytes<'_>) -> Result<Option<Row>, RowsFault> {
     let mut words = [0u32; 4];
     for n in 0..16 {
         match bytes.next_byte()? {

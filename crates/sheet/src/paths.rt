@@ -3,7 +3,7 @@ use script::cells::between;
 use std::env::Env;
 
 // No path is longer.
-const PATH: usize = 4096;
+pub const PATH: usize = 4096;
 
 #[derive(Clone, Copy)]
 pub struct Name {

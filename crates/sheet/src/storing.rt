@@ -8,33 +8,24 @@ use script::cells::{between, item, put};
 use tables::Row;
 
 // The code that leads nowhere.
-const NOWHERE: u8 = 6;
+pub const NOWHERE: u8 = 6;
 
+// Its fields are open so that it can be made where it stands: what a function returned would stand on the stack more than once.
 #[derive(Drop)]
 pub struct Sheet {
-    rows: [u32; ROWS],
+    pub rows: [u32; ROWS],
     // How many rows each chip has, or, once they are moved together, where they start.
-    starts: [u32; STARTS],
-    codes: [u8; CODES],
-    fixed: [u32; CHIPS],
-    // How many chips there are, once the rows are moved together.
-    chips: usize,
+    pub starts: [u32; STARTS],
+    pub codes: [u8; CODES],
+    pub fixed: [u32; CHIPS],
+    // How many chips there are, and codes, once the rows are moved together.
+    pub chips: usize,
+    pub pairs: usize,
     // The chip whose rows alone are kept, where it is one.
-    alone: Option<u32>,
+    pub alone: Option<u32>,
 }
 
 impl Sheet {
-    pub fn empty() -> Sheet {
-        Sheet {
-            rows: [0; ROWS],
-            starts: [0; STARTS],
-            codes: [NOWHERE; CODES],
-            fixed: [0; CHIPS],
-            chips: 0,
-            alone: None,
-        }
-    }
-
     // Begins to keep the rows of one chip alone.
     pub fn begin_alone(&mut self, chip: u32) {
         self.starts.fill(0);
@@ -92,6 +83,7 @@ impl Sheet {
         }
         put(&mut self.starts, chips, all as u32);
         self.chips = chips;
+        self.pairs = board.codes();
     }
 
     // What the model is lent: the tables cut to what is in use.
@@ -104,7 +96,7 @@ impl Sheet {
     }
 
     pub fn codes(&self) -> &[u8] {
-        between(&self.codes, 0, self.chips.saturating_mul(self.chips))
+        between(&self.codes, 0, self.pairs)
     }
 
     pub fn fixed(&self) -> &[u32] {
@@ -113,7 +105,7 @@ impl Sheet {
 
     // The codes in use, which a flood writes.
     pub fn codes_mut(&mut self) -> &mut [u8] {
-        let all = self.chips.saturating_mul(self.chips);
+        let all = self.pairs;
         self.codes.get_mut(..all).unwrap_or_default()
     }
 

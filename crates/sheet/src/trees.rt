@@ -12,7 +12,7 @@ use tree::call::tree;
 // Two words a target, three words a row, and one of either a chip at the most.
 const TARGETS: usize = 288;
 
-const TREE: usize = 432;
+pub const TREE: usize = 432;
 
 // A tree's rows, and where each chip's start.
 #[derive(Clone, Copy)]
@@ -41,6 +41,35 @@ struct Targets {
     count: usize,
 }
 
+impl Targets {
+    fn none() -> Targets {
+        Targets {
+            words: [0; TARGETS],
+            count: 0,
+        }
+    }
+
+    // The targets of a line in order, up to one that is wrong. One more than there are chips is named twice.
+    fn read<'a>(&mut self, board: Board, mut words: Words<'a>) -> Result<(), Fault<'a>> {
+        let mut named = [false; CHIPS];
+        for n in 0..CHIPS + 1 {
+            let target = words.target()?;
+            let chip = chip_named(board, target.place)?;
+            if item(&named, chip as usize) {
+                return Err(Fault::NamedTwice(board.place(chip)));
+            }
+            put(&mut named, chip as usize, true);
+            put(&mut self.words, 2 * n, chip);
+            put(&mut self.words, 2 * n + 1, target.set);
+            self.count = 2 * n + 2;
+            if !target.more {
+                break;
+            }
+        }
+        Ok(())
+    }
+}
+
 // At FILE's first reading: the line is looked at, and its rows are left for the second.
 pub fn look_at_targets<'a>(
     board: Board,
@@ -51,8 +80,7 @@ pub fn look_at_targets<'a>(
     if key & mask != key {
         return Err(Fault::OutsideMask(key ^ (key & mask)));
     }
-    targets_of(board, targets)?;
-    Ok(())
+    Targets::none().read(board, targets)
 }
 
 // The tree of a line, if it has one.
@@ -67,13 +95,15 @@ pub fn grow(board: Board, line: &[u8]) -> Option<Grown> {
             },
         ) => {
             let source = board.chip(place)?;
-            let targets = targets_of(board, targets).ok()?;
+            let mut known = Targets::none();
+            // What is wrong is told at FILE's first reading: where FILE is another by now, the targets before it are taken.
+            let _ = known.read(board, targets);
             grow_from(
                 board,
                 source,
                 key,
                 mask,
-                between(&targets.words, 0, targets.count),
+                between(&known.words, 0, known.count),
             )
         }
         _ => None,
@@ -97,28 +127,4 @@ fn grow_from(board: Board, source: u32, key: u32, mask: u32, targets: &[u32]) ->
         &mut grown.starts[..room],
     );
     if t.refusal == 0 { Some(grown) } else { None }
-}
-
-// The targets of a line in order, up to one that is wrong. One more than there are chips is named twice.
-fn targets_of<'a>(board: Board, mut words: Words<'a>) -> Result<Targets, Fault<'a>> {
-    let mut named = [false; CHIPS];
-    let mut targets = Targets {
-        words: [0; TARGETS],
-        count: 0,
-    };
-    for n in 0..CHIPS + 1 {
-        let target = words.target()?;
-        let chip = chip_named(board, target.place)?;
-        if item(&named, chip as usize) {
-            return Err(Fault::NamedTwice(board.place(chip)));
-        }
-        put(&mut named, chip as usize, true);
-        put(&mut targets.words, 2 * n, chip);
-        put(&mut targets.words, 2 * n + 1, target.set);
-        targets.count = 2 * n + 2;
-        if !target.more {
-            break;
-        }
-    }
-    Ok(targets)
 }
