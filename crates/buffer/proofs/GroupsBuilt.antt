@@ -1,6 +1,6 @@
 -- The room for groups in a round: enough for the rows that are cut out for a chip, and left as the definition says, chip by chip.
 use Rattle.lists.proofs.Bools.{both}
-use Rattle.std.proofs.Common.{◌≡◌, ℕ, zero, suc, ◌+◌, ◌-◌, ◌*◌, ◌/◌, ◌<◌, ◌≤◌, true, false, cond, ◌&&◌, eqb, List, [], ◌∷◌, ◌++◌, map, length, get_or, take, set, sym, refl, ap, ◌∙◌, subst, append_assoc, append-nil, add-one, arith, get_or-drop, take-suc-set, ne_eqb}
+use Rattle.std.proofs.Common.{◌≡◌, ℕ, zero, suc, ◌+◌, ◌-◌, ◌*◌, ◌/◌, ◌<◌, ◌≤◌, true, false, cond, ◌&&◌, eqb, List, [], ◌∷◌, ◌++◌, map, length, get_or, take, drop, set, sym, refl, ap, ◌∙◌, subst, append_assoc, append-nil, add-one, arith, length-drop, length-take-le, get_or-drop, take-suc-set, ne_eqb}
 use mathlib.Core.List.{map-append}
 use lib.ListN.{length-map, get_or-map}
 use Rattle.tables.specs.Rows.{rows_of}
@@ -18,7 +18,7 @@ use Rattle.links.specs.Offsets.{width_at, height_at, place_long, depth}
 use Rattle.links.specs.Words.{aside_place, packet_in}
 use Rattle.buffer.proofs.Headers.{Head, head_range}
 use Rattle.mesh.specs.Refusals.{Lent}
-use Rattle.mesh.proofs.Cuts.{rows_long}
+use Rattle.mesh.proofs.Cuts.{rows_long, Cuts}
 use Rattle.buffer.proofs.Arrivals.{one, aside_read, count_at, count_few, places_there}
 use Rattle.mesh.specs.Lending.{Tables, with_room, rows_at}
 use Rattle.mesh.specs.Steps.{Arrival}
@@ -38,6 +38,19 @@ fits_each starts count chip room h fits some = omega (arith, fits some, longest_
 -- room for as many rows as the starts say is room for a chip's own
 pub fits_own : (t : Tables) (chips chip room : ℕ) → Lent t chips → chip < chips → RoomFits room (get_or t.starts (chip + 1) 0 - get_or t.starts chip 0) → RoomFits room (length (rows_at t chip) / 3)
 fits_own t chips chip room lent below fits some = omega (arith, fits some, rows_long t chips chip lent below)
+
+-- ---- a chip's rows, by the places that are worked out from the starts
+
+module _ (t : Tables) (chips chip first next : ℕ) (cut : Cuts t chips chip) (e₁ : first ≡ get_or t.starts chip 0 * 3) (e₂ : next ≡ get_or t.starts (chip + 1) 0 * 3) where
+  pub fits_cut : (room : ℕ) → RoomFits room (get_or t.starts (chip + 1) 0 - get_or t.starts chip 0) → RoomFits room (length (take (next - first) (drop first t.rows)) / 3)
+  fits_cut room fits some =
+      let long : length (take (next - first) (drop first t.rows)) ≡ next - first = length-take-le (next - first) (drop first t.rows) (simp length-drop (omega (arith, cut.row_end, e₁, e₂))) in
+      omega (arith, long, e₁, e₂, cut.row_below, fits some)
+
+  pub room_cut : (keys room : List ℕ) → cond (eqb (length room) 0) room (groups_left keys (rows_of (take (next - first) (drop first t.rows))) room) ≡ room_at t keys chip room
+  room_cut keys room =
+      let long : next - first ≡ (get_or t.starts (chip + 1) 0 - get_or t.starts chip 0) * 3 = omega (arith, e₁, e₂) in
+      λ i. cond (eqb (length room) 0) room (groups_left keys (rows_of (take (long i) (drop (e₁ i) t.rows))) room)
 
 -- ---- the room chip by chip
 

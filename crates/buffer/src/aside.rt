@@ -35,10 +35,9 @@ fn link_aside(words: &mut [u32])
     ensures { words.new ≡ aside_words words.old }
 {
     let held = words[HELD];
-    words.copy_within(
-        PLACES_AT..PLACES_AT + (held as usize) * PLACE,
-        ASIDE_PLACES_AT,
-    );
+    let count = (held as usize) * PLACE;
+    let (own, behind) = words.split_at_mut(ASIDE_PLACES_AT);
+    behind[..count].copy_from_slice(&own[PLACES_AT..PLACES_AT + count]);
     words[ASIDE] = held;
     words[HELD] = 0;
 }

@@ -1,15 +1,15 @@
 -- What searches of neighbouring rows tell is put together: a row is covered by one of both parts where it is by one of either.
 use Prim.Native.Nat.{ℕ, ◌+◌, ◌≤◌}
 use mathlib.Core.Path.{◌≡◌, sym, ap, ◌∙◌}
-use mathlib.Core.Bool.{Bool, true, false, ◌||◌}
+use mathlib.Core.Bool.{Bool, true, false, not, ◌||◌}
 use mathlib.Core.List.{List}
-use mathlib.Core.Logic.{⊎_elim}
+use mathlib.Core.Logic.{⊎_elim, inr}
 use Rattle.lists.proofs.Firsts.{lt_or_ge}
 use native.Mathlib.Omega.{arith}
 use lib.ListN.{get_or}
 use Rattle.tables.specs.Rows.{Entry}
-use Rattle.fewer.specs.Process.{Numbered, blank, covers}
-use Rattle.fewer.specs.Hand.{Covered}
+use Rattle.fewer.specs.Process.{Numbered, blank, matches_some, covers}
+use Rattle.fewer.specs.Hand.{Covered, Tested}
 
 module _ (rows : List Numbered) (r : Entry) where
   -- of one row, as it was read
@@ -32,3 +32,8 @@ module _ (rows : List Numbered) (r : Entry) where
       let pair = covered_both i (i + 1) (i + 2) a b (omega arith) one two in
       let most = covered_both i (i + 2) (i + 3) (a || b) c (omega arith) pair three in
       covered_both i (i + 3) (i + 4) ((a || b) || c) d (omega arith) most four
+
+  -- a row that matches some key stays where none covers it
+  pub tested_by : (lo upto : ℕ) (b : Bool) → matches_some r ≡ true → Covered rows r lo upto b → Tested rows r lo upto (not b)
+  tested_by lo upto true some by = inr by
+  tested_by lo upto false some none = (some, none)

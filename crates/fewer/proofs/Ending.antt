@@ -2,21 +2,46 @@
 use Prim.Native.Nat.{ℕ, ◌-◌, ◌*◌, ◌/◌, ◌≤◌}
 use mathlib.Core.Path.{◌≡◌, sym, ap, ◌∙◌}
 use mathlib.Core.List.{List, ◌++◌}
+use mathlib.Core.Logic.{⊎_elim}
 use native.Mathlib.Omega.{arith}
-use lib.ListN.{length, take, drop, take-append-drop}
+use lib.ListN.{length, take, drop, length-take, take-append-drop}
 use lib.Seq.{length-take-le}
 use Rattle.tables.specs.Rows.{rows_of}
 use Rattle.tables.proofs.RowsByNumber.{rows_many}
 use Rattle.fewer.specs.Process.{numbered, begun, ended, steps}
 use Rattle.fewer.specs.Call.{words_of}
 use Rattle.fewer.specs.declared.Held.{Held}
-use Rattle.fewer.specs.Hand.{held_of, with_left, end_from, Onward, TookOut, JoinedAll, Shortened}
+use Rattle.fewer.specs.Hand.{held_of, with_left, end_from, Onward, Walking, TookOut, AtPairs, JoinedAll, Shortened}
 use Rattle.fewer.proofs.AtRest.{length_numbered}
 use Rattle.fewer.proofs.HeldRows.{held_many, length_words}
 use Rattle.fewer.proofs.Onwards.{onward_on}
 
 module _ (held₀ : List Held) (gone₀ : List ℕ) (count : ℕ) (listed : count ≤ length gone₀) (fits : count ≤ length held₀) where
+  pub walk_from_top : Walking 0 count held₀ gone₀ (record { kept = 0; next = 0; count = count })
+  walk_from_top =
+      record {
+        behind = omega arith;
+        within = omega arith;
+        listed = listed;
+        fits = fits;
+        lower = omega arith;
+        walked = record {
+          above = λ i h. absurd (omega arith);
+          only = λ i j h k l past. absurd (⊎_elim (λ a. omega arith) (λ a. omega (arith, length-take count (held_of held₀))) past);
+        };
+      }
+
   module _ (held₁ : List Held) (gone₁ : List ℕ) (r : ℕ) (took : TookOut held₀ gone₀ (record { kept = 0; next = 0; count = count }) held₁ gone₁ r) where
+    pub pairs_from_top : AtPairs held₁ gone₁ (record { rows = r; at = 0 })
+    pairs_from_top =
+        record {
+          within = omega arith;
+          listed = omega (arith, took.most, took.onward.room);
+          fits = omega (arith, took.most, took.onward.words);
+          quiet = took.quiet;
+          above = λ i h. absurd (omega arith);
+        }
+
     module _ (rows : List ℕ) (taken : take count (held_of held₀) ≡ numbered 0 (rows_of rows)) (room : length gone₀ ≡ count) (all : count ≡ length rows / 3) (held₂ : List Held) (gone₂ : List ℕ) (n : ℕ)
         (joined : JoinedAll held₁ gone₁ r held₂ gone₂ n) where
       onward : Onward held₀ gone₀ (take count (held_of held₀)) held₂ gone₂ (take n (held_of held₂))

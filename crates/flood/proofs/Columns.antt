@@ -49,3 +49,6 @@ one_more all to from code before after ht hf sized s = record { long = simp leng
     others : (k : ℕ) → (k % all ≡ to → ⊥) → get_or (set after (from * all + to) (code from)) k 0 ≡ get_or before k 0
     others k d =
         get_or-set_other after (from * all + to) k _ 0 (λ (q : k ≡ from * all + to). d (ap (λ (i : ℕ). i % all) q ∙ column_of all from to ht)) ∙ s.others k d
+
+pub whole_column : (all to : ℕ) (code : ℕ → ℕ) (before after : List ℕ) → 1 ≤ all → SoFar all to all code before after → Column all to code before after
+whole_column all to code before after some s = record { long = s.long; written = λ k h e. s.written k e ((div-lt_iff_lt-mul some).1 h); others = s.others }

@@ -9,7 +9,7 @@ use native.Mathlib.Numerals.{add-one}
 use lib.Dec.{eqb, ltb}
 use lib.ListN.{length, get_or, set, replicate, get_or-replicate}
 use lib.Seq.{get_or-set_same, get_or-set_other}
-use borrow.Author.Tests.{lt-ltb, le-ltb, ltb-true, ne_eqb, eqb-true, eqb-false}
+use borrow.Author.Tests.{lt-ltb, le-ltb, ltb-true, ltb-false, ne_eqb, eqb-true, eqb-false}
 use Rattle.lists.specs.Firsts.{first_below}
 use Rattle.lists.proofs.Firsts.{lt_or_ge, first_holds, before_first, first_is, first_same}
 use Rattle.mesh.specs.Mesh.{Mesh, many}
@@ -70,6 +70,9 @@ module _ (around before : List ℕ) (level chip : ℕ) (marks : List ℕ) (more 
           let q : c ≡ chip = eqb-true c chip e in
           rw q (le-ltb _ level (omega (arith, here)) ∙ sym (le-ltb (get_or before chip 0) level (omega arith)))
       go c false e here other was = ap (λ (n : ℕ). ltb n level) (other c (eqb-false c chip e)) ∙ s.same c
+
+pub whole_level : (around before : List ℕ) (all level : ℕ) (marks : List ℕ) (more : Bool) → length marks ≡ 144 → SoFar around before level all marks more → Spread around all level before marks more
+whole_level around before all level marks more long s = record { long = long; each = s.each; still = s.still }
 
 -- ---- level by level
 
@@ -152,7 +155,7 @@ module _ {A : Type 0} (m : Mesh A) (all to : ℕ) (around : List ℕ) (a : Aroun
             let none : ltb (fewest m c to) (many m) ≡ false = counted ∙ w in
             sym (λ t. cond (other t) 7 (cond (none t) (first_link m c to) 6))
 
-  level_next : (level : ℕ) (marks after : List ℕ) (more more' : Bool) → level < all - 1 → Reached m all to level marks more → Spread around all (level + 1) marks after more' → Reached m all to (level + 1) after more'
+  pub level_next : (level : ℕ) (marks after : List ℕ) (more more' : Bool) → level < all - 1 → Reached m all to level marks more → Spread around all (level + 1) marks after more' → Reached m all to (level + 1) after more'
   level_next level marks after more more' h r s = record { each = each; over = over }
     where
       next : (c : ℕ) → c < all → get_or after c 0 ≡ mark_after m to (suc level) c
@@ -168,6 +171,13 @@ module _ {A : Type 0} (m : Mesh A) (all to : ℕ) (around : List ℕ) (a : Aroun
           sym (marked (suc level) d (omega arith)) ∙ ap (λ (n : ℕ). ltb n 255) (sym (next d l) ∙ s.still f d l ∙ r.each d l) ∙ marked level d (omega arith) in
           let l : c < many m = omega (arith, a.many_here) in
           ap (λ (b : Bool). cond b (fewest m c to) 255) (still_on m to a.size level still (level + 1) c (omega arith) l ∙ sym (still_on m to a.size level still (all - 1) c (omega arith) l))
+
+  pub all_reached : (level : ℕ) (marks : List ℕ) (more : Bool) → level ≤ all - 1 → (more && ltb level (all - 1)) ≡ false → Reached m all to level marks more → (c : ℕ) → c < all → get_or marks c 0 ≡ mark_after m to (all - 1) c
+  all_reached level marks more h f r c hc = r.each c hc ∙ go more f r.over
+    where
+      go : (b : Bool) → (b && ltb level (all - 1)) ≡ false → (b ≡ false → (c : ℕ) → c < all → mark_after m to level c ≡ mark_after m to (all - 1) c) → mark_after m to level c ≡ mark_after m to (all - 1) c
+      go true l over = let e : level ≡ all - 1 = omega (arith, ltb-false level (all - 1) l) in ap (λ (i : ℕ). mark_after m to i c) e
+      go false l over = over refl c hc
 
   -- after a level that follows one that marked some chip
   pub level_after : (level : ℕ) (marks after : List ℕ) (more : Bool) → 1 ≤ level → level < all → Reached m all to (level - 1) marks true → Spread around all level marks after more → Reached m all to level after more

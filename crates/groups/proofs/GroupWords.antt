@@ -86,3 +86,15 @@ module _ (words : List ℕ) (key : ℕ) (numbers : List ℕ) (i : ℕ) (within :
 pub search_ends : (rows : List Entry) (key : ℕ) (numbers : List ℕ) (i : ℕ) → length numbers ≤ i → first_in key rows (drop i numbers) ≡ None
 unfolding first_in
 search_ends rows key numbers i h = ap (first_in key rows) (drop_of_length-le numbers h)
+
+-- ---- by the words of the room
+
+-- where the numbers of a key's group begin
+abbrev pub begin_of : List Entry → ℕ → ℕ
+begin_of rows key = 257 + top_of key * length rows
+
+module _ (words : List ℕ) (room : List ℕ) (key : ℕ) (holds : GroupedFor (rows_of words) room key) (small : top_of key < 256)
+    (k : ℕ) (from : begin_of (rows_of words) key ≤ k) (within : k < begin_of (rows_of words) key + length (group_of (rows_of words) (top_of key)))
+  where
+    pub number_there : k < length room
+    number_there = omega (arith, holds.long, block_end (length (rows_of words)) (top_of key) 256 small, from_most (top_of key) 0 (rows_of words))

@@ -18,7 +18,7 @@ pub longest_none : (starts : List ℕ) → longest starts 0 ≡ 0
 unfolding longest
 longest_none starts = refl
 
-longest_next : (starts : List ℕ) (c : ℕ) → longest starts (suc c) ≡ larger (longest starts c) (get_or starts (c + 1) 0 - get_or starts c 0)
+pub longest_next : (starts : List ℕ) (c : ℕ) → longest starts (suc c) ≡ larger (longest starts c) (get_or starts (c + 1) 0 - get_or starts c 0)
 unfolding longest
 longest_next starts c = refl
 

@@ -1,19 +1,20 @@
 -- Rows that go into a group, counted one by one; and when groups pay, by the tests that the code makes first.
-use Prim.Native.Nat.{ℕ, zero, suc, ◌+◌, ◌*◌, ◌/◌, ◌≤◌, ◌<◌}
+use Prim.Native.Nat.{ℕ, zero, suc, ◌+◌, ◌*◌, ◌-◌, ◌/◌, ◌≤◌, ◌<◌}
 use mathlib.Core.Path.{◌≡◌, refl, sym, ap, ◌∙◌}
 use mathlib.Core.Bool.{Bool, true, false, not, cond, false≢true}
 use mathlib.Core.Logic.{⊎_elim}
 use mathlib.Core.List.{List}
 use native.Mathlib.Omega.{arith}
+use native.Mathlib.Nat.{mul-zero}
 use native.Mathlib.Numerals.{add-one}
-use borrow.Author.Tests.{le-leb, lt-leb}
-use lib.Dec.{eqb}
+use borrow.Author.Tests.{le-ltb, le-leb, lt-leb}
+use lib.Dec.{eqb, ltb}
 use lib.ListN.{length, get_or}
 use Rattle.lists.proofs.Firsts.{lt_or_ge}
 use Rattle.tables.specs.Rows.{Entry, rows_of, blank_entry}
 use Rattle.tables.proofs.RowsByNumber.{row_at, rows_many}
 use Rattle.groups.specs.Groups.{top_of, fixes_top}
-use Rattle.groups.specs.Pays.{worth, is_taken, taken_of, taken}
+use Rattle.groups.specs.Pays.{worth, is_taken, taken_of, taken, pays}
 
 module _ (marks : List ℕ) (rows : List Entry) where
   pub taken_none : taken_of marks rows 0 ≡ 0
@@ -46,8 +47,21 @@ taken_by_mark words marks i top none here fixed e mark =
 -- ---- the rules, as the code asks for them
 
 module _ (packets rows : ℕ) where
+  pub too_few : rows < 64 → false ≡ worth packets rows
+  too_few h = simp (lt-leb 64 rows h)
+
   pub too_many : 1024 < rows → false ≡ worth packets rows
   too_many h = simp (le-leb 64 rows (omega arith), lt-leb rows 1024 h)
 
   pub worth_few : worth packets rows ≡ true → rows ≤ 1024
   worth_few e = ⊎_elim (λ (l : 1024 < rows). absurd (false≢true (too_many l ∙ e))) (λ (l : rows ≤ 1024). l) (lt_or_ge 1024 rows)
+
+  pub worth_between : 64 ≤ rows → rows ≤ 1024 → ltb (rows * 6 + 1600) (packets * (rows - 40)) ≡ worth packets rows
+  worth_between some most = simp (le-leb 64 rows some, le-leb rows 1024 most)
+
+module _ (packets : ℕ) (marks : List ℕ) (rows : List Entry) where
+  pub none_spared : length rows ≤ taken marks rows * 40 + 40 → false ≡ pays packets marks rows
+  none_spared h =
+      let none : length rows - (taken marks rows * 40 + 40) ≡ 0 = omega arith in
+      let product : packets * (length rows - (taken marks rows * 40 + 40)) ≡ 0 = ap (λ (n : ℕ). packets * n) none ∙ mul-zero packets in
+      sym (le-ltb (length rows * 6 + taken marks rows * 104 + 1600) (packets * (length rows - (taken marks rows * 40 + 40))) (omega (arith, product)))

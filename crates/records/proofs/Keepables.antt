@@ -95,6 +95,38 @@ module _ {c : Call} where
   chip_small (change k a b d e) = a
   chip_small (read k a b d e) = a
 
+  pub link_small : Kept c → c.link < 256
+  link_small (injection k a b d e) = omega arith
+  link_small (round k a b d e) = omega arith
+  link_small (change k a b d e) = b
+  link_small (read k a b d e) = omega arith
+
+  pub up_small : Kept c → c.up ≤ 1
+  up_small (injection k a b d e) = omega arith
+  up_small (round k a b d e) = omega arith
+  up_small (change k a b d e) = d
+  up_small (read k a b d e) = omega arith
+
+  pub length_small : Kept c → c.length ≤ 9
+  length_small (injection k a b d (inl e)) = omega arith
+  length_small (injection k a b d (inr e)) = omega arith
+  length_small (round k a b d e) = omega arith
+  length_small (change k a b d e) = omega arith
+  length_small (read k a b d e) = omega arith
+
+  pub injection_length : Kept c → c.kind ≡ 1 → (c.length ≡ 9 → ⊥) → c.length ≡ 5
+  injection_length (injection k a b d (inl e)) f other = e
+  injection_length (injection k a b d (inr e)) f other = absurd (other e)
+  injection_length (round k a b d e) f other = absurd (omega arith)
+  injection_length (change k a b d e) f other = absurd (omega arith)
+  injection_length (read k a b d e) f other = absurd (omega arith)
+
+  pub read_kind : Kept c → (c.kind ≡ 1 → ⊥) → (c.kind ≡ 2 → ⊥) → (c.kind ≡ 3 → ⊥) → c.kind ≡ 4
+  read_kind (injection k a b d e) x y z = absurd (x k)
+  read_kind (round k a b d e) x y z = absurd (y k)
+  read_kind (change k a b d e) x y z = absurd (z k)
+  read_kind (read k a b d e) x y z = k
+
 -- ---- the record
 
 -- a list of nine is its nine elements

@@ -5,7 +5,7 @@ use mathlib.Core.List.{List}
 use Prim.Native.Nat.{ℕ, ◌+◌, ◌≤◌}
 use lib.Dec.{eqb, ltb, lit≤}
 use lib.ListN.{length, get_or}
-use borrow.Author.Tests.{eq-eqb, ltb-false, eqb-true, not-false}
+use borrow.Author.Tests.{eq-eqb, ne_eqb, ltb-false, eqb-true, not-false}
 use Rattle.packet.specs.Refusal.{first_of}
 use Rattle.packet.proofs.First.{not_refused}
 use Rattle.lists.proofs.Bools.{neither}
@@ -33,6 +33,9 @@ module _ (s : List ℕ) where
   answer b =
       cond b (record { refusal = 0; length = 2 + body_length s; call = call_at s })
       (record { refusal = first_of (read_refusals s); length = 0; call = call_of 0 0 0 0 })
+
+  pub read_refused : (r : ℕ) (c : Call) → r ≡ first_of (read_refusals s) → (r ≡ 0 → ⊥) → c ≡ call_of 0 0 0 0 → record { refusal = r; length = 0; call = c } ≡ record_read s
+  read_refused r c e some f = (λ i. record { refusal = e i; length = 0; call = f i }) ∙ sym (ap answer (ne_eqb _ 0 (λ z. some (e ∙ z))))
 
   pub read_found : (n : ℕ) (c : Call) → first_of (read_refusals s) ≡ 0 → n ≡ body_length s → c ≡ call_at s → record { refusal = 0; length = 2 + n; call = c } ≡ record_read s
   read_found n c none e f = (λ i. record { refusal = 0; length = 2 + e i; call = f i }) ∙ sym (ap answer (eq-eqb _ 0 none))

@@ -12,8 +12,10 @@ use borrow.Author.Tests.{leb-true, eqb-true, eq-eqb, ne_eqb, not-false}
 use Rattle.packet.specs.declared.Packet.{Packet}
 use Rattle.packet.specs.declared.refused.Refused.{Refused}
 use Rattle.packet.specs.Refused.{number_of, told}
-use Rattle.packet.specs.Bytes.{Taken, packet_at, not_taken, as_taken}
+use Rattle.packet.specs.Bytes.{Taken, packet_at, not_taken, as_taken, control_at, taken_of}
+use Rattle.packet.specs.Control.{is_direct}
 use Rattle.packet.specs.Refusal.{first_of, packet_refusals}
+use Rattle.packet.proofs.Refusals.{packet_first, take_refused}
 use Rattle.packet.proofs.Numbers.{told_some}
 use Rattle.packet.proofs.First.{first_append, not_refused}
 use Rattle.tables.specs.Accept.{few_rows, codes_fine, all_codes}
@@ -80,6 +82,26 @@ module _ (bytes : List ℕ) (source : ℕ) (tables : ChipTables) (t : Setting) (
   pub refused_setting : (n : ℕ) → first_of (setting_refusals source tables t room) ≡ n → (n ≡ 0 → ⊥) → checked_of bytes source tables t room ≡ not_taken n
   unfolding checked_of found
   refused_setting n e some = ap found (before_packet n e (ne_eqb n 0 some)) ∙ simp (ne_eqb n 0 some)
+
+  module _ (fine-setting : first_of (setting_refusals source tables t room) ≡ 0) where
+    by_packet : checked_of bytes source tables t room ≡ found (cond (eqb (taken_of bytes).refusal 0) (cond (is_direct (control_at bytes)) 4 0) (taken_of bytes).refusal)
+    unfolding checked_of found
+    by_packet =
+        let first : first_of (pass_refusals bytes source tables t room) ≡ first_of (packet_refusals bytes) =
+        first_append (setting_refusals source tables t room) (packet_refusals bytes) refl ∙ simp fine-setting in
+        ap found (first ∙ packet_first bytes)
+
+    pub refused_packet : ((taken_of bytes).refusal ≡ 0 → ⊥) → checked_of bytes source tables t room ≡ taken_of bytes
+    unfolding found
+    refused_packet some = by_packet ∙ simp (ne_eqb _ _ some) (sym (take_refused bytes some))
+
+    pub refused_direct : (taken_of bytes).refusal ≡ 0 → is_direct (control_at bytes) ≡ true → checked_of bytes source tables t room ≡ not_taken 4
+    unfolding found
+    refused_direct e d = by_packet ∙ simp (eq-eqb _ _ e, d)
+
+    pub accepted : (taken_of bytes).refusal ≡ 0 → is_direct (control_at bytes) ≡ false → checked_of bytes source tables t room ≡ record { refusal = 0; packet = packet_at bytes }
+    unfolding found
+    accepted e d = by_packet ∙ simp (eq-eqb _ _ e, d)
 
   -- where the first refusal is told, and else the packet in the bytes is taken
   pub told_checked : (r : Result Packet Refused) → told r ≡ first_of (pass_refusals bytes source tables t room) → IfOk r (λ p. p ≡ packet_at bytes)

@@ -1,10 +1,31 @@
--- A table in row structs and the numbers that it has: how many rows, a row's route, and what a search through the structs finds.
-use Rattle.std.proofs.Common.{◌≡◌, refl, sym, ap, ◌∙◌, ℕ, zero, suc, ◌+◌, Bool, true, false, cond, arith, List, [], ◌∷◌, length, get_or, position, Option, Some}
+-- A table in row structs and the numbers that it has: how many, where a row's key and mask stand among them, how many rows, a row's route, and what a search through the structs finds.
+use Rattle.std.proofs.Common.{◌≡◌, refl, sym, ap, ◌∙◌, ℕ, zero, suc, ◌+◌, ◌*◌, Bool, true, false, cond, arith, List, [], ◌∷◌, length, get_or, position, Option, Some}
 use Rattle.std.specs.List.{position_from}
 use Rattle.std.proofs.lemmas.Iterator.Adapters.{position_from-zero}
 use Rattle.tables.specs.declared.Row.{Row}
 use Rattle.tables.specs.Rows.{matches, rows_of, numbers_of, next, later, first_match, route_at, blank_row}
 use Rattle.tables.proofs.RowByRow.{later_zero, later_next}
+
+pub length_numbers : (rows : List Row) → length (numbers_of rows) ≡ length rows * 3
+unfolding numbers_of
+length_numbers [] = refl
+length_numbers (r ∷ rows) = omega (arith, length_numbers rows)
+
+pub key_at : (rows : List Row) (i : ℕ) → get_or (numbers_of rows) (i * 3) 0 ≡ (get_or rows i blank_row).key
+unfolding numbers_of
+key_at [] i = refl
+key_at (r ∷ rows) zero = refl
+key_at (r ∷ rows) (suc i) =
+    let three : suc i * 3 ≡ suc (suc (suc (i * 3))) = omega arith in
+    ap (λ (j : ℕ). get_or (numbers_of (r ∷ rows)) j 0) three ∙ key_at rows i
+
+pub mask_at : (rows : List Row) (i : ℕ) → get_or (numbers_of rows) (i * 3 + 1) 0 ≡ (get_or rows i blank_row).mask
+unfolding numbers_of
+mask_at [] i = refl
+mask_at (r ∷ rows) zero = refl
+mask_at (r ∷ rows) (suc i) =
+    let three : suc i * 3 + 1 ≡ suc (suc (suc (i * 3 + 1))) = omega arith in
+    ap (λ (j : ℕ). get_or (numbers_of (r ∷ rows)) j 0) three ∙ mask_at rows i
 
 pub length_rows : (rows : List Row) → length (rows_of (numbers_of rows)) ≡ length rows
 unfolding rows_of numbers_of

@@ -54,6 +54,21 @@ module _ (s : List ℕ) (i : ℕ) where
   pub routes_last : (all : Bool) (joined : ℕ) → length s / 3 ≤ i → all ≡ (ltb joined 67108864 && all_routes (rows_of (drop (i * 3) s))) → all ≡ ltb joined 67108864
   routes_last all joined h e = e ∙ ap (λ (r : Bool). ltb joined 67108864 && r) (routes_end h) ∙ and-true (ltb joined 67108864)
 
+  fixed_step : i < length s → all_fixed (drop i s) ≡ (ltb (get_or s i 0) 67108864 && all_fixed (drop (i + 1) s))
+  unfolding all_fixed
+  fixed_step h = ap all_fixed (drop-cons s i 0 h) ∙ simp add-one
+
+  fixed_end : length s ≤ i → all_fixed (drop i s) ≡ true
+  unfolding all_fixed
+  fixed_end h = ap all_fixed (drop_of_length-le s h)
+
+  pub fixed_joined : (all : Bool) (joined : ℕ) → i < length s → all ≡ (ltb joined 67108864 && all_fixed (drop i s))
+      → all ≡ (ltb (bit_or joined (get_or s i 0)) 67108864 && all_fixed (drop (i + 1) s))
+  fixed_joined all joined h e = or_on 26 joined (get_or s i 0) all _ (e ∙ ap (λ (r : Bool). ltb joined 67108864 && r) (fixed_step h))
+
+  pub fixed_last : (all : Bool) (joined : ℕ) → length s ≤ i → all ≡ (ltb joined 67108864 && all_fixed (drop i s)) → all ≡ ltb joined 67108864
+  fixed_last all joined h e = e ∙ ap (λ (r : Bool). ltb joined 67108864 && r) (fixed_end h) ∙ and-true (ltb joined 67108864)
+
 -- all fixed routes joined
 pub fixed_folded : (joined : ℕ) (s : List ℕ) → ltb (fold bit_or joined s) 67108864 ≡ (ltb joined 67108864 && all_fixed s)
 unfolding all_fixed

@@ -18,6 +18,11 @@ module _ {width height : ℕ} (fine : size_fine width height ≡ true) where
 
   -- one link on
   module _ {x y eastward northward : ℕ} (i : ℕ) (at : Stands width height x y) (east : eastward ≡ (x + step_east width i) % width) (north : northward ≡ (y + step_north height i) % height) where
+    pub stands_next : Stands width height eastward northward
+    stands_next =
+        let s = size width height fine in
+        record { east_low = rw east (mod-lt _ s.width_low); north_low = rw north (mod-lt _ s.height_low) }
+
     pub leads_across : {chip next : ℕ} → chip ≡ y * width + x → next ≡ northward * width + eastward → next ≡ across width height chip i
     leads_across {chip} here there =
         let x_of : chip % width ≡ x = ap (λ (c : ℕ). c % width) here ∙ digits_mod y at.east_low in

@@ -1,7 +1,7 @@
 -- The targets of a list of words, cut off it one after the other, and the marks of the chips that were named.
 use Prim.Native.Nat.{ℕ, ◌≤◌, ◌<◌, min}
 use mathlib.Core.Path.{◌≡◌, refl, sym, ap, ◌∙◌}
-use mathlib.Core.Bool.{Bool, true, false, ◌&&◌, ◌||◌, and-eq-true_iff}
+use mathlib.Core.Bool.{Bool, true, false, cond, ◌&&◌, ◌||◌, and-eq-true_iff}
 use mathlib.Core.List.{List, [], ◌∷◌, ◌++◌}
 use native.Mathlib.Omega.{arith}
 use native.Mathlib.Decide.{ℕ_discrete}
@@ -154,6 +154,15 @@ module _ {pair : ℕ} (words target after : List ℕ) (two : pair ≡ 2) (cut : 
 pub again_end : (named : List Bool) (words : List ℕ) → length words ≡ 0 → marked_again named (targets_of words) ≡ false
 unfolding marked_again
 again_end named words e = ap (marked_again named) (no_target words e)
+
+-- a number that is 1 or 0 by a test
+pub one_is : (b : Bool) → cond {A = ℕ} b 1 0 ≡ 1 → b ≡ true
+one_is true e = refl
+one_is false e = absurd (omega arith)
+
+pub one_is_not : (b : Bool) → (cond {A = ℕ} b 1 0 ≡ 1 → ⊥) → b ≡ false
+one_is_not true e = absurd (e refl)
+one_is_not false e = refl
 
 -- chips below a number are below a larger one
 pub there_more : (a b : ℕ) (ts : List Target) → a ≤ b → all_there a ts ≡ true → all_there b ts ≡ true
