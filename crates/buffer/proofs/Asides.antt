@@ -1,6 +1,5 @@
 -- A link whose packets were set aside: it holds none, and what is set aside is what it held.
-use Rattle.std.proofs.Common.{◌≡◌, ℕ, zero, suc, ◌+◌, ◌*◌, ◌<◌, ◌≤◌, eqb, List, [], ◌∷◌, ◌++◌, length, get_or, take, drop, set, refl, sym, ap, ◌∙◌, arith, length-drop, length-set, length-take-le, get_or-set_other, get_or-take, get_or-set_same, drop-set-lt, drop_at, drop-drop, take-take, append_assoc}
-use Rattle.std.proofs.lemmas.List.{drop-take}
+use Rattle.std.proofs.Common.{◌≡◌, ℕ, zero, suc, ◌+◌, ◌*◌, ◌<◌, ◌≤◌, eqb, List, [], ◌∷◌, ◌++◌, length, get_or, take, drop, set, refl, ap, ◌∙◌, arith, length-drop, length-set, length-take-le, get_or-set_other, get_or-take, get_or-set_same, drop-set-lt, drop_at}
 use lib.ListN.{get_or-append}
 use lib.Seq.{paste, length-paste, length_paste_head, drop-append-le}
 use Rattle.links.specs.Offsets.{state_at, held_at, places_at, place_long, depth, aside_at, aside_places_at, link_long}
@@ -32,15 +31,6 @@ module _ (w : List ℕ) (n : ℕ) (long : length w ≡ link_long) (few : n ≤ d
       let both : length (take aside_places_at w ++ take n (drop places_at w)) ≡ aside_places_at + n = length_paste_head w aside_places_at (drop places_at w) n (omega arith) behind in
       drop-append-le aside_places_at (take aside_places_at w ++ take n (drop places_at w)) (drop (aside_places_at + n) w) (omega (arith, both))
       ∙ ap (λ (l : List ℕ). l ++ drop (aside_places_at + n) w) (drop_at (take aside_places_at w) (take n (drop places_at w)) aside_places_at first)
-
-  -- the copy by its two parts: the packets' words are those of the first, and the second gets them at its start
-  pub copied_from : take n (drop places_at (take aside_places_at w)) ≡ take n (drop places_at w)
-  copied_from = ap (take n) (drop-take places_at 25 w) ∙ take-take n 25 (drop places_at w) (omega arith)
-
-  pub copied_apart : take aside_places_at w ++ (take n (drop places_at w) ++ drop n (drop aside_places_at w)) ≡ paste w aside_places_at (drop places_at w) n
-  copied_apart =
-      ap (λ (l : List ℕ). take aside_places_at w ++ (take n (drop places_at w) ++ l)) (drop-drop n aside_places_at w)
-      ∙ sym (append_assoc (take aside_places_at w) (take n (drop places_at w)) (drop (aside_places_at + n) w))
 
 -- the packets in n places are read from their words alone
 places_front : (n : ℕ) (l rest : List ℕ) → n * place_long ≤ length l → places_in n (take (n * place_long) l ++ rest) ≡ places_in n l
