@@ -5,3 +5,5 @@ pub mod course;
 pub mod placing;
 pub mod records;
 pub mod telling;
+#[cfg(test)]
+mod tests;

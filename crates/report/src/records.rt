@@ -1,15 +1,18 @@
 // A trace, record by record: it is read in pieces, and one record is kept.
+ghost use Rattle.std.specs.Prelude.{◌≡◌};
+
 use script::cells::{between, put};
 use script::pieces::Bytes;
 use std::fs::File;
 use std::io;
+use std::io::Read;
 
 // Two bytes of length, and as many behind them as they can say.
 pub const RECORD: usize = 65537;
 
-#[derive(Clone, Copy)]
-pub struct Records<'a> {
-    bytes: Bytes<'a>,
+#[derive(Clone, Copy, Drop)]
+pub struct Records<F = File> {
+    bytes: Bytes<F>,
     record: [u8; RECORD],
     // Where the record starts, and how many bytes of it are there.
     at: u64,
@@ -23,8 +26,13 @@ pub struct Record<'a> {
     pub bytes: &'a [u8],
 }
 
-impl<'a> Records<'a> {
-    pub fn of(file: &'a File) -> Self {
+impl<F: Read> Records<F> {
+    // Before the first record.
+    pub fn of(file: F) -> Self
+        ensures whole { result.bytes.file ≡ file }
+        ensures unread { (result.bytes.at ≡ 0) × (result.bytes.end ≡ 0) }
+        ensures first { (result.at ≡ 0) × (result.length ≡ 0) }
+    {
         Records {
             bytes: Bytes::of(file),
             record: [0; RECORD],

@@ -1,15 +1,18 @@
 // A file, line by line: of a line the first 4,096 bytes are kept.
+ghost use Rattle.std.specs.Prelude.{◌≡◌};
+
 use super::cells::between;
 use super::files::{fail, open_read};
 use super::pieces::Bytes;
 use std::fs::File;
 use std::io;
+use std::io::Read;
 
 pub const LINE: usize = 4096;
 
-#[derive(Clone, Copy)]
-pub struct Lines<'a> {
-    bytes: Bytes<'a>,
+#[derive(Clone, Copy, Drop)]
+pub struct Lines<F = File> {
+    bytes: Bytes<F>,
     line: [u8; LINE],
     // The line's number, how many bytes of it are kept, and whether it has more.
     number: u64,
@@ -25,8 +28,13 @@ pub struct Line<'a> {
     pub long: bool,
 }
 
-impl<'a> Lines<'a> {
-    pub fn of(file: &'a File) -> Self {
+impl<F: Read> Lines<F> {
+    // Before the first line.
+    pub fn of(file: F) -> Self
+        ensures whole { result.bytes.file ≡ file }
+        ensures unread { (result.bytes.at ≡ 0) × (result.bytes.end ≡ 0) }
+        ensures first { (result.number ≡ 0) × (result.length ≡ 0) }
+    {
         Lines {
             bytes: Bytes::of(file),
             line: [0; LINE],

@@ -2,6 +2,7 @@
 use super::storing::Sheet;
 use script::files::open_read;
 use script::pieces::Bytes;
+use std::fs::File;
 use std::io;
 use tables::Row;
 
@@ -55,7 +56,7 @@ pub fn read_rows(
 }
 
 // The next row: none at the file's end.
-fn next_row(bytes: &mut Bytes<'_>) -> Result<Option<Row>, RowsFault> {
+fn next_row(bytes: &mut Bytes<&File>) -> Result<Option<Row>, RowsFault> {
     let mut words = [0u32; 4];
     for n in 0..16 {
         match bytes.next_byte()? {

@@ -1,6 +1,6 @@
 // The tables as they are read: the rows of chip c from row 1,024 * c on, with a count for each chip. Then they are moved
 // together, and the counts become starts. Where one chip is read alone, its rows stand from row 0 on, however many there are.
-ghost use Rattle.std.specs.Prelude.{◌≤◌};
+ghost use Rattle.std.specs.Prelude.{◌≡◌, ◌≤◌, replicate};
 
 use super::board::{CHIPS, CODES, DEEP, DEEP_WORDS, ROWS, STARTS};
 use script::board::Board;
@@ -26,6 +26,24 @@ pub struct Sheet {
 }
 
 impl Sheet {
+    // No row, no code that leads anywhere, and no chip yet. What this answers may stand on the stack more than once.
+    pub fn empty() -> Sheet
+        ensures rows { (result.rows ≡ replicate 442368 0) × (result.starts ≡ replicate 145 0) }
+        ensures codes { (result.codes ≡ replicate 20736 6) × (result.fixed ≡ replicate 144 0) }
+        ensures lent { (result.chips ≡ 0) × (result.pairs ≡ 0) }
+        ensures together { result.alone ≡ None }
+    {
+        Sheet {
+            rows: [0; ROWS],
+            starts: [0; STARTS],
+            codes: [NOWHERE; CODES],
+            fixed: [0; CHIPS],
+            chips: 0,
+            pairs: 0,
+            alone: None,
+        }
+    }
+
     // Begins to keep the rows of one chip alone.
     pub fn begin_alone(&mut self, chip: u32) {
         self.starts.fill(0);
